@@ -3,11 +3,14 @@
 import hashlib
 import os
 import shutil
+import subprocess
 
 TOP = os.path.dirname(os.path.dirname(os.path.realpath(__file__)))
 RT = shutil.which("rt") or "/opt/rattle/bin/rt"
 KIT = os.path.dirname(os.path.dirname(os.path.realpath(RT)))
 RATTLE = os.path.join(KIT, "bin", "rattle")
+# The processor seconds that each crate took when last measured, and where a build notes what it measures.
+SECONDS = os.path.join(TOP, "tools", "seconds")
 PARTS = ("src", "specs", "proofs")
 SOURCES = (".rt", ".antt")
 
@@ -41,6 +44,13 @@ def sources_of(crate):
     return sorted(it for it in found if not os.path.basename(it).startswith("."))
 
 
+def link(made, program):
+    """Links a program from its object file, with the C code that the toolchain has for it. Returns the linker's end."""
+    words = ["--target", "x86_64-unknown-linux-gnu", "--toolchain", f"{KIT}/toolchain", "-o", program, made]
+    libraries = [f"{KIT}/c/libos_c.a", f"{KIT}/c/liblibc_c.a"]
+    return subprocess.run([f"{KIT}/bin/rattle-link", *words, *libraries], capture_output=True, text=True, errors="replace", check=False)
+
+
 def newest_source(crate):
     """When a source of the crate was last saved, or a file was made, renamed or removed beside one."""
     sources = sources_of(crate)
@@ -56,6 +66,29 @@ def write_note(crate, digest, at):
     with open(note_of(crate), "w", encoding="ascii") as note:
         note.write(digest)
     os.utime(note_of(crate), (at, at))
+
+
+def measured_seconds(crate):
+    """The processor seconds that the crate's last build from nothing took on this machine, or None."""
+    note = os.path.join(folder_of(crate), "out", "seconds")
+    if not os.path.isfile(note):
+        return None
+    with open(note, encoding="ascii") as file:
+        return float(file.read())
+
+
+def note_seconds(crate, seconds):
+    with open(os.path.join(folder_of(crate), "out", "seconds"), "w", encoding="ascii") as note:
+        note.write(f"{seconds:.1f}")
+
+
+def expected_seconds():
+    """The processor seconds that each crate's build from nothing is expected to take, by tools/seconds."""
+    if not os.path.isfile(SECONDS):
+        return {}
+    with open(SECONDS, encoding="ascii") as table:
+        rows = [line.split() for line in table]
+    return {crate: float(seconds) for crate, seconds in rows}
 
 
 class Crates:
@@ -85,6 +118,11 @@ class Crates:
                 source = file.read()
             digest.update(f"\n{os.path.relpath(path, folder_of(crate))} {len(source)}\n".encode() + source)
         return digest.hexdigest()
+
+    def whole_digest(self, crate):
+        """A digest of all that the crate is made of, the libraries below it included."""
+        digests = [f"{it} {self.digest(it)}\n" for it in sorted([*self.below(crate), crate])]
+        return hashlib.sha256("".join(digests).encode()).hexdigest()
 
     def is_made(self, crate):
         """Whether the crate was made of its sources as they are. Where rt made it, which notes no digest, the times tell."""

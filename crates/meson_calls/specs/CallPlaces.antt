@@ -1,4 +1,4 @@
--- The list of the array or call at a place, and that a call which is found stands at its place.
+-- The list of the array or call at a place, and that a call which is found is at its place.
 use Rattle.std.specs.Prelude.{◌≡◌, ℕ, List, Option, Some, Ok, option_map, option_and_then}
 use Rattle.meson_lex.specs.declared.kinds.Span.{Span}
 use Rattle.meson_splice.specs.declared.file_set.File.{File}
@@ -29,7 +29,7 @@ pub record CallThere (p : Project Span) (c : Placed (Call Span)) : Type 0 where
   pub is_list : there.list.list ≡ c.it.arguments
   pub is_round : there.list.bracket ≡ bracket.Round
 
--- the call at a place of trees, as they are read in files
+-- the call at a place of trees, as they are parsed from files
 pub record CallIn (trees : List Parsed) (place : CallRef) : Type 0 where
   pub files : List File
   pub parsed : AreParsed files trees

@@ -1,5 +1,5 @@
 -- The calls of a project, and what a call says: its function, its arguments without a name and those with one.
--- Meson manual, Syntax, "Function calls" and "Method calls": a method call is no call of a function.
+-- Meson manual, Syntax, "Function calls" and "Method calls": a method call is not a call of a function.
 use Rattle.std.specs.Prelude.{ℕ, ◌+◌, Bool, false, List, [], ◌∷◌, if◌then◌else◌, bytes_eq, Option, Some, None, option_map, option_and_then}
 use Rattle.std.specs.List.{filter_map}
 use Rattle.meson_lex.specs.Literals.{value}
@@ -21,7 +21,7 @@ abbrev pub part_call : {S : Type 0} → Part S → Option (Call S)
 part_call (an_expression e) = call_of e
 part_call (a_statement s) = None
 
--- what a test of parts gives of them, each with its place
+-- what a test of parts gives for them, each with its place
 abbrev pub chosen : {X Y : Type 0} → (X → Option Y) → Placed X → Option (Placed Y)
 chosen choose x = option_map (placed x.place) (choose x.it)
 
@@ -61,7 +61,7 @@ value_with_name key (pair s e f) = None
 abbrev pub kept_number : {X Y : Type 0} → (X → Option Y) → Numbered X → Option (Numbered Y)
 kept_number choose x = option_map (λ y. record { number = x.number; value = y }) (choose x.value)
 
--- the arguments without a name; the values of those of a name
+-- the arguments without a name; the values of the arguments of a name
 abbrev pub positional : {S : Type 0} → Call S → List (Numbered (Expression S))
 positional c = filter_map (kept_number value_without_name) (numbered_arguments c.arguments)
 
@@ -78,7 +78,7 @@ first_argument c = option_map (λ a. a.value) (first_of (positional c))
 
 -- ---- literals
 
--- the text that a string stands for, if it is a literal: Meson manual, Syntax, "Strings"
+-- the text that a string means, if it is a literal: Meson manual, Syntax, "Strings"
 abbrev pub literal_of : {S : Type 0} → Expression S → Option (List ℕ)
 literal_of (string s q x) = value (string_kind q) x
 literal_of _ = None

@@ -1,4 +1,4 @@
--- Notes that are picked out.
+-- Notes that are selected.
 use Rattle.std.specs.Prelude.{ℕ, Bool, false, ◌&&◌, List, [], map, filter, if◌then◌else◌, bytes_eq, Option, Some, None}
 use Rattle.std.specs.List.{filter_map}
 use Rattle.meson_lex.specs.declared.kinds.Span.{Span}
@@ -21,7 +21,7 @@ Source = List ℕ
 abbrev pub call_with : {S : Type 0} → List ℕ → Listing S → Call S
 call_with f l = record { function = f; arguments = l }
 
--- the call at a place, of a function and of the arguments that the code's list stands for
+-- the call at a place, of a function and of the arguments of the code's list
 abbrev pub placed_call : CallRef → Source → Source → code.List → Placed (Call Span)
 placed_call place function source l = placed place (call_with function (list_view source l))
 

@@ -1,5 +1,5 @@
 -- Names of build files, and the file that a call of `subdir` means. Meson manual, Reference manual, `subdir`: it enters the build file of a folder
--- below that of the file in which it stands.
+-- below that of the file that it is in.
 use Rattle.std.specs.Prelude.{◌≡◌, ◌⊎◌, ℕ, ◌==◌, nat_lt, Bool, true, not, ◌||◌, ◌&&◌, List, [], ◌∷◌, ◌++◌, if◌then◌else◌, bytes_eq, codes, Option, Some, None}
 use Rattle.std.specs.List.{list_any}
 
@@ -35,7 +35,7 @@ IsFileName name = (name ≡ build_file) ⊎ ((folder : List ℕ) × (name ≡ in
 
 -- ---- the file that a `subdir` of this folder means in the file of this name
 
--- the parts of a name but the last, each with the slash behind it
+-- the parts of a name but the last, each with the slash after it
 abbrev pub folder_parts : List (List ℕ) → List ℕ
 folder_parts [] = []
 folder_parts (x ∷ []) = []

@@ -1,4 +1,4 @@
--- The keyword arguments that commands change, by what the call is one of. Meson manual, Reference manual: `project`, `dependency`, `executable`.
+-- The keyword arguments that commands change, depending on the kind of call. Meson manual, Reference manual: `project`, `dependency`, `executable`.
 use Rattle.std.specs.Prelude.{ℕ, Bool, ◌||◌, List, [], ◌∷◌, codes, Option, Some, None}
 use Rattle.meson_syntax.specs.Tree.{Expression, identifier}
 use Rattle.meson_calls.specs.declared.call.Role.{Role}
@@ -33,7 +33,7 @@ identifier_list_keys role.Target = codes "dependencies" ∷ codes "link_with" �
 abbrev pub is_key : Role → List ℕ → Bool
 is_key r key = one_of (text_keys r) key || (one_of (switch_keys r) key || (one_of (text_list_keys r) key || one_of (identifier_list_keys r) key))
 
--- the name of a variable, as it stands in a list of such
+-- the name of a variable, as it is written in a list of variables
 abbrev pub name_of : {S : Type 0} → Expression S → Option (List ℕ)
 name_of (identifier s x) = Some x
 name_of _ = None

@@ -27,7 +27,7 @@ pub record Loaded : Type 0 where
 abbrev pub loaded_from : List File → List Parsed → Loaded
 loaded_from files parsed = record { files = files; parsed = parsed }
 
--- the trees that these stand for over the files
+-- the trees of these values over the files
 abbrev pub views : List File → List Parsed → List (tree.File Span)
 views (f ∷ files) (t ∷ parsed) = view f.bytes t ∷ views files parsed
 views _ _ = []
@@ -43,7 +43,7 @@ named_trees _ _ = []
 abbrev pub project : Loaded → Project Span
 project l = named_trees l.files (trees l)
 
--- each file reads as the tree that its value stands for
+-- each file parses as the tree of its value
 abbrev pub AreParsed : List File → List Parsed → Type 0
 AreParsed [] [] = Unit {0}
 AreParsed (f ∷ files) (t ∷ parsed) = IsSpanned f.bytes (view f.bytes t) × AreParsed files parsed
@@ -57,7 +57,7 @@ pub record IsProject (l : Loaded) : Type 0 where
   pub named : All HasFileName l.files
   pub parsed : AreParsed l.files l.parsed
 
--- ---- files that are none, for the first of the faults
+-- ---- files that are not valid, for the first of the faults
 
 abbrev pub name_of_file : ℕ → List File → List ℕ
 name_of_file i [] = []
@@ -80,7 +80,7 @@ pub record IsFirstUnread (files : List File) (i : ℕ) (fault : ParseFault) : Ty
   pub why : MayNotRead (bytes_at i files) fault
   pub told : fault ≢ parse.OutOfMemory
 
--- Which faults files may get: the first in order that holds; of a file without a tree one that its bytes may get.
+-- Which faults files may get: the first in order that holds. A file without a tree gets one that its bytes may get.
 abbrev pub MayNotLoad : List File → LoadFault → Type 0
 MayNotLoad files TooManyFiles = max_files < length files
 MayNotLoad files (BadFileName i) = (length files ≤ max_files) × IsFirstBadName files i

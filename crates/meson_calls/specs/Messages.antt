@@ -1,4 +1,4 @@
--- What is told of files that are no project, and of a command that is refused.
+-- What is reported of files that are not a project, and of a command that is refused.
 use Rattle.std.specs.Prelude.{ℕ, List, [], ◌++◌, codes, decimal}
 use Rattle.meson_syntax.specs.Messages.{parse_fault_text}
 use Rattle.meson_calls.specs.declared.load_fault.LoadFault.{LoadFault}
@@ -34,7 +34,7 @@ refusal_words refusal.TooDeep = codes "C17 too deep"
 refusal_words refusal.TooLarge = codes "C18 too large"
 refusal_words refusal.OutOfMemory = codes "out of memory"
 
--- the name that is told behind the words
+-- the name that is printed after the words
 abbrev pub refusal_name : Refusal → List ℕ
 refusal_name (refusal.DuplicateKeyword name) = name
 refusal_name (refusal.NotLiteral name) = name

@@ -1,4 +1,4 @@
--- Arguments of a call as the code has them: those that a test keeps, the first of a name, and what is refused where a name is there twice.
+-- Arguments of a call as the code has them: those that a test keeps, and the first of a name. What is refused if a name is there twice.
 use Rattle.std.specs.Prelude.{◌≡◌, ◌+◌, ℕ, List, ◌∷◌, Some, [], codes, Result, Ok, Err, Option}
 use Rattle.meson_lex.specs.declared.kinds.Span.{Span}
 use Rattle.meson_syntax.specs.declared.tree.Arg.{Arg}
@@ -36,7 +36,7 @@ abbrev pub rest : {X : Type 0} → List X → List X
 rest [] = []
 rest (x ∷ xs) = xs
 
--- the number behind the first one's, of so many of which each has its number
+-- the number after the first one's; `all`, the number of arguments, if the list is empty
 abbrev pub number_behind : {X : Type 0} → ℕ → List (Numbered X) → ℕ
 number_behind all [] = all
 number_behind all (x ∷ xs) = x.number + 1
@@ -47,7 +47,7 @@ once key [] y = Ok y
 once key (x ∷ []) y = Ok y
 once key (x ∷ z ∷ more) y = Err (DuplicateKeyword key)
 
--- an edit of keyword arguments wants none that are hidden in `kwargs:`
+-- an edit of keyword arguments requires that none are hidden in `kwargs:`
 abbrev pub not_hidden : {X : Type 0} → List X → Result (Unit {0}) Refusal
 not_hidden [] = Ok tt
 not_hidden (x ∷ more) = Err HiddenKeywords

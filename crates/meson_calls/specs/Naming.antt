@@ -1,5 +1,5 @@
--- The calls that an id names. Meson manual, Rewriter: a target, a dependency or the project is named by its name; a target or a dependency by its
--- variable too; the project by `/` or `//`.
+-- The calls that an id names. Meson manual, Rewriter: a target, a dependency or the project is named by its name. A target or a dependency is named by its
+-- variable too, and the project by `/` or `//`.
 use Rattle.std.specs.Prelude.{ℕ, List, [], ◌∷◌, map, if◌then◌else◌, bytes_eq, codes, Option, Some, None}
 use Rattle.meson_syntax.specs.declared.operator.Assignment.TheVariants as assignment
 use Rattle.meson_syntax.specs.Tree.{Expression, Statement, assign}
@@ -19,7 +19,7 @@ abbrev pub part_set_to : {S : Type 0} → List ℕ → Part S → Option (Expres
 part_set_to x (an_expression e) = None
 part_set_to x (a_statement s) = set_to x s
 
--- the value stands at the first child of its assignment
+-- the value is at the first child of its assignment
 abbrev pub value_of_assignment : {X : Type 0} → Placed X → Placed X
 value_of_assignment x = placed (child x.place 0) x.it
 
@@ -33,7 +33,7 @@ or_else (x ∷ xs) ys = x ∷ xs
 abbrev pub with_name : {S : Type 0} → List ℕ → Call S → Option (Call S)
 with_name id c = if is id (first_literal c) then Some c else None
 
--- the calls of that name; if there is none, those that a variable of that name is set to
+-- the calls of that name; if no call has it, those that a variable of that name is set to
 abbrev pub named_or_assigned : {S : Type 0} → Project S → Role → List ℕ → List (Placed (Call S))
 named_or_assigned p r id = or_else (all_chosen (with_name id) (role_calls p r)) (all_chosen (with_role r) (all_chosen call_of (assigned_values p id)))
 

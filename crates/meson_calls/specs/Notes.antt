@@ -1,4 +1,4 @@
--- What all commands look at: the calls, assignments and loops of a project, with their places.
+-- What all commands read: the calls, assignments and loops of a project, with their places.
 use Rattle.std.specs.Prelude.{ℕ, Bool, true, false, List, map, slice_range, Option, Some, None, option_map}
 use Rattle.meson_lex.specs.declared.kinds.Span.{Span}
 use Rattle.meson_syntax.specs.declared.operator.Assignment.{Assignment}
@@ -42,7 +42,7 @@ noted ps = all_chosen note_of ps
 abbrev pub notes : {S : Type 0} → Project S → List (Placed (Note S))
 notes p = noted (parts p)
 
--- ---- what the code's notes stand for
+-- ---- what the code's notes mean
 
 abbrev pub what_view : List ℕ → What → Note Span
 what_view source (what.Call f l) = a_call (record { function = text_at source f; arguments = list_view source l.now })
@@ -55,7 +55,7 @@ note_view n = placed (place_at n.place) (what_view n.source.now n.what)
 abbrev pub note_views : List code.Note → List (Placed (Note Span))
 note_views ns = map note_view ns
 
--- while they are taken: the path of each is a range of the steps
+-- while they are gathered: the path of each is a range of the steps
 abbrev pub ranged_view : List ℕ → Ranged → Placed (Note Span)
 ranged_view steps r = placed (place r.file (slice_range steps r.from r.to)) (what_view r.source.now r.what)
 

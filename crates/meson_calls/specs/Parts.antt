@@ -1,4 +1,4 @@
--- The expressions and statements of a project, each with its place, in file order and source order: each stands before those within it.
+-- The expressions and statements of a project, each with its place, in file order and source order: each is before those within it.
 use Rattle.std.specs.Prelude.{ℕ, ◌+◌, List, [], ◌∷◌, ◌++◌}
 use Rattle.meson_syntax.specs.Tree.{Expression, identifier, boolean, integer, string, paren, array, dictionary, call, unary, row, postfix, conditional, Operands, no_operands, operand, Tail, method, index, Tails, no_tails, tail, Listing, listing, Argument, plain, named, pair, Arguments, no_arguments, argument, Statement, evaluate, assign, selection, iteration, breaks, continues, Branches, no_branches, branch, Otherwise, nothing_else, otherwise, Statements, no_statements, statement, Block, block, File, file}
 use Rattle.meson_calls.specs.declared.call.CallRef.{CallRef}
@@ -8,7 +8,7 @@ pub data Part (S : Type 0) : Type 0 where
   an_expression : Expression S → Part S
   a_statement : Statement S → Part S
 
--- ---- how many children stand in what has no place of its own
+-- ---- the number of children of what has no place of its own
 
 abbrev pub argument_child_count : {S : Type 0} → Argument S → ℕ
 argument_child_count (plain e) = 1

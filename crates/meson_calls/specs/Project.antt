@@ -1,4 +1,4 @@
--- A project: build files in order, each with its name and its tree; and the places of what stands in it.
+-- A project: build files in order, each with its name and its tree; and the places of what is in it.
 use Rattle.std.specs.Prelude.{ℕ, zero, suc, List, [], ◌∷◌, ◌++◌, Option, Some, None, option_and_then}
 use Rattle.meson_syntax.specs.Tree.{Expression, File}
 use Rattle.meson_syntax.specs.Paths as paths
@@ -17,11 +17,11 @@ Project S = List (BuildFile S)
 abbrev pub place : ℕ → List ℕ → CallRef
 place file path = record { file = file; path = record { steps = path } }
 
--- whose path stands elsewhere
+-- with a borrowed path
 abbrev pub place_at : BorrowedPlace → CallRef
 place_at p = place p.file p.path.now
 
--- of the n-th child of what stands there
+-- of the n-th child of what is there
 abbrev pub child : CallRef → ℕ → CallRef
 child p n = place p.file (p.path.steps ++ n ∷ [])
 
@@ -32,7 +32,7 @@ pub record Placed (X : Type 0) : Type 0 where
 abbrev pub placed : {X : Type 0} → CallRef → X → Placed X
 placed p x = record { place = p; it = x }
 
--- ---- what stands at a place
+-- ---- what is at a place
 
 abbrev pub nth_file : {S : Type 0} → Project S → ℕ → Option (BuildFile S)
 nth_file [] n = None

@@ -1,4 +1,4 @@
--- Notes by which the values of some variables are known: all of a file in which a call may set one, and of the others the setters alone. What is kept of files.
+-- Notes by which the values of some variables are known: all of a file in which a call may set one, only the setters of the others. What is kept of files.
 use Rattle.std.specs.Prelude.{◌≡◌, ℕ, ◌+◌, ◌<◌, Bool, true, false, ◌||◌, List, [], ◌∷◌, ◌++◌, length, get_or, bytes_eq, codes, if◌then◌else◌, Option, Some, None, IsTrue}
 use Rattle.std.specs.Borrow.{Bor}
 use Rattle.std.specs.List.{filter, filter_map, list_any}
@@ -36,7 +36,7 @@ notes_asked names all n bytes t =
     let own = noted (parts_of_file n (view bytes t)) in
     if all then own else setters_in names own
 
--- ---- calls by which variables are set: of `set_variable`, and of `subdir`, behind which another file may set them
+-- ---- calls by which variables are set: of `set_variable`, and of `subdir`, after which another file may set them
 
 abbrev pub sets_by_call : {S : Type 0} → Note S → Bool
 sets_by_call (a_call c) = calls_function (codes "subdir") c || calls_function (codes "set_variable") c
@@ -64,7 +64,7 @@ is_loop _ = false
 abbrev pub has_loop : List (Placed (Part Span)) → Bool
 has_loop ps = list_any (λ q. is_loop q.it) ps
 
--- The assignments among the parts: of each where the name of the variable stands, whether it is set, and the path of the value.
+-- The assignments among the parts: for each the place of the variable's name, whether it is set, and the path of the value.
 abbrev pub assignment_at : CallRef → Part Span → Option KeptAssignment
 assignment_at p (a_statement (assign s x a e)) = Some (record { name = x.place; sets = is_set a; value = (child p 0).path })
 assignment_at p _ = None
@@ -78,14 +78,14 @@ pub record AreAssignments (ps : List (Placed (Part Span))) (ks : List KeptAssign
   pub no_loop : has_loop ps ≡ false
   pub are : ks ≡ assignments_in ps
 
--- What is kept of a file that has these parts is so. Where it is not known, and where a call may set variables, nothing is said.
+-- What is kept of a file that has these parts is right. If it is not known, and if a call may set variables, nothing is said.
 abbrev pub IsKept : Kept → List (Placed (Part Span)) → Type 0
 IsKept entry.Unknown ps = Unit {0}
 IsKept entry.Calls ps = Unit {0}
 IsKept entry.Loops ps = any_sets_by_call (noted ps) ≡ false
 IsKept (entry.Assignments ks) ps = AreAssignments ps ks.items
 
--- What is kept of files is so. An entry that is not there is not known.
+-- What is kept of files is right. An entry that is not there is not known.
 abbrev pub AreKept : List Kept → List File → List Parsed → Type 0
 AreKept kept files trees = (i : ℕ) (d : Parsed) → IsKept (get_or kept i entry.Unknown) (parts_of_file i (view (bytes_at i files) (get_or trees i d)))
 
@@ -99,7 +99,7 @@ AllKnown kept files = (i : ℕ) → i < length files → IsTrue (is_known (get_o
 
 -- ---- notes of files
 
--- Notes begin with those of a file: with all of them, or with its setters, where no call in it sets a variable.
+-- Notes begin with those of a file: with all of them, or with its setters, if no call in it sets a variable.
 pub record BeginWithSetters (names : List (Bor (List ℕ))) (n : ℕ) (f : File) (t : Parsed)
     (Further : List (Placed (Note Span)) → Type 0) (ns : List (Placed (Note Span))) : Type 0 where
   pub all : Bool

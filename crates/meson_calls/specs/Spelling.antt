@@ -1,4 +1,4 @@
--- Words that stand in the bytes of files, and notes that lack the files in which none of some words stands.
+-- Words that occur in the bytes of files, and notes that lack the files in which none of some words occurs.
 use Rattle.std.specs.Prelude.{◌≡◌, ◌≢◌, ℕ, ◌+◌, List, [], ◌∷◌, ◌++◌, All, codes}
 use Rattle.meson_lex.specs.declared.kinds.Span.{Span}
 use Rattle.meson_splice.specs.declared.file_set.File.{File}
@@ -14,13 +14,13 @@ use Rattle.meson_calls.specs.Notes.{Note, noted}
 abbrev pub HasNone : List ℕ → List ℕ → Type 0
 HasNone word bytes = (s : Span) → text_at bytes s ≢ word
 
--- none of the words stands in the bytes
+-- none of the words occurs in the bytes
 abbrev pub HasNoneOf : List (List ℕ) → List ℕ → Type 0
 HasNoneOf words bytes = All (λ word. HasNone word bytes) words
 
 -- ---- notes
 
--- Notes begin with those of a file; or it has none of the words, and they have none of its.
+-- Notes begin with those of a file; or it has none of the words, and they have none of its notes.
 pub data AreNotesOf (words : List (List ℕ)) (n : ℕ) (f : File) (t : Parsed)
     (Further : List (Placed (Note Span)) → Type 0) (ns : List (Placed (Note Span))) : Type 0 where
   whole : (more : List (Placed (Note Span))) → Further more → ns ≡ noted (parts_of_file n (view f.bytes t)) ++ more → AreNotesOf words n f t Further ns
@@ -33,12 +33,12 @@ AreNotesWith words n _ _ ns = ns ≡ []
 
 -- ---- which words
 
--- One of them stands in each file where the id names a call: the id itself, or the backslash with which an escape in a name begins; for a
--- project the function.
+-- One of them occurs in each file where the id names a call. It is the id itself, or the backslash with which an escape in a name begins. For a project it is
+-- the function.
 abbrev pub sought_words : Role → List ℕ → List (List ℕ)
 sought_words role.Project id = codes "project" ∷ []
 sought_words _ id = id ∷ (92 ∷ []) ∷ []
 
--- one of them stands in each file in which a call sets a variable
+-- one of them occurs in each file in which a call sets a variable
 abbrev pub setter_words : List (List ℕ)
 setter_words = codes "subdir" ∷ codes "set_variable" ∷ []

@@ -1,4 +1,4 @@
--- Trees whose strings are strings of their kind, and whose names are identifiers: those that a text reads as.
+-- Trees whose strings are strings of their kind, and whose names are identifiers: those that a text parses as.
 use Rattle.std.specs.Prelude.{ℕ, List, [], ◌∷◌}
 use Rattle.meson_lex.specs.declared.kinds.Kind.{Kind}
 use Rattle.meson_lex.specs.declared.kinds.Kind.TheVariants.{Identifier, PlainString, MultilineString, FormatString, FormatMultilineString}

@@ -20,7 +20,7 @@ entered name c = if calls_function (codes "subdir") c then meant_file name c els
 abbrev pub subdirs : {S : Type 0} → List ℕ → File S → List (List ℕ)
 subdirs name tree = filter_map (λ c. entered name c.it) (calls (record { name = name; tree = tree } ∷ []))
 
--- the bytes read as a tree which enters files of these names
+-- the bytes parse as a tree which enters files of these names
 abbrev pub Enters : List ℕ → List ℕ → List (List ℕ) → Type 0
 Enters name bytes names = (t : File Span) × IsSpanned bytes t × (names ≡ subdirs name t)
 
@@ -28,7 +28,7 @@ Enters name bytes names = (t : File Span) × IsSpanned bytes t × (names ≡ sub
 abbrev pub HasNoSubdir : List ℕ → Type 0
 HasNoSubdir bytes = (s : Span) → text_at bytes s ≢ codes "subdir"
 
--- ---- a `subdir` of a file that isn't there
+-- ---- a `subdir` of a file that does not exist
 
 abbrev pub has_name : {S : Type 0} → Project S → List ℕ → Bool
 has_name p name = list_any (λ f. bytes_eq f.name name) p

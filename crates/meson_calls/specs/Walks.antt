@@ -48,7 +48,7 @@ keeper_view (keeper.Setters s) = setters_kept s.names.now (taken_view s.found)
 keeper_view (keeper.Assignments a) = assignments_kept a.loops a.found.items
 keeper_view (keeper.Reads name found) = reads_kept name.now found.items
 
--- where all notes are asked for, or those of setters
+-- if all notes are requested, or those of setters
 abbrev pub kept_so_far : List (Bor (List ℕ)) → Bool → List (Placed (Note Span)) → KeptParts
 kept_so_far names true ns = notes_kept ns
 kept_so_far names false ns = setters_kept names ns
@@ -74,16 +74,16 @@ reads_of_kept (setters_kept names ns) = None
 reads_of_kept (assignments_kept loops ks) = None
 reads_of_kept (reads_kept x cs) = Some cs
 
--- the parts come to what a keeper has
+-- the parts give what a keeper has
 abbrev pub KeepsParts : Keeper → List (Placed (Part Span)) → Keeper → Type 0
 KeepsParts before ps after = keeper_view after ≡ with_parts (keeper_view before) ps
 
--- ---- parts as the code comes to them
+-- ---- parts as the code visits them
 
 abbrev pub part_view : List ℕ → rust_part.Part → Part Span
 part_view source (rust.Expression e) = an_expression (expr_view source e.now)
 part_view source (rust.Statement s) = a_statement (stmt_view source s.now)
 
--- what stands at a path of a file
+-- what is at a path of a file
 abbrev pub part_at : Walk → List ℕ → rust_part.Part → Placed (Part Span)
 part_at walk path part = placed (place walk.file path) (part_view walk.source.now part)

@@ -1,4 +1,4 @@
-//! What the arguments of a call hold, one after another.
+//! What the arguments of a call hold, in order.
 
 ghost use Rattle.std.specs.Prelude.{◌≡◌, ◌<◌, ◌≤◌, [], MatchOption, None, OnOk, drop, is_some, length};
 ghost use Rattle.std.specs.Str.{IsUtf8};
@@ -39,7 +39,7 @@ pub fn count_named(source: &[u8], args: &[Arg], key: &[u8]) -> usize
 /// Refuses a call that has more than one argument of this name.
 ///
 /// # Errors
-/// It has, or memory is refused.
+/// It has, or out of memory.
 pub fn at_most_once(
     alloc: Global,
     source: &[u8],
@@ -81,7 +81,7 @@ pub fn is_plain(arg: &Arg) -> bool
     }
 }
 
-/// The number behind that of the first argument without a name, or how many arguments there are, where each has one.
+/// The number after that of the first argument without a name, or the number of arguments if each has a name.
 pub fn behind_first(args: &[Arg]) -> usize
     ensures number { (source : Source) → result ≡ number_behind (length args.now) (kept_args source value_without_name 0 args.now) }
     ensures others { (source : Source) → rest (kept_args source value_without_name 0 args.now)

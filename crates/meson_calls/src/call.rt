@@ -22,7 +22,7 @@ pub struct CallRef {
     pub path: Path,
 }
 
-/// The same, whose path stands elsewhere.
+/// The same, with a borrowed path.
 #[derive(Clone, Copy)]
 pub struct BorrowedPlace<'t> {
     pub file: usize,
@@ -32,7 +32,7 @@ pub struct BorrowedPlace<'t> {
 impl CallRef {
     ghost use Rattle.meson_calls.specs.Project.{place_at};
 
-    /// The place, with the path that stands here.
+    /// The place, with its path borrowed from here.
     pub fn as_place(&self) -> BorrowedPlace<'_>
         ensures { place_at result ≡ self.now }
     {

@@ -1,4 +1,4 @@
-//! Places of notes that are picked out.
+//! Places of selected notes.
 
 ghost use Rattle.std.specs.Prelude.{◌≡◌, IfOk};
 ghost use Rattle.meson_calls.specs.Notes.{note_views};

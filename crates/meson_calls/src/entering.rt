@@ -19,7 +19,7 @@ use memchr::memmem;
 use meson_syntax::{ParseFault, Parsed, parse};
 use std::alloc::{AllocError, Global};
 
-/// The folder of a build file, with the slash behind it.
+/// The folder of a build file, with the slash after it.
 fn folder_of(name: &str) -> &str
     requires { IsFileName name.now }
     ensures { result.now ≡ folder_of name.now }
@@ -87,17 +87,17 @@ fn all_entered(alloc: Global, name: &str, notes: &[Note<'_, '_>]) -> Result<Vec<
     Ok(names)
 }
 
-/// Whether `subdir` stands anywhere in the bytes. Where it does not, the file has no call of that function, and need not be walked.
+/// Whether `subdir` occurs anywhere in the bytes. If not, the file has no call of that function, and need not be walked.
 fn may_enter(bytes: &[u8]) -> bool
     ensures { result ≡ false → HasNoSubdir bytes.now }
 {
     memmem::find(bytes, b"subdir".as_slice()).is_some()
 }
 
-/// The names of the files that the `subdir` calls of a tree with a plain literal mean, in order.
+/// The names of the files that the `subdir` calls of a tree enter, in order. Only calls with a plain literal count.
 ///
 /// # Errors
-/// Memory is refused.
+/// Out of memory.
 pub fn entered_by(
     alloc: Global,
     name: &str,
@@ -117,10 +117,10 @@ pub fn entered_by(
     Ok(names)
 }
 
-/// The names of the files that the `subdir` calls with a plain literal mean, in order.
+/// The names of the files that `subdir` calls enter, in order. Only calls with a plain literal count.
 ///
 /// # Errors
-/// The bytes are no build file, or memory is refused.
+/// The bytes are not a valid build file, or out of memory.
 pub fn subdirs(alloc: Global, name: &str, bytes: &[u8]) -> Result<Vec<String>, ParseFault>
     requires { IsFileName name.now }
     ensures all { IfOk result (λ names. Enters name.now bytes.now (map string_bytes names.items)) }

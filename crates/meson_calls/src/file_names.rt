@@ -12,7 +12,7 @@ use std::collections::HashSet;
 /// The names of files.
 ///
 /// # Errors
-/// Memory was refused.
+/// Out of memory.
 pub fn names_of<'f>(alloc: Global, files: &'f FileSet) -> Result<HashSet<&'f str>, AllocError>
     ensures { IfOk result (λ names. AreFileNames names files.entry.now) }
 {
@@ -26,7 +26,7 @@ pub fn names_of<'f>(alloc: Global, files: &'f FileSet) -> Result<HashSet<&'f str
 /// Whether a `subdir` of this folder in this file enters one of the files.
 ///
 /// # Errors
-/// Memory was refused.
+/// Out of memory.
 pub fn enters(
     alloc: Global,
     files: &FileSet,

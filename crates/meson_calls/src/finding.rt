@@ -21,7 +21,7 @@ use std::alloc::Global;
 /// The only call.
 ///
 /// # Errors
-/// There is none, or more than one.
+/// There is no call, or more than one.
 fn only_one(calls: Vec<CallRef>) -> Result<CallRef, Refusal>
     ensures { result ≡ only_one calls.items }
 {
@@ -35,7 +35,7 @@ fn only_one(calls: Vec<CallRef>) -> Result<CallRef, Refusal>
     }
 }
 
-/// The only call of those that an id names.
+/// The only call among those that an id names.
 fn only_found(
     alloc: Global,
     role: Role,
@@ -53,7 +53,7 @@ fn only_found(
 /// The one call that an id names.
 ///
 /// # Errors
-/// There is none, or more than one, or no project; or memory is refused.
+/// There is no call, or more than one, or no project; or out of memory.
 pub fn the_call(
     alloc: Global,
     role: Role,
@@ -77,7 +77,7 @@ pub fn the_call(
     }
 }
 
-/// The arguments of a call that stands there.
+/// The arguments of this call.
 pub fn list_of_call<'t>(trees: &'t [Parsed], call: &CallRef) -> &'t List
     requires { CallIn trees.now call.now }
     ensures { (c : CallIn trees.entry.now call.now) → list_view (bytes_at call.now.file c.files) result.now ≡ c.call.it.arguments }

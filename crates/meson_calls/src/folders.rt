@@ -11,7 +11,7 @@ fn is_control(byte: u8) -> bool
     byte < 32 || byte == 127
 }
 
-/// A part between slashes that leads to no folder of its own.
+/// A part between slashes that names no folder of its own.
 fn goes_nowhere(part: &[u8]) -> bool
     ensures { result ≡ goes_nowhere part.now }
 {

@@ -4,7 +4,7 @@ use crate::call::CallRef;
 use crate::kept::KeptAssignment;
 use crate::taken::Taken;
 
-/// Notes of what sets some variables, while they are taken.
+/// Notes of what sets some variables, while they are gathered.
 #[derive(Drop)]
 pub struct Setters<'n, 't> {
     pub names: &'n [&'n [u8]],
@@ -23,9 +23,9 @@ pub struct Assignments {
 pub enum Keeper<'n, 't> {
     /// The calls, assignments and loops.
     Notes(Taken<'t>),
-    /// Of these the assignments to some variables and the loops.
+    /// Of these, the assignments to some variables and the loops.
     Setters(Setters<'n, 't>),
-    /// Where the assignments stand, to whatever variables, and whether there is a loop.
+    /// The places of the assignments, to any variable, and whether there is a loop.
     Assignments(Assignments),
     /// The places of the identifiers that are this variable.
     Reads { name: &'t [u8], found: Vec<CallRef> },

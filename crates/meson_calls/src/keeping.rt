@@ -20,7 +20,7 @@ use crate::taken::Taken;
 use meson_syntax::{Assignment, Expr, Stmt};
 use std::alloc::AllocError;
 
-/// Whether a variable gets the value, and is not added to.
+/// Whether a variable gets the value, rather than having it added.
 fn sets(assignment: Assignment) -> bool
     ensures { result ≡ is_set assignment }
 {
@@ -67,7 +67,7 @@ fn note_in(stmt: &Stmt) -> Option<What<'_>>
     }
 }
 
-/// Whether the expression is one of which there is no note, and in which none stands.
+/// Whether there is no note of the expression, nor of anything within it.
 fn is_plain(value: &Expr) -> bool
     ensures { IsTrue result → (source : Source) (p : CallRef) → noted (parts_of_expression p (expr_view source value.now)) ≡ [] }
 {
@@ -92,7 +92,7 @@ fn is_setter(source: &[u8], names: &[&[u8]], what: What<'_>) -> bool
 }
 
 impl<'n, 't> Keeper<'n, 't> {
-    /// Of notes behind these: of all, or of the setters of some variables.
+    /// Notes that are added after these: of all parts, or of the setters of some variables.
     pub fn asked(names: &'n [&'n [u8]], all: bool, taken: Taken<'t>) -> Self
         ensures { keeper_view result ≡ kept_so_far names.entry.now all (taken_view taken.entry) }
     {
@@ -105,7 +105,7 @@ impl<'n, 't> Keeper<'n, 't> {
         })
     }
 
-    /// Whether nothing is kept of the expression, whatever place it has, and nothing in it. So a walk may pass it by.
+    /// Whether nothing is kept of the expression or of anything in it, at any place. Then a walk may skip it.
     pub fn passes(&self, expr: &Expr) -> bool
         ensures { IsTrue result → (source : Source) (p : CallRef) → KeepsParts self.now (parts_of_expression p (expr_view source expr.now)) self.now }
     {
@@ -171,7 +171,7 @@ impl<'t> Part<'t> {
 }
 
 impl<'t> Walk<'t> {
-    /// Keeps a note of the part at the path, if it is one of which there is a note.
+    /// Keeps a note of the part at the path, if parts of its kind are noted.
     fn keep_note(
         &self,
         path: &[usize],
@@ -205,7 +205,7 @@ impl<'t> Walk<'t> {
         Ok(())
     }
 
-    /// Keeps where the assignment at the path has its variable and its value, if it is one, and whether it is a loop.
+    /// If the part at the path is an assignment, keeps the places of its variable and of its value. Also keeps whether it is a loop.
     fn keep_assignment(
         &self,
         path: &[usize],

@@ -24,7 +24,7 @@ use meson_splice::FileSet;
 use meson_syntax::{Parsed, Path};
 use std::alloc::{AllocError, Global};
 
-/// An assignment: where the name of the variable stands, whether it is set and not added to, and the path of the value.
+/// An assignment: the place of the variable's name, whether it is set rather than added to, and the path of the value.
 #[derive(Drop)]
 pub struct KeptAssignment {
     pub name: Span,
@@ -37,11 +37,11 @@ pub struct KeptAssignment {
 pub enum Kept {
     /// It is not known.
     Unknown,
-    /// A call in it sets variables: all its notes are looked at.
+    /// A call in it sets variables: all its notes are read.
     Calls,
-    /// No call does, but a loop: its statements are looked at.
+    /// No call does, but there is a loop: its statements are read.
     Loops,
-    /// Neither does: these are its assignments.
+    /// Neither is there: these are its assignments.
     Assignments(Vec<KeptAssignment>),
 }
 
@@ -92,7 +92,7 @@ fn any_sets_by_call(notes: &[Note<'_, '_>]) -> bool
     false
 }
 
-/// Whether a call in the file sets variables. Its notes are looked at only where one of the words stands in the bytes.
+/// Whether a call in the file sets variables. Its notes are read only if one of the words occurs in the bytes.
 fn file_sets_by_call(
     alloc: Global,
     words: &Words<'_>,
@@ -155,7 +155,7 @@ fn read(
     Ok(kept_by(keeper))
 }
 
-/// Makes room for so many entries: the further ones are not known.
+/// Makes room for this number of entries: the added ones are not known.
 fn make_room(kept: &mut Vec<Kept>, count: usize) -> Result<(), AllocError>
     ensures same { (i : ℕ) → get_or kept.new.items i Unknown ≡ get_or kept.old.items i Unknown }
     ensures room { OnOk result (count ≤ length kept.new.items) }
@@ -166,10 +166,10 @@ fn make_room(kept: &mut Vec<Kept>, count: usize) -> Result<(), AllocError>
     Ok(())
 }
 
-/// Keeps of each file whether a call in it sets variables, and else its assignments, where that is not known yet.
+/// For each file where it is not known yet, keeps whether a call in it sets variables, and else its assignments.
 ///
 /// # Errors
-/// Memory was refused.
+/// Out of memory.
 pub fn keep_setters(
     alloc: Global,
     files: &FileSet,

@@ -2,12 +2,12 @@
 
 ghost use Rattle.meson_calls.specs.AllParts.{PartsAreAll, PartsInOrder};
 
-/// The parts of a project, among which commands look for calls, are all expressions that stand in it, each at its place.
+/// The parts of a project, among which commands look for calls, are all expressions in it, each at its place.
 pub fn parts_are_all()
     ensures { PartsAreAll }
 {}
 
-/// The parts stand in file order and source order, each once and before what is within it; and so do the calls of targets, and those that an id names.
+/// The parts are in file order and source order, each once and before what is within it. So are the calls of targets, and those that an id names.
 pub fn parts_in_order()
     ensures { PartsInOrder }
 {}

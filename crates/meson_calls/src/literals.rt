@@ -1,4 +1,4 @@
-//! The texts that strings of a file stand for.
+//! The texts that the strings of a file mean.
 
 ghost use Rattle.std.specs.Prelude.{◌≡◌, IfOk, option_map, string_bytes};
 ghost use Rattle.meson_syntax.specs.Operators.{string_kind};
@@ -24,7 +24,7 @@ fn token_kind(kind: StringKind) -> Kind
     }
 }
 
-/// The text that an expression stands for, if it is a literal.
+/// The text that an expression means, if it is a literal.
 pub fn literal(alloc: Global, source: &[u8], expr: &Expr) -> Result<Option<String>, AllocError>
     requires { AreGood (expression_words (expr_view source.now expr.now)) }
     ensures { IfOk result (λ text. option_map string_bytes text ≡ literal_of (expr_view source.now expr.now)) }

@@ -1,4 +1,4 @@
-//! Why files are no project.
+//! Why a set of files cannot be loaded.
 
 use meson_splice::FileSet;
 use meson_syntax::ParseFault;
@@ -6,16 +6,16 @@ use std::alloc::AllocFailed;
 use std::error::Error;
 use std::fmt;
 
-/// Why files are no project, in the order in which it is asked.
+/// Why a set of files cannot be loaded as a project. The faults are in the order in which they are checked.
 #[derive(Clone, Copy, Debug, PartialEq, Eq)]
 pub enum LoadFault {
     /// More than `MAX_FILES` files.
     TooManyFiles,
     /// The name of this file, counted from 0, is not that of a build file.
     BadFileName(usize),
-    /// This file, counted from 0, is the first that has no tree.
+    /// This file, counted from 0, is the first one without a tree.
     Parse { index: usize, fault: ParseFault },
-    /// A growth was refused.
+    /// An allocation failed.
     OutOfMemory,
 }
 

@@ -10,7 +10,7 @@ use meson_splice::FileSet;
 use meson_syntax::{ParseFault, Parsed, copy_tree, parse};
 use std::alloc::{AllocError, Global};
 
-/// How many files a project may have.
+/// The largest number of files in a project.
 pub const MAX_FILES: usize = 1024;
 
 /// The first file whose name is not that of a build file.
@@ -38,7 +38,7 @@ fn told(index: usize, fault: ParseFault) -> LoadFault
 /// The tree of each file.
 ///
 /// # Errors
-/// The first file that has no tree, or want of memory.
+/// The first file that has no tree, or out of memory.
 fn trees_of(alloc: Global, files: &FileSet) -> Result<Vec<Parsed>, LoadFault>
     ensures ok { IfOk result (λ parsed. AreParsed files.now parsed.items) }
     ensures err { IfErr result (MayNotParse files.now) }
@@ -56,7 +56,7 @@ fn trees_of(alloc: Global, files: &FileSet) -> Result<Vec<Parsed>, LoadFault>
 /// The trees of files that are a project.
 ///
 /// # Errors
-/// The first fault in order, or want of memory.
+/// The first fault in order, or out of memory.
 pub fn loaded(alloc: Global, files: &FileSet) -> Result<Vec<Parsed>, LoadFault>
     ensures ok { IfOk result (λ parsed. IsProject (record { files = files.now; parsed = parsed.items })) }
     ensures err { IfErr result (MayNotLoad files.now) }

@@ -1,4 +1,4 @@
-//! What stands at a place.
+//! What is at a place.
 
 ghost use Rattle.std.specs.Prelude.{◌≡◌, length};
 ghost use Rattle.meson_calls.specs.Loading.{named_trees, views};

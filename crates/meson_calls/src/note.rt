@@ -1,4 +1,4 @@
-//! What all commands look at.
+//! What all commands read.
 
 use crate::call::BorrowedPlace;
 use meson_lex::Span;
@@ -11,7 +11,7 @@ pub enum What<'t> {
         function: Span,
         arguments: &'t List,
     },
-    /// A variable, whether it is set and not added to, and the value.
+    /// A variable, whether it is set rather than added to, and the value.
     Assign {
         name: Span,
         sets: bool,
@@ -22,7 +22,7 @@ pub enum What<'t> {
     },
 }
 
-/// The same with its place, and the source in which it stands.
+/// The same with its place, and the source that it is in.
 #[derive(Clone, Copy)]
 pub struct Note<'p, 't> {
     pub place: BorrowedPlace<'p>,

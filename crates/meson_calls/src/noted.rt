@@ -5,8 +5,7 @@ use crate::note::Note;
 use meson_splice::FileSet;
 use meson_syntax::Parsed;
 
-/// The files of a project, the tree of each, and notes of them: those that a command looks at. Of each file what is kept of it,
-/// where that is known.
+/// The files of a project, the tree of each, and the notes of them that a command looks at. Also what is kept of each file, if that is known.
 #[derive(Clone, Copy)]
 pub struct Noted<'p> {
     pub files: &'p FileSet,

@@ -23,10 +23,10 @@ use meson_splice::FileSet;
 use meson_syntax::Parsed;
 use std::alloc::{AllocError, Global};
 
-/// What commands look at in a file, by the number of the file.
+/// What commands read of a file, by the number of the file.
 ///
 /// # Errors
-/// Memory was refused.
+/// Out of memory.
 pub fn notes_in<'t>(
     alloc: Global,
     file: usize,
@@ -44,10 +44,10 @@ pub fn notes_in<'t>(
     }
 }
 
-/// What commands look at, in file order and source order.
+/// What commands read, in file order and source order.
 ///
 /// # Errors
-/// Memory was refused.
+/// Out of memory.
 pub fn notes_of<'t>(
     alloc: Global,
     files: &'t FileSet,
@@ -64,7 +64,7 @@ pub fn notes_of<'t>(
     }
 }
 
-/// The notes so far, and behind them those of a file, if it is asked for.
+/// The notes so far, followed by those of a file, if these are requested.
 fn with_file<'t>(
     alloc: Global,
     file: usize,
@@ -88,7 +88,7 @@ fn with_file<'t>(
     }
 }
 
-/// The notes of all files but those in which none of the words stands.
+/// The notes of all files but those in which none of the words occurs.
 fn notes_with<'t>(
     alloc: Global,
     words: &Words<'_>,
@@ -107,10 +107,10 @@ fn notes_with<'t>(
     Ok(taken)
 }
 
-/// The notes by which an id is found: those of files that can tell nothing of it are left out.
+/// The notes by which an id is found. Files that cannot matter for it are left out.
 ///
 /// # Errors
-/// Memory was refused.
+/// Out of memory.
 pub fn notes_for<'t>(
     alloc: Global,
     role: Role,
@@ -125,7 +125,7 @@ pub fn notes_for<'t>(
     notes_with(alloc, &words, files, trees)
 }
 
-/// The notes so far, and behind them those of a file: all, or its assignments to these variables and its loops.
+/// The notes so far, followed by those of a file: all, or its assignments to these variables and its loops.
 fn with_setters<'t>(
     alloc: Global,
     file: usize,
@@ -176,7 +176,7 @@ fn take_kept<'t>(
     }
 }
 
-/// The notes so far, and behind them those of assignments to these variables, of all that are kept of a file.
+/// The notes so far, followed by those of assignments to these variables, of all that are kept of a file.
 fn with_assignments<'t>(
     file: usize,
     source: &'t [u8],
@@ -197,7 +197,7 @@ fn with_assignments<'t>(
     Ok(taken)
 }
 
-/// The notes so far, and behind them those of a file: what is kept of it tells which. Where nothing is, its bytes do.
+/// The notes so far, followed by those of a file. What is kept of the file decides which; if nothing is kept, its bytes decide.
 fn with_kept<'t>(
     alloc: Global,
     words: &Words<'_>,
@@ -226,11 +226,11 @@ fn with_kept<'t>(
     }
 }
 
-/// The notes by which these variables stand for something: of a file in which no call sets one, its assignments to them and
-/// its loops are enough. What is not kept of a file is told by its bytes.
+/// The notes by which the values of these variables are found. If no call in a file sets a variable, its assignments to them and its loops are enough. If
+/// nothing is kept of a file, its bytes decide.
 ///
 /// # Errors
-/// Memory was refused.
+/// Out of memory.
 pub fn notes_naming<'t>(
     alloc: Global,
     names: &[&[u8]],

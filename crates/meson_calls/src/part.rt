@@ -1,4 +1,4 @@
-//! Parts of trees, and the files that they stand in.
+//! Parts of trees, and the files that they are in.
 
 use meson_syntax::{Expr, Stmt};
 use std::alloc::Global;

@@ -27,7 +27,7 @@ pub fn copy_place(alloc: Global, place: &CallRef) -> Result<CallRef, AllocError>
     place_of(alloc, place.file, place.path.steps.get())
 }
 
-/// The place of the n-th child of what stands at a place.
+/// The place of the n-th child of what is at a place.
 pub fn child_place(
     alloc: Global,
     place: BorrowedPlace<'_>,

@@ -5,7 +5,7 @@ use std::alloc::AllocError;
 use std::error::Error;
 use std::fmt;
 
-/// Why a command is refused, in the order in which it is asked.
+/// Why a command is refused. The reasons are in the order in which they are checked.
 #[derive(Debug, Drop, PartialEq)]
 pub enum Refusal {
     /// No file has a `project` call.
@@ -28,15 +28,15 @@ pub enum Refusal {
     NotLiteral(Text),
     /// The source is not one of the target's.
     SourceNotFound,
-    /// It is not among those that are known, and some are not known.
+    /// It is not among the known ones, and some are not known.
     Unresolved,
-    /// It stands in no list.
+    /// It is in no list.
     NotRemovable,
     /// A target has this name.
     NameTaken,
     /// The project has no such file.
     NoFile,
-    /// The target's call is no statement and no assigned value.
+    /// The target's call is neither a statement nor an assigned value.
     NotStatement,
     /// The target's variable of this name is used.
     InUse(Text),
@@ -44,7 +44,7 @@ pub enum Refusal {
     TooDeep,
     /// The new file would be too large.
     TooLarge,
-    /// A growth was refused.
+    /// An allocation failed.
     OutOfMemory,
 }
 
@@ -79,7 +79,7 @@ impl Refusal {
         }
     }
 
-    /// The name that is told behind the words, or nothing.
+    /// The name that is printed after the words, or nothing.
     fn name(&self) -> &str
         ensures { result.now ≡ refusal_name self.now }
     {

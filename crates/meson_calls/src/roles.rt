@@ -18,7 +18,7 @@ use meson_syntax::{Arg, Expr, List};
 use std::alloc::{AllocError, Global};
 use std::str;
 
-/// The bytes of a span, or what there is of them.
+/// The bytes of a span, or the part of them that exists.
 pub fn text_of(source: &[u8], span: Span) -> &[u8]
     ensures { result.now ≡ text_at source.now span }
 {
@@ -50,7 +50,7 @@ pub fn identifier_text(name: &[u8]) -> &str
     }
 }
 
-/// A text of these bytes, which are UTF-8 as all that stands in a source.
+/// A text of these bytes. They are UTF-8, as all bytes of a source are.
 pub fn text_of_name(alloc: Global, name: &[u8]) -> Result<Text, AllocError>
     requires { IsUtf8 name.now }
     ensures { IfOk result (λ t. t ≡ name.now) }

@@ -1,4 +1,4 @@
-//! Words of which one stands in each file that matters.
+//! Words such that each file that matters has one of them.
 
 ghost use Rattle.std.specs.Prelude.{◌≡◌, IfOk, false};
 ghost use Rattle.meson_calls.specs.Spelling.{HasNoneOf, setter_words, sought_words};
@@ -7,17 +7,17 @@ use crate::call::Role;
 use memchr::memmem::Finder;
 use std::alloc::{AllocError, Global};
 
-/// Words that are looked for in the bytes of files.
+/// Words to search for in the bytes of files.
 #[derive(Drop)]
 pub(crate) struct Words<'w> {
     words: Vec<Finder<'w>>,
 }
 
 impl<'w> Words<'w> {
-    /// Those of which one stands in each file in which the id names a call.
+    /// Words such that each file in which the id names a call has one of them.
     ///
     /// # Errors
-    /// Memory was refused.
+    /// Out of memory.
     pub(crate) fn of_id(alloc: Global, role: Role, id: &'w str) -> Result<Words<'w>, AllocError>
         ensures { IfOk result (λ w. w.words.items ≡ sought_words role id.now) }
     {
@@ -32,10 +32,10 @@ impl<'w> Words<'w> {
         Ok(Words { words })
     }
 
-    /// Those of which one stands in each file in which a call sets a variable, or may set any.
+    /// Words such that each file in which a call sets a variable, or may set any, has one of them.
     ///
     /// # Errors
-    /// Memory was refused.
+    /// Out of memory.
     pub(crate) fn of_setters(alloc: Global) -> Result<Words<'w>, AllocError>
         ensures { IfOk result (λ w. w.words.items ≡ setter_words) }
     {
@@ -45,7 +45,7 @@ impl<'w> Words<'w> {
         Ok(Words { words })
     }
 
-    /// Whether one of them may stand in the bytes.
+    /// Whether one of them may occur in the bytes.
     pub(crate) fn may_stand_in(&self, bytes: &[u8]) -> bool
         ensures { result ≡ false → HasNoneOf self.now.words.items bytes.now }
     {

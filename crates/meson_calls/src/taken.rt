@@ -1,4 +1,4 @@
-//! Notes while they are taken.
+//! Notes while they are gathered.
 
 ghost use Rattle.std.specs.Prelude.{◌≡◌, ◌∷◌, ◌++◌, [], IfOk, OnOk, length};
 ghost use Rattle.meson_calls.specs.Project.{place, placed};
@@ -8,7 +8,7 @@ use crate::call::BorrowedPlace;
 use crate::note::{Note, Ranged, What};
 use std::alloc::{AllocError, Global};
 
-/// Notes, and the paths of all of them, one behind another: a note takes no memory of its own.
+/// Notes, and the paths of all of them in one list: a note itself allocates nothing.
 #[derive(Drop)]
 pub struct Taken<'t> {
     steps: Vec<usize>,
@@ -19,7 +19,7 @@ pub struct Taken<'t> {
 impl<'t> Taken<'t> {
     ghost use Rattle.meson_calls.specs.Notes.{note_views, taken_view, what_view};
 
-    /// Nothing so far. Takes no memory.
+    /// None so far. Does not allocate.
     pub fn new(alloc: Global) -> Self
         ensures { taken_view result ≡ [] }
     {
@@ -29,7 +29,7 @@ impl<'t> Taken<'t> {
         }
     }
 
-    /// Takes a note of what stands at a path of a file.
+    /// Takes a note of what is at a path of a file.
     pub fn take(
         &mut self,
         file: usize,
@@ -52,7 +52,7 @@ impl<'t> Taken<'t> {
         Ok(())
     }
 
-    /// The notes, whose paths stand here.
+    /// The notes, with their paths borrowed from here.
     pub fn all(&self, alloc: Global) -> Result<Vec<Note<'_, 't>>, AllocError>
         ensures { IfOk result (λ all. note_views all.items ≡ taken_view self.now) }
     {

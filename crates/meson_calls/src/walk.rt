@@ -1,6 +1,6 @@
-//! The way through the expressions of a file.
+//! The walk through the expressions of a file.
 //!
-//! Each child has a word of its own. So where a node has fewer words than a number can tell, the numbers of its children are told, too.
+//! Each child has a word of its own. So if the number of a node's words is small enough for a `usize`, so are the numbers of its children.
 
 ghost use Rattle.std.specs.Prelude.{◌≡◌, ◌+◌, ◌<◌, ◌^◌, false, IfOk, OnOk, length};
 ghost use Rattle.meson_syntax.specs.Grammar.{expression_words, operands_words, tail_words, tails_words, argument_words, arguments_words};
@@ -101,7 +101,7 @@ impl<'t> Walk<'t> {
         Ok(())
     }
 
-    /// Visits those of elements from the n-th child on, and gives the number after theirs.
+    /// Visits those of elements from the n-th child on, and returns the number after theirs.
     #[cycle(walk)]
     fn in_args(
         &self,
@@ -123,7 +123,7 @@ impl<'t> Walk<'t> {
         Ok(number)
     }
 
-    /// Visits those of one element, and gives the number after its.
+    /// Visits those of one element, and returns the number after its own.
     #[cycle(walk)]
     fn in_arg(
         &self,

@@ -1,4 +1,4 @@
-//! The way through the statements of files.
+//! The walk through the statements of files.
 
 ghost use Rattle.std.specs.Prelude.{◌≡◌, ◌*◌, ◌<◌, ◌^◌, OnOk, length};
 ghost use Rattle.meson_lex.specs.declared.kinds.Kind.TheVariants.{WordIf};
@@ -114,7 +114,7 @@ impl<'t> Walk<'t> {
         Ok(())
     }
 
-    /// Visits those of conditions and the blocks behind them.
+    /// Visits those of conditions and of the blocks after them.
     #[cycle(statements)]
     fn in_branches(
         &self,
@@ -133,7 +133,7 @@ impl<'t> Walk<'t> {
         Ok(())
     }
 
-    /// Visits those of the n-th condition and the block behind it.
+    /// Visits those of the n-th condition and of the block after it.
     #[cycle(statements)]
     fn in_branch(
         &self,
@@ -154,7 +154,7 @@ impl<'t> Walk<'t> {
         Ok(())
     }
 
-    /// Visits those of the block behind `else`, which is the n-th child.
+    /// Visits those of the block after `else`, which is the n-th child.
     #[cycle(statements)]
     fn in_otherwise(
         &self,
@@ -178,7 +178,7 @@ impl<'t> Walk<'t> {
 /// Visits the parts of the file of this number, in source order: each before those within it.
 ///
 /// # Errors
-/// Memory was refused.
+/// Out of memory.
 pub fn walk_file<'t>(
     alloc: Global,
     file: usize,
@@ -203,7 +203,7 @@ pub fn walk_file<'t>(
 /// Visits the parts of the files of a project, in file order and source order.
 ///
 /// # Errors
-/// Memory was refused.
+/// Out of memory.
 pub fn walk_files<'t>(
     alloc: Global,
     files: &'t FileSet,

@@ -2,10 +2,10 @@
 
 use std::alloc::{AllocError, Global};
 
-/// The line of a file that ends in this has no line end.
+/// A line of a file that ends in this has no line end.
 const NO_LINE_END: &str = "«no line end»";
 
-/// Puts a text behind the bytes, in which signs stand for control characters.
+/// Appends a text to the bytes; signs in it mean control characters.
 fn put_plain(bytes: &mut Vec<u8>, text: &str) -> Result<(), AllocError> {
     let mut rest = [0u8; 4];
     for c in text.chars() {
@@ -19,7 +19,7 @@ fn put_plain(bytes: &mut Vec<u8>, text: &str) -> Result<(), AllocError> {
     Ok(())
 }
 
-/// Puts a text behind the bytes so many times: `64 [` is 64 brackets.
+/// Appends a text to the bytes a number of times: `64 [` is 64 brackets.
 fn put_repeated(alloc: Global, bytes: &mut Vec<u8>, code: &str) -> Result<(), AllocError> {
     let (count, text) = code.split_once(' ').unwrap_or((code, ""));
     let mut part = Vec::new(alloc);
@@ -49,15 +49,15 @@ fn put_code(alloc: Global, bytes: &mut Vec<u8>, code: &str) -> Result<(), AllocE
     }
 }
 
-/// Puts a code, and what stands behind it, behind the bytes.
+/// Appends the bytes of a code, and then those of the text after it.
 fn put_piece(alloc: Global, bytes: &mut Vec<u8>, piece: &str) -> Result<(), AllocError> {
     let (code, rest) = piece.split_once('»').unwrap_or((piece, ""));
     put_code(alloc, bytes, code)?;
     put_plain(bytes, rest)
 }
 
-/// The bytes that a text stands for: itself, but `⏎`, `␍` and `␉` are LF, CR and TAB, `«ff»` is the byte of these digits of base 16,
-/// `«64 [»` is a text so many times, and `«»` is nothing.
+/// The bytes that a text stands for. It is itself, but for these signs: `⏎`, `␍` and `␉` are LF, CR and TAB. `«ff»` is the byte of these digits of base 16,
+/// `«64 [»` is a text that is repeated, and `«»` is nothing.
 pub fn bytes_of(alloc: Global, text: &str) -> Result<Vec<u8>, AllocError> {
     let mut bytes = Vec::new(alloc);
     let mut pieces = text.split('«');

@@ -1,4 +1,4 @@
-//! Cases that are done one after another, and compared with what is written of them.
+//! Runs cases one after another, and compares the results with those in their file.
 
 use crate::transcript::Transcript;
 use std::alloc::{AllocError, Global};
@@ -10,14 +10,14 @@ pub trait Case {
     /// A case of which no line was read.
     fn new(alloc: Global) -> Self;
 
-    /// Reads a line, and writes what it comes to: lines that begin with a blank.
+    /// Reads a line, and writes its result: lines that begin with a blank.
     ///
     /// # Errors
-    /// Memory was refused.
+    /// Out of memory.
     fn step(&mut self, line: &str, to: &mut Transcript) -> Result<(), AllocError>;
 }
 
-/// What the lines of a case come to, each behind its line. A line that begins with a blank says what came out, and is not read.
+/// The results of the lines of a case, each after its line. A line that begins with a blank is a result, and is not read.
 fn done<C: Case + Drop>(alloc: Global, written: &str) -> Result<Transcript, AllocError> {
     let mut case = C::new(alloc);
     let mut to = Transcript::new(alloc);
@@ -34,11 +34,10 @@ fn done<C: Case + Drop>(alloc: Global, written: &str) -> Result<Transcript, Allo
     Ok(to)
 }
 
-/// Does the cases of a file, of which each begins with a line of `## ` and its title, and writes those that come to something else
-/// than the file says, and how many there are.
+/// Runs the cases of a file. Each begins with a line of `## ` and its title. Writes those whose results differ from the file, and the number of cases.
 ///
 /// # Errors
-/// Memory was refused, or the writer failed.
+/// Out of memory, or the writer failed.
 pub fn judge<C: Case + Drop, W: Write>(
     alloc: Global,
     name: &str,

@@ -1,4 +1,4 @@
-//! Files of cases: how bytes are written there, and what a case comes to beside what the file says.
+//! Files of cases: how bytes are written there, and how the result of a case compares with the file.
 #![tactic(auto)]
 
 mod escapes;

@@ -1,20 +1,20 @@
-//! What a case comes to, as text in the form of a case file.
+//! The result of a case, as text in the form of a case file.
 
 use std::alloc::Global;
 use std::fmt::{Debug, Display};
 use std::io::Write;
 
-/// So many equal bytes and more are written with their number.
+/// A run of this many equal bytes or more is written with its length.
 const MANY: usize = 20;
 
-/// Text that is written. Where memory was refused it has gaps, and says so.
+/// Text that is written. If an allocation failed it has gaps, and says so.
 #[derive(Drop)]
 pub struct Transcript {
     bytes: Vec<u8>,
     has_gaps: bool,
 }
 
-/// Equal bytes beside each other.
+/// Equal bytes next to each other.
 #[derive(Clone, Copy)]
 struct Run {
     byte: u8,
@@ -48,28 +48,28 @@ impl Transcript {
         self.put_bytes(text.as_bytes());
     }
 
-    /// What a value is shown as.
+    /// The display form of a value.
     pub fn show<T: Display>(&mut self, value: &T) {
         if write!(self.bytes, "{value}").is_err() {
             self.has_gaps = true;
         }
     }
 
-    /// What a value is shown as to programmers.
+    /// The debug form of a value.
     pub fn debug<T: Debug>(&mut self, value: &T) {
         if write!(self.bytes, "{value:?}").is_err() {
             self.has_gaps = true;
         }
     }
 
-    /// A line of a word or several.
+    /// A line of one or more words.
     pub fn line(&mut self, text: &str) {
         self.put("  ");
         self.put(text);
         self.put("\n");
     }
 
-    /// A line that a value is shown as.
+    /// A line with the display form of a value.
     pub fn show_line<T: Display>(&mut self, value: &T) {
         self.put("  ");
         self.show(value);
@@ -131,7 +131,7 @@ impl Transcript {
         self.put_run(run, is_text);
     }
 
-    /// A line of a file behind a front, without its end.
+    /// A line of a file after a prefix, without its end.
     fn file_line(&mut self, front: &str, line: &[u8]) {
         self.put(front);
         self.escape(line);
@@ -146,7 +146,7 @@ impl Transcript {
         self.lines("  |", bytes);
     }
 
-    /// Lines, each behind this front.
+    /// Lines, each after this prefix.
     pub fn lines(&mut self, front: &str, bytes: &[u8]) {
         let mut last: &[u8] = b"";
         let mut is_first = true;

@@ -24,7 +24,7 @@ pub struct ProjectCase {
 }
 
 impl ProjectCase {
-    /// Changes what is there before a call. Says whether the word does.
+    /// Changes the state before a call. Returns whether the word does that.
     fn prepare(&mut self, word: &str, rest: &str) -> Result<bool, AllocError> {
         match word {
             "file" => self.files.begin(rest)?,
@@ -44,7 +44,7 @@ impl ProjectCase {
         Ok(true)
     }
 
-    /// Asks something of the project.
+    /// Answers a question about the project.
     fn ask(&mut self, word: &str, rest: &str, to: &mut Transcript) -> Result<(), AllocError> {
         match word {
             "load" => put_loaded(&self.files, self.alloc, to),
@@ -73,7 +73,7 @@ impl ProjectCase {
         call(self.alloc, files, failures, words.as_slice(), is_brief, to)
     }
 
-    /// Calls the program on the files, of which one is cut at each length.
+    /// Calls the program on the files, with one of them cut at each length.
     fn cut(&mut self, rest: &str, to: &mut Transcript) -> Result<(), AllocError> {
         let (name, rest) = rest.split_once(' ').unwrap_or((rest, ""));
         let words = words_of(self.alloc, Some(PROGRAM), rest)?;

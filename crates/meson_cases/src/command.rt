@@ -47,7 +47,7 @@ fn setting(alloc: Global, word: &str) -> Result<Setting, AllocError> {
     }
 }
 
-/// Keys and their values, one behind the other.
+/// Keys, each followed by its value.
 fn pairs(alloc: Global, words: &[&str]) -> Result<Many<(Text, Setting)>, AllocError> {
     let mut all = Vec::new(alloc);
     for pair in words.chunks_exact(2) {
@@ -59,7 +59,7 @@ fn pairs(alloc: Global, words: &[&str]) -> Result<Many<(Text, Setting)>, AllocEr
     Ok(Many::of(all))
 }
 
-/// Options and their values, one behind the other.
+/// Options, each followed by its value.
 fn options(alloc: Global, words: &[&str]) -> Result<Many<(Text, Text)>, AllocError> {
     let mut all = Vec::new(alloc);
     for pair in words.chunks_exact(2) {
@@ -71,7 +71,7 @@ fn options(alloc: Global, words: &[&str]) -> Result<Many<(Text, Text)>, AllocErr
     Ok(Many::of(all))
 }
 
-/// The first ones of pairs.
+/// The first elements of pairs.
 fn keys(alloc: Global, words: &[&str]) -> Result<Many<Text>, AllocError> {
     let mut all = Vec::new(alloc);
     for pair in words.chunks_exact(2) {
@@ -82,7 +82,7 @@ fn keys(alloc: Global, words: &[&str]) -> Result<Many<Text>, AllocError> {
     Ok(Many::of(all))
 }
 
-/// The word behind an option, or another one where the option is not there.
+/// The word after an option, or another one if the option is not there.
 fn option_or(alloc: Global, words: &[&str], option: &str, other: &str) -> Result<Text, AllocError> {
     let mut is_next = false;
     for word in words {
@@ -94,7 +94,7 @@ fn option_or(alloc: Global, words: &[&str], option: &str, other: &str) -> Result
     text(alloc, other)
 }
 
-/// The command that puts a target into the project: its sources, then the options.
+/// The command that adds a target to the project: its sources, then the options.
 fn target_add(alloc: Global, id: &str, words: &[&str]) -> Read {
     let sources: Vec<&str> = words
         .iter()

@@ -1,4 +1,4 @@
-//! A call of the program on files of which one is cut at each length.
+//! A call of the program on files, one of which is cut at each length.
 
 use crate::failures::Failures;
 use crate::files::Files;
@@ -14,7 +14,7 @@ struct Cut<'a> {
     front: &'a [u8],
 }
 
-/// Writes what an output got, without the end of its last line. A place at the end of the front is called so.
+/// Writes what an output got, without the end of its last line. A place at the end of the file's front is named as such.
 fn put_told(alloc: Global, told: &[u8], len: usize, to: &mut Transcript) -> Result<(), AllocError> {
     let told = told.strip_suffix(b"\n").unwrap_or(told);
     let at_end = format!(in alloc; " at {len}")?;
@@ -78,7 +78,7 @@ fn put_range(from: usize, to: usize, answer: &str, out: &mut Transcript) {
     out.put("\n");
 }
 
-/// What a call does where a file ends at each length, up to its own; equal neighbours are taken together.
+/// The result of a call for a file that ends at each length, up to its own. Equal neighbours are written once.
 pub fn put_cuts(
     alloc: Global,
     files: &Files,

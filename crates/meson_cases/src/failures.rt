@@ -16,7 +16,7 @@ pub struct Failures {
     pub reads: Failing,
     pub replaces: Failing,
     pub leaves_new: bool,
-    /// The replaces that fail know that their file is as it was.
+    /// The replaces that fail are sure that their file is as it was.
     pub is_sure: bool,
     pub out: Failing,
     pub err: Failing,
@@ -51,7 +51,7 @@ impl Failures {
     };
 }
 
-/// A writer of which some writes fail and leave nothing.
+/// A writer in which some writes fail and write nothing.
 #[derive(Drop)]
 pub struct FailingWriter {
     pub bytes: Vec<u8>,

@@ -7,7 +7,7 @@ use std::alloc::{AllocError, Global};
 /// The file in which the program keeps what it did.
 pub const LOG: &str = "meson.rewrite-log";
 
-/// A file, or one that is not there but may come.
+/// A file, or a name at which a file may appear.
 #[derive(Drop)]
 pub struct File {
     pub name: String,
@@ -43,7 +43,7 @@ impl Files {
             .position(|file| file.name.as_str() == name)
     }
 
-    /// Puts bytes under a name, or none.
+    /// Sets the bytes of a name, or removes them.
     pub fn set(&mut self, name: &str, bytes: Option<Vec<u8>>) -> Result<(), AllocError> {
         if let Some(place) = self.find(name) {
             if place < self.all.len() {
@@ -58,7 +58,7 @@ impl Files {
         Ok(())
     }
 
-    /// Counts with a file of this name, if there is none.
+    /// Adds an entry for a file of this name, if it is missing.
     pub fn expect(&mut self, name: &str) -> Result<(), AllocError> {
         if self.bytes(name).is_none() {
             self.set(name, None)?;
@@ -78,7 +78,7 @@ impl Files {
         self.set("meson.build", Some(bytes))
     }
 
-    /// Puts bytes behind those of the file that is read.
+    /// Appends bytes to the file that is read.
     pub fn extend(&mut self, more: &[u8]) -> Result<(), AllocError> {
         let Some(file) = self.all.as_mut_slice().get_mut(self.open) else {
             return Ok(());
@@ -89,7 +89,7 @@ impl Files {
         }
     }
 
-    /// Begins so many empty files, named `a`, `aa` and so on.
+    /// Begins this number of empty files, named `a`, `aa` and so on.
     pub fn begin_many(&mut self, count: &str) -> Result<(), AllocError> {
         let mut name = String::new(self.alloc);
         for _ in 0..count.parse::<u32>().unwrap_or(0) {
@@ -99,8 +99,7 @@ impl Files {
         Ok(())
     }
 
-    /// Begins so many build files, of which each but the first stands in a folder `a` of the one before, and which all enter
-    /// such a folder.
+    /// Begins this number of build files. Each but the first is in a folder `a` of the one before, and all enter such a folder.
     pub fn begin_nested(&mut self, count: &str) -> Result<(), AllocError> {
         let mut folder = String::new(self.alloc);
         for _ in 0..count.parse::<u32>().unwrap_or(0) {
@@ -113,7 +112,7 @@ impl Files {
         Ok(())
     }
 
-    /// The files as a set, without those that are not there.
+    /// The files as a set, without those that do not exist.
     pub fn file_set(&self) -> Result<FileSet, AllocError> {
         let mut set = FileSet::new(self.alloc);
         for file in self.all.as_slice() {
@@ -134,7 +133,7 @@ impl Files {
         }
     }
 
-    /// Takes over the bytes that a file has now, and writes the file where they differ.
+    /// Takes the current bytes of a file, and writes the file if they differ.
     pub fn change(
         &mut self,
         name: &str,

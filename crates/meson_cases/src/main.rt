@@ -1,4 +1,4 @@
-//! Does the cases on projects and on the whole program, over a store in memory.
+//! Runs the cases on projects and on the whole program, over a store in memory.
 #![tactic(auto)]
 
 mod case;

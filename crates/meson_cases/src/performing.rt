@@ -45,7 +45,7 @@ fn put_done(done: &Done, is_counted: bool, to: &mut Transcript) {
     }
 }
 
-/// Writes the files of the project that differ now, and takes them over.
+/// Writes the files of the project that differ now, and takes their bytes.
 pub fn put_changed(
     set: &FileSet,
     files: &mut Files,
@@ -79,7 +79,7 @@ fn perform_on(
     put_changed(project.files(), files, to)
 }
 
-/// Writes what a command makes of the root file, with the number of splices where that is asked.
+/// Writes what a command makes of the root file, with the number of splices if that is requested.
 fn put_made(
     project: &mut Project,
     alloc: Global,
@@ -126,7 +126,7 @@ pub fn make(
     Ok(())
 }
 
-/// Does the command of these words to the project that the files are; where asked, the bytes that were read again are counted.
+/// Performs the command of these words on the project of the files. If requested, counts the bytes that were read again.
 pub fn perform(
     alloc: Global,
     files: &mut Files,

@@ -6,7 +6,7 @@ use meson_case_files::{Transcript, text_of};
 use meson_rewrite::{Counted, Memory, rewrite};
 use std::alloc::{AllocError, Global};
 
-/// A store of the files that are there.
+/// A store of the files that exist.
 pub fn store_of(files: &Files, alloc: Global, failures: Failures) -> Result<Memory, AllocError> {
     let mut store = Memory::new(alloc);
     for file in files.get() {
@@ -57,7 +57,7 @@ fn run(
     to.put("\n");
 }
 
-/// Writes the files that the store holds otherwise now, and takes them over.
+/// Writes the files that differ in the store now, and takes their bytes.
 fn put_stored(store: &Memory, files: &mut Files, to: &mut Transcript) -> Result<(), AllocError> {
     for i in 0..files.get().len() {
         if let Some(file) = files.get().get(i) {
@@ -70,7 +70,7 @@ fn put_stored(store: &Memory, files: &mut Files, to: &mut Transcript) -> Result<
     Ok(())
 }
 
-/// Counts with an undo log in each folder that has a build file, so that it is shown where it comes.
+/// Expects an undo log in each folder that has a build file, so that a log is shown where it appears.
 pub fn expect_logs(alloc: Global, files: &mut Files) -> Result<(), AllocError> {
     for i in 0..files.get().len() {
         if let Some(file) = files.get().get(i)
@@ -84,7 +84,7 @@ pub fn expect_logs(alloc: Global, files: &mut Files) -> Result<(), AllocError> {
     files.expect(LOG)
 }
 
-/// Runs the program on these words, of which the first is its name. Of a brief call the texts of the outputs are left out.
+/// Runs the program on these words, of which the first is its name. For a brief call the texts of the outputs are left out.
 pub fn call(
     alloc: Global,
     files: &mut Files,
@@ -99,7 +99,7 @@ pub fn call(
     put_stored(&store, files, to)
 }
 
-/// Words with blanks between them, behind a first one if there is one.
+/// Words with blanks between them, after a first one if there is one.
 pub fn words_of(
     alloc: Global,
     first: Option<&str>,

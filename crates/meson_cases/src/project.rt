@@ -1,4 +1,4 @@
-//! What is asked of the project of the files: whether they are one, its targets, the calls that ids name, and the files entered.
+//! Questions about the project of the files: whether they are one, its targets, the calls that ids name, and the files entered.
 
 use crate::command::role_of;
 use crate::files::Files;
@@ -9,7 +9,7 @@ use meson_splice::FileSet;
 use meson_syntax::{Many, Path};
 use std::alloc::{AllocError, Global};
 
-/// Writes why files are no project, and how many were handed back.
+/// Writes why the files cannot be loaded, and how many were handed back.
 fn put_unloaded(unloaded: &Unloaded, to: &mut Transcript) {
     to.put("  no project: ");
     if let LoadFault::Parse { index, .. } = &unloaded.fault {
@@ -23,7 +23,7 @@ fn put_unloaded(unloaded: &Unloaded, to: &mut Transcript) {
     to.put("\n");
 }
 
-/// The project that the files are, or none with the reason written.
+/// The project of the files, or none with the reason written.
 pub fn loaded(files: &Files, alloc: Global, to: &mut Transcript) -> Option<Project> {
     let set = files.file_set().ok()?;
     match Project::load(alloc, set) {
@@ -57,7 +57,7 @@ pub fn put_place(files: &FileSet, place: &CallRef, to: &mut Transcript) {
     }
 }
 
-/// A line for each call, and what else it is.
+/// A line for each call, with what else it is.
 fn put_calls(project: &Project, calls: &[CallRef], to: &mut Transcript) {
     for call in calls {
         to.put("  ");
@@ -78,7 +78,7 @@ fn put_found(project: &Project, found: Result<Vec<CallRef>, Refusal>, to: &mut T
     }
 }
 
-/// The targets of the project, as a copy of it tells them.
+/// The targets of the project, as a copy of it reports them.
 pub fn put_targets(files: &Files, alloc: Global, to: &mut Transcript) {
     if let Some(project) = loaded(files, alloc, to) {
         if let Ok(copy) = project.copy(alloc) {
@@ -106,7 +106,7 @@ fn place_of(alloc: Global, words: &str) -> Result<CallRef, AllocError> {
     })
 }
 
-/// Whether a target stands at the place that numbers name.
+/// Whether a target is at the place that numbers name.
 pub fn put_is_target(
     files: &Files,
     alloc: Global,

@@ -8,7 +8,7 @@ use meson_plan::{CallRef, Project, Role, SourceItem, Sources};
 use meson_splice::FileSet;
 use std::alloc::{AllocError, Global};
 
-/// The bytes of a source, where they stand in its file.
+/// The bytes of a source, as they are in its file.
 fn bytes_of_item<'a>(files: &'a FileSet, item: &SourceItem) -> Option<&'a [u8]> {
     if item.file < files.len() {
         files.bytes(item.file).get(item.span.from..item.span.to)
@@ -17,7 +17,7 @@ fn bytes_of_item<'a>(files: &'a FileSet, item: &SourceItem) -> Option<&'a [u8]> 
     }
 }
 
-/// A source: its text, its bytes and where they stand, its list and the variable that was followed to it.
+/// A source: its text, its bytes and their place, its list and the variable that was followed to it.
 fn put_item(files: &FileSet, item: &SourceItem, to: &mut Transcript) {
     to.put("  ");
     to.escape(item.value.get().as_bytes());

@@ -21,7 +21,7 @@ fn no_change(alloc: Global) -> Change {
     Change::untitled(alloc, Many::new(alloc))
 }
 
-/// A splice by its words: the file and the offset, and behind ` :: ` the bytes there and what they become.
+/// A splice by its words: the file and the offset, and after ` :: ` the bytes there and what they become.
 fn splice_of(alloc: Global, words: &str) -> Result<Splice, AllocError> {
     let (place, bytes) = words.split_once(" :: ").unwrap_or((words, ""));
     let (file, at) = place.split_once(' ').unwrap_or((place, ""));
@@ -43,14 +43,14 @@ impl Undoing {
         }
     }
 
-    /// Puts a splice behind those of the change.
+    /// Adds a splice after those of the change.
     pub fn add(&mut self, words: &str) -> Result<(), AllocError> {
         let splice = splice_of(self.alloc, words)?;
         self.change.splices.push(splice)?;
         Ok(())
     }
 
-    /// Puts the change on the past; the next one has no splice yet.
+    /// Adds the change to the past; the next one has no splice yet.
     fn keep(&mut self) -> Result<(), SpliceFault> {
         let change = mem::replace(&mut self.change, no_change(self.alloc));
         match self.history.keep(change) {
@@ -69,7 +69,7 @@ impl Undoing {
         }
     }
 
-    /// Does what the word says to the files, and writes why not, the files that differ then, and how many changes the history has.
+    /// Does what the word says to the files. It writes why not, the files that differ then, and the number of changes in the history.
     pub fn answer(
         &mut self,
         word: &str,

@@ -1,4 +1,4 @@
--- What the words of a subcommand ask for.
+-- The request of the words of a subcommand.
 use Rattle.std.specs.Prelude.{ℕ, Bool, false, true, ◌||◌, ◌==◌, not, List, [], ◌∷◌, codes, bytes_eq, find, map, if◌then◌else◌, Option, Some, None, ok_or, unwrap_or, Result, Ok, Err}
 use Rattle.std.specs.Option.{option_map_or}
 use Rattle.clap.specs.Words.{Row, Text, all_of, first_of}
@@ -28,7 +28,7 @@ use Rattle.meson_json.specs.declared.target.TargetOperation.TheVariants as targe
 
 -- ---- the words that clap found, by what help calls them
 
--- the word, or another one where it was left out
+-- the word, or another one if it was left out
 abbrev pub word_or : Text → Text → List Row → Text
 word_or otherwise name rows = unwrap_or (first_of name rows) otherwise
 
@@ -70,7 +70,7 @@ target_action rows =
 abbrev pub settings : List (Text × Text) → List (Text × Setting)
 settings pairs = map (λ p. (p.0, setting.Text p.1)) pairs
 
--- `info` looks at no pairs
+-- `info` reads no pairs
 unfoldable pub kwargs_by : KwargsOperation → Role → Text → List Text → Result Action UsageFault
 kwargs_by kwargs.Set role id words = then_ok (pairs_of words) (λ pairs. Ok (run (command.KwargsSet role id (settings pairs))))
 kwargs_by kwargs.Delete role id words = then_ok (pairs_of words) (λ pairs. Ok (run (command.KwargsDelete role id (pair_names pairs))))
@@ -103,7 +103,7 @@ options_action rows =
 abbrev pub is_space : ℕ → Bool
 is_space b = b == 32 || b == 9
 
--- the first byte that is no blank is `[` (91) or `{` (123)
+-- the first byte that is not a blank is `[` (91) or `{` (123)
 abbrev pub is_json : Text → Bool
 is_json word = option_map_or (λ b. b == 91 || b == 123) (find (λ b. not (is_space b)) word) false
 
@@ -112,12 +112,12 @@ script_action rows = let word = word_at (codes "JSON") rows in if is_json word t
 
 -- ---- undo [--to N] [--check FILE]
 
--- the number that is given, if one is
+-- the number that is given, if there is one
 abbrev pub count_in : Option Text → Result (Option ℕ) UsageFault
 count_in None = Ok None
 count_in (Some word) = then_ok (ok_or (count_of word) Usage) (λ count. Ok (Some count))
 
--- of so many changes, or of the newest; only where the digests are right, if a file of them is named
+-- of this number of changes, or of the newest; only if the digests are right, if a file of them is named
 abbrev pub undo_of : Option ℕ → Option Text → Action
 undo_of None None = Undo
 undo_of (Some count) None = UndoTo count

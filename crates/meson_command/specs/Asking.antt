@@ -1,4 +1,4 @@
--- What a command line asks for.
+-- The request of a command line.
 use Rattle.std.specs.Prelude.{Bool, false, List, [], ◌∷◌, length, ◌==◌, codes, if◌then◌else◌, Option, None, ok_or, Result, Ok, Err}
 use Rattle.std.specs.Option.{option_map_or}
 use Rattle.clap.specs.Words.{Kinds, Row, Text, fault_of, first_of, matches_of, subcommand_of}
@@ -18,32 +18,32 @@ use Rattle.meson_command.specs.declared.fault.UsageFault.TheVariants.{Usage, Bad
 abbrev pub names_no_folder : Option Text → Bool
 names_no_folder dir = option_map_or (λ d. length d == 0) dir false
 
--- the title that is named, or the empty one
+-- the given title, or the empty one
 abbrev pub title_in : List Row → Text
 title_in rows = word_at (codes "TEXT") rows
 
--- whether what is asked for is shown, and not done
+-- whether the request is shown, and not done
 abbrev pub is_dry : List Row → Bool
 is_dry rows = has_flag (codes "dry-run") rows
 
--- this action, in the folder and of the title that are named
+-- this action, in the given folder and with the given title
 abbrev pub with_title : List Row → Action → Result Asked UsageFault
 with_title rows action =
     if is_title (title_in rows) then Ok (record { dir = first_of (codes "DIR") rows; title = title_in rows; dry_run = is_dry rows; action = action })
     else Err BadTitle
 
--- what is asked by the words before the subcommand, and by its name and words
+-- the request of the words before the subcommand, and of its name and words
 unfoldable pub asked_from : List Row → Option (Text × List Row) → Result Asked UsageFault
 asked_from rows subcommand =
     then_ok (ok_or subcommand Usage) (λ s.
     if names_no_folder (first_of (codes "DIR") rows) then Err Usage else
     then_ok (action_of s.0 s.1) (with_title rows))
 
--- where clap takes the words, of which the first is the program's name
+-- if clap takes the words, of which the first is the program's name
 abbrev pub asked_of : List Text → Result Asked UsageFault
 asked_of words = asked_from (matches_of program words) (subcommand_of program words)
 
--- `--help`, of the text of which nothing is said
+-- `--help`; nothing is said of its text
 abbrev pub help : Asked
 help = record { dir = None; title = []; dry_run = false; action = Help [] }
 
@@ -57,7 +57,7 @@ answer_by DisplayHelp = Ok help
 answer_by DisplayVersion = Ok version
 answer_by _ = Err Usage
 
--- by all that it finds, of which the first counts; it takes the words where it finds none
+-- by all faults that it finds, of which the first counts; it takes the words if it finds none
 abbrev pub answer : Kinds → Result Asked UsageFault → Result Asked UsageFault
 answer [] asked = asked
 answer (kind ∷ kinds) asked = answer_by kind

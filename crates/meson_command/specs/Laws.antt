@@ -28,7 +28,7 @@ OddWordsAreOdd = (words : List Text) → (pairs_of words ≡ Err OddWords) ↔ (
 
 -- ---- help, the version and wrong usage
 
--- help is answered exactly where it is the first fault that clap finds, so never where clap takes the words
+-- help is the answer exactly where it is the first fault that clap finds, so never where clap takes the words
 abbrev pub HelpWhereAsked : Type 0
 HelpWhereAsked = (words : List Text) → (asked_by words ≡ Ok help) ↔ (fault_of program words ≡ DisplayHelp ∷ [])
 
@@ -36,15 +36,15 @@ HelpWhereAsked = (words : List Text) → (asked_by words ≡ Ok help) ↔ (fault
 abbrev pub VersionWhereAsked : Type 0
 VersionWhereAsked = (words : List Text) → (asked_by words ≡ Ok version) ↔ (fault_of program words ≡ DisplayVersion ∷ [])
 
--- the word that is given says no number
+-- the given word is not a number
 abbrev pub IsNoCount : Option Text → Text → Type 0
 IsNoCount given word = (given ≡ Some word) × (count_of word ≡ None)
 
--- a listing as JSON and one of digests are asked for, which are two
+-- a listing as JSON and one of digests are requested, which are two
 abbrev pub AsksForBoth : List Row → Type 0
 AsksForBoth rows = (has_flag (codes "json") rows ≡ true) × (has_flag (codes "sums") rows ≡ true)
 
--- the subcommand's operation, function or number is no such word, or two listings are asked for
+-- the subcommand's operation, function or number is not valid, or two listings are requested
 abbrev pub IsUnknown : Text → List Row → Type 0
 IsUnknown subcommand rows =
     ((subcommand ≡ codes "target") × (operation_of_word (word_at (codes "OPERATION") rows) ≡ None))
@@ -54,8 +54,7 @@ IsUnknown subcommand rows =
     ⊎ (((subcommand ≡ codes "history") × ((word : Text) × (word ≢ codes "all") × IsNoCount (first_of (codes "N") rows) word))
     ⊎ ((subcommand ≡ codes "list") × AsksForBoth rows)))))
 
--- where clap takes the words and the usage is wrong, the folder is empty, a word is unknown or no number, or two listings are
--- asked for
+-- if clap takes the words and the usage is wrong: the folder is empty, a word is unknown or not a number, or two listings are requested
 abbrev pub UsageMeansUnknown : Type 0
 UsageMeansUnknown = (words : List Text) → fault_of program words ≡ [] → asked_by words ≡ Err Usage
     → (names_no_folder (first_of (codes "DIR") (matches_of program words)) ≡ true)

@@ -1,4 +1,4 @@
--- What is told of words that are refused.
+-- What is printed for words that are refused.
 use Rattle.std.specs.Prelude.{ℕ, List, codes}
 use Rattle.meson_command.specs.declared.fault.UsageFault.{UsageFault}
 use Rattle.meson_command.specs.declared.fault.UsageFault.TheVariants.{Usage, OddWords, RepeatedKey, Unsupported, BadTitle, OutOfMemory}

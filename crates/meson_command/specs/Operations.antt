@@ -1,4 +1,4 @@
--- What the command line calls the operations on a target.
+-- The words for the operations on a target on the command line.
 use Rattle.std.specs.Prelude.{ℕ, List, [], ◌∷◌, codes, Option}
 use Rattle.meson_json.specs.Operations.{among}
 use Rattle.meson_json.specs.declared.target.TargetOperation.{TargetOperation}

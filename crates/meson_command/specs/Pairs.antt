@@ -5,7 +5,7 @@ use Rattle.meson_splice.specs.Patch.{then_ok}
 use Rattle.meson_command.specs.declared.fault.UsageFault.{UsageFault}
 use Rattle.meson_command.specs.declared.fault.UsageFault.TheVariants.{OddWords, RepeatedKey}
 
--- two by two, where none is left over
+-- two by two, if none is left over
 abbrev pub in_pairs : List (List ℕ) → Option (List (List ℕ × List ℕ))
 in_pairs [] = Some []
 in_pairs (name ∷ []) = None

@@ -1,11 +1,11 @@
--- The words that the program takes, as clap is told of them.
+-- The words that the program takes, as they are declared to clap.
 use Rattle.std.specs.Prelude.{◌≡◌, ◌∷◌, [], List, true, false, Some, codes, fold}
 use Rattle.clap.specs.Words.{App, Rule, Text, app_of, new_app, new_rule, with_rule, with_subcommand}
 use Rattle.clap.specs.declared.builder.ArgAction.TheVariants as action
 use Rattle.clap.specs.declared.builder.command.Command.{Command}
 use Rattle.clap.specs.declared.builder.command.Command.TheViews.{out-Command}
 
--- a word that has to be there
+-- a required word
 abbrev pub required_word : Text → Rule
 required_word id = record (new_rule id) { required = true; action = Some action.Set }
 
@@ -65,7 +65,7 @@ history = of_words (codes "history") (option (codes "N") (codes "forget") ∷ he
 unfoldable pub list : App
 list = of_words (codes "list") (flag (codes "json") (codes "json") ∷ flag (codes "sums") (codes "sums") ∷ help ∷ [])
 
--- a subcommand has to be there; clap adds no `help` subcommand and no help flag of its own
+-- a subcommand is required; clap adds no `help` subcommand and no help flag of its own
 abbrev pub bare_command : Text → App
 bare_command name = record (new_app name) {
   top = record (new_app name).top { subcommand_required = true; disable_help_flag = true; disable_help_subcommand = true };
@@ -81,6 +81,6 @@ own_words =
 unfoldable pub program : App
 program = fold (λ a s. with_subcommand a s.top) own_words (target ∷ kwargs ∷ default_options ∷ command ∷ undo ∷ redo ∷ history ∷ list ∷ [])
 
--- clap is told this, and no word counts for all subcommands at once
+-- this is declared to clap, and no word counts for all subcommands at once
 abbrev pub IsToldToClap : App → Command → Type 0
 IsToldToClap a c = (app_of c ≡ a) × ((out-Command c).has_globals ≡ false)

@@ -1,4 +1,4 @@
--- Command lines, each with what it asks for.
+-- Command lines, each with its request.
 use Rattle.std.specs.Prelude.{◌≡◌, ℕ, ◌==◌, false, true, List, [], ◌∷◌, ◌++◌, codes, if◌then◌else◌, Some, None, Result, Ok, Err}
 use Rattle.meson_calls.specs.declared.call.Role.TheVariants as role
 use Rattle.meson_steps.specs.declared.command.Command.TheVariants as command
@@ -35,11 +35,11 @@ named title action = Ok (record { dir = None; title = title; dry_run = false; ac
 abbrev shown : Action → Result Asked UsageFault
 shown action = Ok (record { dir = None; title = []; dry_run = true; action = action })
 
--- a line after the program's name asks for this
+-- a line after the program's name has this request
 abbrev asks : List ℕ → Result Asked UsageFault → Type 0
 asks line asked = asked_by (codes "T" ∷ words_in line) ≡ asked
 
--- the same of `undo` behind a title, which may have blanks or be empty
+-- the same for `undo` after a title, which may have blanks or be empty
 abbrev asks_titled : List ℕ → Result Asked UsageFault → Type 0
 asks_titled title asked = asked_by (codes "T" ∷ codes "--title" ∷ title ∷ codes "undo" ∷ []) ≡ asked
 

@@ -1,4 +1,4 @@
-//! What a command line asks for.
+//! The request of a command line.
 
 ghost use Rattle.std.specs.Prelude.{◌≡◌, ◌≢◌, [], Err, IfErr, IfOk, None, Ok, false, true, map, option_map, string_bytes};
 ghost use Rattle.clap.specs.Words.{Row, Text as Word, found_of, rows_of, subcommand_rows_of, takes};
@@ -26,26 +26,26 @@ use std::alloc::Global;
 /// What is to be done.
 #[derive(Drop)]
 pub enum Action {
-    /// Do these commands.
+    /// Run these commands.
     Run(Script),
-    /// List what this command tells of, and change nothing.
+    /// List what this command reports, and change nothing.
     Info(Command),
-    /// Do the commands of this text of JSON.
+    /// Run the commands of this JSON text.
     ScriptText(Text),
-    /// Do the commands in the file of this name; a folder reads `-` from standard input.
+    /// Run the commands in the file of this name; a folder reads `-` from standard input.
     ScriptFile(Text),
     /// Take back the newest change.
     Undo,
-    /// Take back the newest changes, as many as this says: all of them or none.
+    /// Take back this number of the newest changes: all of them or none.
     UndoTo(usize),
-    /// Take back the newest changes, as many as this says, all of them or none, where the files have the digests in the file of this
-    /// name; a folder reads `-` from standard input.
+    /// Take back this number of the newest changes, all of them or none, if the files have the digests in the file of this name. A folder reads `-` from
+    /// standard input.
     UndoChecked { count: usize, sums: Text },
-    /// Do the change again that was taken back last.
+    /// Do again the change that was taken back last.
     Redo,
     /// List what can be taken back and done again, and change nothing.
     History,
-    /// Drop the oldest changes that can be taken back from the log, as many as this says.
+    /// Drop from the log this number of the oldest changes that can be taken back.
     ForgetOldest(usize),
     /// Drop all changes from the log, those that can be done again too.
     ForgetAll,
@@ -59,19 +59,19 @@ pub enum Action {
     Version,
 }
 
-/// What a command line asks for.
+/// The request of a command line.
 #[derive(Drop)]
 pub struct Asked {
-    /// The folder of the root file, where one is named.
+    /// The folder of the root file, if one is named.
     pub dir: Option<Text>,
-    /// What the run is for; empty where nothing is named.
+    /// What the run is for; empty if no title is given.
     pub title: Text,
     /// Whether the change is shown, and not done.
     pub dry_run: bool,
     pub action: Action,
 }
 
-/// What the words of a subcommand that makes no command ask for.
+/// The request of the words of a subcommand that makes no command.
 #[tactic(auto, unfolding(crate::specs::Actions::other_action))]
 fn other_action(
     alloc: Global,
@@ -94,7 +94,7 @@ fn other_action(
     }
 }
 
-/// What the words of a subcommand ask for.
+/// The request of the words of a subcommand.
 #[tactic(auto, unfolding(crate::specs::Actions::action_of))]
 fn action_of(
     alloc: Global,
@@ -129,7 +129,7 @@ fn folder(alloc: Global, dir: Option<&str>) -> Result<Option<Text>, UsageFault>
     }
 }
 
-/// What was read before the title, and the title that is named.
+/// What was read before the title, and the given title.
 fn with_title<T: Drop>(alloc: Global, read: T, word: &str) -> Result<(T, Text), UsageFault>
     ensures read { IfOk result (λ p. p.0 ≡ read) }
     ensures ok { IfOk result (λ p. (is_title p.1 ≡ true) × (p.1 ≡ word.now)) }
@@ -142,7 +142,7 @@ fn with_title<T: Drop>(alloc: Global, read: T, word: &str) -> Result<(T, Text), 
     Ok((read, title))
 }
 
-/// What words that clap took ask for.
+/// The request of words that clap took.
 #[tactic(auto, unfolding(crate::specs::Asking::asked_from))]
 fn asked_from(alloc: Global, matches: &ArgMatches<'_>) -> Result<Asked, UsageFault>
     ensures ok { IfOk result (λ a. asked_from (rows_of (found_of matches.now)) (subcommand_rows_of matches.now) ≡ Ok a) }
@@ -166,7 +166,7 @@ fn asked_from(alloc: Global, matches: &ArgMatches<'_>) -> Result<Asked, UsageFau
     })
 }
 
-/// What is asked for by words that clap answers itself: of no folder, and without a title.
+/// The request of words that clap answers itself: without a folder, and without a title.
 fn shown(alloc: Global, action: Action) -> Asked
     ensures { result ≡ record { dir = None; title = []; dry_run = false; action = action } }
 {
@@ -178,14 +178,13 @@ fn shown(alloc: Global, action: Action) -> Asked
     }
 }
 
-/// What the words of a command line ask for, of which the first is the program's name. They are those of the Rewriter page of
-/// the Meson manual; `undo`, `redo`, `history`, `list`, `--title`, `--dry-run`, `--subdir` and `--type` are this program's own.
-/// Values, ids and names go through as given.
+/// The request of the words of a command line, of which the first is the program's name. They are those of the Rewriter page of the Meson manual; `undo`,
+/// `redo`, `history`, `list`, `--title`, `--dry-run`, `--subdir` and `--type` are this program's own. Values, ids and names are passed on as given.
 ///
 /// # Errors
-/// In this order: a word is missing, unknown or one too many, a number is none, two listings are asked for, or the folder is empty;
-/// in words that are names with values, the last name has no value; a name comes twice; the operation is not done here; the title is
-/// none. And want of memory, at any time.
+/// The first of these faults, in this order. A word is missing, unknown or one too many, a number is not valid, two listings are requested, or the folder is
+/// empty. In words that are names with values, the last name has no value. A name is repeated. The operation is not done here. The title is not valid. And out
+/// of memory, at any time.
 pub fn command_of(alloc: Global, words: &[String]) -> Result<Asked, UsageFault>
     ensures ok { IfOk result (λ a. asked_by (map string_bytes words.now) ≡ Ok (without_text a)) }
     ensures refused { IfErr result (λ e. e ≢ OutOfMemory → asked_by (map string_bytes words.now) ≡ Err e) }

@@ -1,9 +1,9 @@
-//! How many runs, as a word says it.
+//! A number of runs, as a word gives it.
 
 ghost use Rattle.std.specs.Prelude.{◌≡◌};
 ghost use Rattle.meson_command.specs.Counts.{count_of};
 
-/// The number, from 1 to `usize::MAX`, that a word of decimal digits writes; zeros may stand in front, and nothing else.
+/// The number, from 1 to `usize::MAX`, that a word of decimal digits writes. Leading zeros are allowed, and nothing else.
 pub(crate) fn count_of(word: &str) -> Option<usize>
     ensures { result ≡ count_of word.now }
 {

@@ -8,7 +8,7 @@ use std::fmt;
 /// Why the words of a command line are refused.
 #[derive(Debug, Drop)]
 pub enum UsageFault {
-    /// A word is missing, one too many or unknown, a number is none, two listings are asked for, or the folder is empty.
+    /// A word is missing, one too many or unknown, a number is not valid, two listings are requested, or the folder is empty.
     Usage,
     /// The last name has no value.
     OddWords,
@@ -16,9 +16,9 @@ pub enum UsageFault {
     RepeatedKey,
     /// The operation is known, but not done here.
     Unsupported,
-    /// The text is no title.
+    /// The text is not a valid title.
     BadTitle,
-    /// A growth was refused.
+    /// An allocation failed.
     OutOfMemory,
 }
 
@@ -53,7 +53,7 @@ impl From<AllocError> for UsageFault {
     }
 }
 
-// A script that words ask for is refused for want of memory alone. Any other fault would be one of the words.
+// A script from the words of a command line is refused only when out of memory. Any other fault would be one of the words.
 impl From<ScriptFault> for UsageFault {
     ghost use Rattle.std.specs.Prelude.{◌≡◌, ◌↔◌};
     ghost use Rattle.meson_command.specs.declared.fault.UsageFault.TheVariants.{OutOfMemory};

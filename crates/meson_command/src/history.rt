@@ -13,7 +13,7 @@ use clap::ArgMatches;
 use meson_json::owned;
 use std::alloc::{AllocError, Global};
 
-/// The number that a word says, where one is given.
+/// The number that a word gives, if there is one.
 fn count_in(word: Option<&str>) -> Result<Option<usize>, UsageFault>
     ensures { result ≡ count_in (option_map (λ w. w.now) word.entry) }
 {
@@ -26,7 +26,7 @@ fn count_in(word: Option<&str>) -> Result<Option<usize>, UsageFault>
     }
 }
 
-/// What is undone: so many changes, and by which file of digests.
+/// What is undone: the number of changes, and by which file of digests.
 fn undo_of(alloc: Global, count: Option<usize>, check: Option<&str>) -> Result<Action, AllocError>
     ensures { IfOk result (λ a. a ≡ undo_of count (option_map (λ w. w.now) check.entry)) }
 {
@@ -56,7 +56,7 @@ fn history_by(word: Option<&str>) -> Result<Action, UsageFault>
     }
 }
 
-/// What is listed, where the two flags are there or not.
+/// What is listed, depending on whether the two flags are there.
 fn list_by(json: bool, sums: bool) -> Result<Action, UsageFault>
     ensures { result ≡ list_by json sums }
 {
@@ -67,10 +67,10 @@ fn list_by(json: bool, sums: bool) -> Result<Action, UsageFault>
     }
 }
 
-/// What the words of `undo` ask for.
+/// The request of the words of `undo`.
 ///
 /// # Errors
-/// The word of `--to` is no number from 1.
+/// The word of `--to` is not a number from 1.
 pub(crate) fn undo_action(alloc: Global, matches: &ArgMatches<'_>) -> Result<Action, UsageFault>
     ensures ok { IfOk result (λ a. undo_action (rows_of (found_of matches.now)) ≡ Ok a) }
     ensures refused { IfErr result (λ e. e ≢ OutOfMemory → undo_action (rows_of (found_of matches.now)) ≡ Err e) }
@@ -80,7 +80,7 @@ pub(crate) fn undo_action(alloc: Global, matches: &ArgMatches<'_>) -> Result<Act
     Ok(action)
 }
 
-/// What the words of `history` ask for.
+/// The request of the words of `history`.
 ///
 /// # Errors
 /// The word of `--forget` is neither `all` nor a number from 1.
@@ -91,7 +91,7 @@ pub(crate) fn history_action(matches: &ArgMatches<'_>) -> Result<Action, UsageFa
     history_by(matches.get_str("N"))
 }
 
-/// What the words of `list` ask for.
+/// The request of the words of `list`.
 ///
 /// # Errors
 /// Both flags are there.

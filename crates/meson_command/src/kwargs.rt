@@ -28,7 +28,7 @@ fn settings(alloc: Global, pairs: Vec<(Text, Text)>) -> Result<Many<(Text, Setti
     Ok(Many::of(all))
 }
 
-/// What the operation makes of the words; `info` looks at no pairs.
+/// What the operation makes of the words; `info` reads no pairs.
 #[tactic(auto, unfolding(crate::specs::Actions::kwargs_by))]
 fn kwargs_by(
     alloc: Global,
@@ -72,7 +72,7 @@ fn kwargs_by(
     run(alloc, command)
 }
 
-/// What the words of `kwargs` ask for.
+/// The request of the words of `kwargs`.
 ///
 /// # Errors
 /// The operation or the function is unknown; the last key has no value; a key is repeated; the operation is not done here.

@@ -3,7 +3,7 @@
 ghost use Rattle.meson_command.specs.Laws.{HelpWhereAsked, OddWordsAreOdd, PairsAreTheWords, UsageMeansUnknown, VersionWhereAsked};
 ghost use Rattle.meson_command.specs.Rows.{Done, Other, Refused, Shown, Titled};
 
-/// What some command lines ask for.
+/// The requests of some command lines.
 pub fn rows()
     ensures done { Done }
     ensures titled { Titled }
@@ -12,20 +12,20 @@ pub fn rows()
     ensures refused { Refused }
 {}
 
-/// Names with values are the words two by two where no name comes twice; an odd number of words is refused.
+/// Names with values are the words two by two, if no name is repeated. An odd number of words is refused.
 pub fn pairs_are_the_words()
     ensures pairs { PairsAreTheWords }
     ensures odd { OddWordsAreOdd }
 {}
 
-/// Help is answered exactly where clap is asked for it, and the version too.
+/// Help is the answer exactly where the words request it from clap, and so is the version.
 pub fn help_where_asked()
     ensures help { HelpWhereAsked }
     ensures version { VersionWhereAsked }
 {}
 
-/// Words that clap takes are wrong usage only where the folder is empty, an operation or a function is unknown, a number is none,
-/// or two listings are asked for.
+/// Words that clap takes are wrong usage only in these cases: the folder is empty, an operation or a function is unknown, a number is not valid, or two
+/// listings are requested.
 pub fn usage_means_unknown()
     ensures { UsageMeansUnknown }
 {}

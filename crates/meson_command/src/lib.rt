@@ -1,4 +1,4 @@
-//! The command line: which words the program takes, and what they ask for.
+//! The command line: which words the program takes, and what they request.
 #![tactic(auto)]
 
 mod asked;

@@ -1,4 +1,4 @@
-//! What the command line calls the operations on a target. The other words are those of scripts too.
+//! The words for the operations on a target on the command line. The other words are those of scripts too.
 
 ghost use Rattle.std.specs.Prelude.{◌≡◌};
 ghost use Rattle.meson_command.specs.Operations.{operation_of_word};

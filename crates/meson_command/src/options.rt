@@ -15,7 +15,7 @@ use meson_splice::Many;
 use meson_steps::command::Command;
 use std::alloc::Global;
 
-/// What the words of `default-options` ask for.
+/// The request of the words of `default-options`.
 ///
 /// # Errors
 /// The operation is unknown; the last option has no value; an option is repeated.

@@ -13,7 +13,7 @@ use meson_json::owned;
 use meson_splice::{Many, Text};
 use std::alloc::{AllocError, Global};
 
-/// The words two by two, or none where the last one is left over.
+/// The words two by two, or none if the last one is left over.
 fn in_pairs(alloc: Global, words: &[&str]) -> Result<Option<Vec<(Text, Text)>>, AllocError>
     ensures { IfOk result (λ o. option_map (λ v. v.items) o ≡ in_pairs (map (λ w. w.now) words.now)) }
 {

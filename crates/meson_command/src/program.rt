@@ -1,4 +1,4 @@
-//! The words that the program takes, as clap is told of them.
+//! The words that the program takes, as they are declared to clap.
 
 ghost use Rattle.std.specs.Prelude.{◌≡◌, IfOk, false};
 ghost use Rattle.clap.specs.Words.{App, app_of, new_app, rule_of, with_rule, with_subcommand};
@@ -8,14 +8,14 @@ use crate::help;
 use clap::{Arg, ArgAction, Command};
 use std::alloc::{AllocError, Global};
 
-/// A command, with what help says of it and below its words.
+/// A command, with its description and the text below its words.
 fn described<'h>(alloc: Global, name: &'h str, about: &'h str, below: &'h str) -> Command<'h>
     ensures { IsToldToClap (new_app name.entry.now) result }
 {
     Command::new(alloc, name).about(about).after_help(below)
 }
 
-/// With an argument, if there is a command: nothing else asks whether memory was refused on the way.
+/// With an argument, if there is a command: only here it is checked whether an allocation failed before.
 fn with_arg<'h>(
     command: Result<Command<'h>, AllocError>,
     arg: Arg<'h>,
@@ -26,7 +26,7 @@ fn with_arg<'h>(
     command?.arg(arg)
 }
 
-/// With a word that has to be there.
+/// With a required word.
 fn with_one<'h>(
     alloc: Global,
     command: Result<Command<'h>, AllocError>,
@@ -88,7 +88,7 @@ fn with_help<'h>(
     ensures { (a : App) → IfOk command.entry (IsToldToClap a) → IfOk result (IsToldToClap (with_rule a help)) }
 {
     let arg = Arg::new(alloc, "help").long("help").action(ArgAction::Help);
-    with_arg(command, arg.help("Print this"))
+    with_arg(command, arg.help("Print this help"))
 }
 
 /// With `--version`.
@@ -110,7 +110,7 @@ fn target<'h>(alloc: Global) -> Result<Command<'h>, AllocError>
 {
     let command = Ok(described(alloc, "target", help::TARGET, help::BELOW_TARGET));
     let command = with_one(alloc, command, "ID", "Name of the target, or its variable");
-    let command = with_one(alloc, command, "OPERATION", "What is done, see below");
+    let command = with_one(alloc, command, "OPERATION", "What to do, see Operations");
     let command = with_many(alloc, command, "SOURCE", "Names of sources or extra files");
     let command = with_option(alloc, command, "SUBDIR", "subdir", help::SUBDIR);
     let command = with_option(alloc, command, "KIND", "type", help::KIND);
@@ -121,7 +121,7 @@ fn kwargs<'h>(alloc: Global) -> Result<Command<'h>, AllocError>
     ensures { IfOk result (IsToldToClap kwargs) }
 {
     let command = Ok(described(alloc, "kwargs", help::KWARGS, help::BELOW_KWARGS));
-    let command = with_one(alloc, command, "OPERATION", "What is done, see below");
+    let command = with_one(alloc, command, "OPERATION", "What to do, see Operations");
     let command = with_one(
         alloc,
         command,
@@ -132,7 +132,7 @@ fn kwargs<'h>(alloc: Global) -> Result<Command<'h>, AllocError>
         alloc,
         command,
         "ID",
-        "Name of the target or dependency, or /",
+        "Name of the target or dependency, or / for the project",
     );
     let command = with_many(alloc, command, "KEY VALUE", "Keys, each with its value");
     with_help(alloc, command)
@@ -148,7 +148,7 @@ fn default_options<'h>(alloc: Global) -> Result<Command<'h>, AllocError>
         help::DEFAULT_OPTIONS,
         help::BELOW_DEFAULT_OPTIONS,
     ));
-    let command = with_one(alloc, command, "OPERATION", "What is done, see below");
+    let command = with_one(alloc, command, "OPERATION", "What to do, see Operations");
     let command = with_many(
         alloc,
         command,
@@ -163,7 +163,12 @@ fn command<'h>(alloc: Global) -> Result<Command<'h>, AllocError>
     ensures { IfOk result (IsToldToClap command) }
 {
     let command = Ok(described(alloc, "command", help::COMMAND, help::BELOW_COMMAND));
-    let command = with_one(alloc, command, "JSON", "Script, or name of its file, or -");
+    let command = with_one(
+        alloc,
+        command,
+        "JSON",
+        "Script, or name of its file, or - for standard input",
+    );
     with_help(alloc, command)
 }
 
@@ -245,7 +250,7 @@ fn program<'h>(alloc: Global) -> Result<Command<'h>, AllocError>
     with_subcommand(program, list(alloc))
 }
 
-/// The same, by its own name in help, whatever it was called by.
+/// The same, with its own name in help, whatever name it was called by.
 pub(crate) fn named_program<'h>(alloc: Global) -> Result<Command<'h>, AllocError>
     ensures { IfOk result (λ c. app_of c ≡ program) }
 {

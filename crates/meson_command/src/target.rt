@@ -14,7 +14,7 @@ use meson_json::owned;
 use meson_json::target::{TargetMembers, TargetOperation, target_command};
 use std::alloc::{AllocError, Global};
 
-/// The words behind the operation.
+/// The words after the operation.
 fn target_words(alloc: Global, matches: &ArgMatches<'_>) -> Result<TargetMembers, AllocError>
     ensures { IfOk result (λ w. w ≡ target_words (rows_of (found_of matches.now))) }
 {
@@ -42,7 +42,7 @@ fn target_by(
     }
 }
 
-/// What the words of `target` ask for.
+/// The request of the words of `target`.
 ///
 /// # Errors
 /// The operation is unknown.

@@ -1,4 +1,4 @@
-//! The words that clap found, by what help calls them.
+//! The words that clap found, by their names in help.
 
 ghost use Rattle.std.specs.Prelude.{◌≡◌, ◌∷◌, [], IfErr, IfOk, map};
 ghost use Rattle.clap.specs.Words.{found_of, rows_of};
@@ -13,7 +13,7 @@ use meson_splice::{Many, Text};
 use meson_steps::command::Command;
 use std::alloc::{AllocError, Global};
 
-/// The word, or another one where it was left out.
+/// The word, or another one if it was left out.
 pub(crate) fn word_or<'w>(matches: &ArgMatches<'w>, name: &str, otherwise: &'w str) -> &'w str
     ensures { result.now ≡ word_or otherwise.entry.now name.now (rows_of (found_of matches.now)) }
 {

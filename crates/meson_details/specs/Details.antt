@@ -1,4 +1,4 @@
--- What is told of a call: its head, and its keyword arguments that commands change. Meson manual, Rewriter.
+-- What is reported of a call: its head, and its keyword arguments that commands change. Meson manual, Rewriter.
 use Rattle.std.specs.Prelude.{ℕ, Bool, List, [], ◌∷◌, if◌then◌else◌, Option, Some, None, is_some, option_map, option_and_then, Result, Ok}
 use Rattle.std.specs.List.{filter_map}
 use Rattle.std.specs.Option.{option_map_or}
@@ -36,7 +36,7 @@ is_call p c = is_some (call_at p c)
 abbrev pub is_hidden : {S : Type 0} → Call S → Bool
 is_hidden c = is_some (first_of (keyword kwargs_key c))
 
--- the offset of the first byte, the function, whether arguments are hidden, and the text of the first argument without a name, if that is a literal
+-- The offset of the first byte, the function, and whether arguments are hidden. And the text of the first argument without a name, if that is a literal.
 abbrev pub head_of : Expression Span → Option Head
 head_of (call s f l) = Some (record { at = s.from; function = f.text; hidden = is_hidden (call_with f.text l); name = first_literal (call_with f.text l) })
 head_of _ = None
@@ -46,7 +46,7 @@ head p c = option_and_then head_of (expression_at p c)
 
 -- ---- the value of a keyword argument
 
--- what f gives of each, where it gives something of all
+-- what f gives for each, if it gives something for all
 abbrev pub of_each : {X Y : Type 0} → (X → Option Y) → List X → Option (List Y)
 of_each f [] = Some []
 of_each f (x ∷ xs) = option_and_then (λ y. option_map (λ ys. y ∷ ys) (of_each f xs)) (f x)
@@ -57,7 +57,7 @@ literal_in x = option_and_then literal_of (value_without_name x)
 abbrev pub variable_in : {S : Type 0} → Argument S → Option (List ℕ)
 variable_in x = option_and_then name_of (value_without_name x)
 
--- all else is told by its source text
+-- all else is reported by its source text
 abbrev pub shown_list : List ℕ → Option (List (List ℕ)) → Option (List (List ℕ)) → Shown
 shown_list source texts names = option_map_or shown.Texts texts (option_map_or shown.Ids names (shown.Opaque source))
 
@@ -65,8 +65,8 @@ shown_list source texts names = option_map_or shown.Texts texts (option_map_or s
 abbrev pub source_text : List ℕ → Expression Span → List ℕ
 source_text source e = text_at source (expression_span e)
 
--- A literal is its text, `true` and `false` are themselves, a variable is its name. An array is the list of these where it holds literals alone, or
--- variables alone; an empty one is a list of texts.
+-- A literal is its text, `true` and `false` are themselves, a variable is its name. An array is the list of these if it holds literals alone, or variables
+-- alone; an empty one is a list of texts.
 abbrev pub shown_value : List ℕ → Expression Span → Shown
 shown_value source (identifier s x) = shown.Id x
 shown_value source (boolean s b) = shown.Bool b
@@ -80,7 +80,7 @@ abbrev pub shown_argument : List ℕ → Role → Argument Span → Option (List
 shown_argument source r (named s x e) = if is_key r x.text then Some (x.text, shown_value source e) else None
 shown_argument source r _ = None
 
--- those that commands change, in the call's order, each of which may be there once only
+-- those that commands change, in the call's order; each may be there once only
 abbrev pub keywords_of_call : List ℕ → Role → Call Span → Result (List (List ℕ × Shown)) Refusal
 keywords_of_call source r c = then_ok (call_told r c) (λ _. Ok (filter_map (shown_argument source r) (elements c.arguments)))
 

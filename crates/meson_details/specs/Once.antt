@@ -1,4 +1,4 @@
--- What may be there once only among the keyword arguments of a call that is told of.
+-- What may be there once only among the keyword arguments of a call that is reported.
 use Rattle.std.specs.Prelude.{ℕ, List, [], ◌∷◌, if◌then◌else◌, Option, Some, None, Result, Ok}
 use Rattle.std.specs.List.{filter_map}
 use Rattle.meson_splice.specs.Patch.{then_ok}

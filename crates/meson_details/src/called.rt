@@ -19,7 +19,7 @@ use meson_lex::Span;
 use meson_splice::FileSet;
 use meson_syntax::{Bracket, Expr, List, Parsed};
 
-/// A call in its source: where it stands, the name of its function, and its arguments.
+/// A call in its source: its place, the name of its function, and its arguments.
 #[derive(Clone, Copy)]
 pub struct Called<'t> {
     pub source: &'t [u8],

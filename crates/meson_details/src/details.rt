@@ -1,4 +1,4 @@
-//! What is told of a call.
+//! What is reported of a call.
 
 use meson_splice::{Many, Text};
 
@@ -11,7 +11,7 @@ pub struct Head {
     pub function: Text,
     /// Whether it has a `kwargs:` argument, which may hold any keyword.
     pub hidden: bool,
-    /// The text of its first argument without a name, where that is a literal.
+    /// The text of its first argument without a name, if that is a literal.
     pub name: Option<Text>,
 }
 
@@ -24,7 +24,7 @@ pub enum Shown {
     Bool(bool),
     /// A variable, by its name.
     Id(Text),
-    /// An array that holds literals alone, and one that holds nothing.
+    /// An array that holds literals alone, and one that is empty.
     Texts(Many<Text>),
     /// An array that holds variables alone.
     Ids(Many<Text>),

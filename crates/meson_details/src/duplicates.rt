@@ -1,4 +1,4 @@
-//! Keyword arguments that are told of may be there once only.
+//! Keyword arguments that are reported may be there once only.
 
 ghost use Rattle.std.specs.Prelude.{◌≡◌, IfOk, Ok, option_map};
 ghost use Rattle.meson_syntax.specs.View.{arg_view, list_view};
@@ -32,10 +32,10 @@ fn name_of<'s>(source: &'s [u8], arg: &Arg) -> Option<&'s [u8]>
     }
 }
 
-/// Refuses a call that has a keyword argument twice that commands change.
+/// Refuses a call in which a keyword argument that commands change is there twice.
 ///
 /// # Errors
-/// It has, or memory is refused.
+/// It is, or out of memory.
 fn key_told(
     alloc: Global,
     source: &[u8],
@@ -53,10 +53,10 @@ fn key_told(
     }
 }
 
-/// Refuses a call that has any keyword argument twice that commands change.
+/// Refuses a call in which any keyword argument that commands change is there twice.
 ///
 /// # Errors
-/// It has, the first such in its order, or memory is refused.
+/// One is, the first such in the call's order; or out of memory.
 pub fn call_told(alloc: Global, source: &[u8], arguments: &List, role: Role) -> Result<(), Refusal>
     ensures told { (function : Source) → IfOk result (λ u. call_told role (call_with function (list_view source.now arguments.now)) ≡ Ok u) }
     ensures refused { (function : Source) → RefusedAs result (call_told role (call_with function (list_view source.now arguments.now))) }

@@ -1,4 +1,4 @@
-//! What is told of a call: its head, and the values of its keyword arguments.
+//! What is reported of a call: its head, and the values of its keyword arguments.
 #![tactic(auto)]
 
 pub mod called;

@@ -55,7 +55,7 @@ fn name_of(alloc: Global, source: &[u8], arguments: &List) -> Result<Option<Text
     }
 }
 
-/// What is told of a call before its arguments.
+/// What is reported of a call before its arguments.
 pub fn head_of(alloc: Global, called: Called<'_>) -> Result<Head, AllocError>
     requires named { IsIdentifier (text_at called.source.now called.name) }
     requires words { AreGood (listing_words (list_view called.source.now called.arguments.now) Bracket.Round) }
@@ -98,7 +98,7 @@ fn variable_in(alloc: Global, source: &[u8], element: &Arg) -> Result<Option<Tex
     }
 }
 
-/// The texts of elements that are literals alone.
+/// The texts of elements, if all are literals.
 fn literals_in(
     alloc: Global,
     source: &[u8],
@@ -117,7 +117,7 @@ fn literals_in(
     Ok(Some(Many::of(texts)))
 }
 
-/// The names of elements that are variables alone.
+/// The names of elements, if all are variables.
 fn variables_in(
     alloc: Global,
     source: &[u8],
@@ -235,7 +235,7 @@ fn shown_arguments(
 /// The keyword arguments of a call that commands change, in its order.
 ///
 /// # Errors
-/// One of them is there twice, the first such in its order, or memory is refused.
+/// One of them is there twice, the first such in its order, or out of memory.
 pub fn keywords_of(
     alloc: Global,
     role: Role,

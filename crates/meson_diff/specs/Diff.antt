@@ -7,7 +7,7 @@ use Rattle.meson_diff.specs.Changes.{AreChanges}
 use Rattle.meson_diff.specs.Hunks.{hunks_text}
 use Rattle.meson_diff.specs.declared.entry.Entry.{Entry}
 
--- behind a name that has a space stands a tab
+-- after a name that has a space there is a tab
 abbrev pub name_end : List ℕ → List ℕ
 name_end name = if list_any (λ b. b == 32) name then codes "\t" else []
 
@@ -23,7 +23,7 @@ pub record IsPrinted (name old new text : List ℕ) : Type 0 where
   pub changes : AreChanges entries
   pub printed : text ≡ file_head name ++ hunks_text entries
 
--- nothing where the two texts are one
+-- nothing if the two texts are the same
 abbrev pub IsFileDiff : List ℕ → List ℕ → List ℕ → List ℕ → Type 0
 IsFileDiff name old new text = ((old ≡ new) × (text ≡ [])) ⊎ ((old ≢ new) × IsPrinted name old new text)
 

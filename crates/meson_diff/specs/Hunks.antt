@@ -9,7 +9,7 @@ use Rattle.meson_diff.specs.declared.entry.Mark.TheVariants.{Kept, Gone, Come}
 
 -- ---- which entries they show
 
--- an entry is shown where it is changed, or one of the three before it or of the three behind it
+-- an entry is shown if it is changed, or one of the three before it or of the three after it is
 abbrev pub is_shown : List Entry → ℕ → Bool
 is_shown entries i = list_any (λ e. is_changed e.mark) (slice_range entries (i - 3) (i + 1 + 3))
 
@@ -17,7 +17,7 @@ is_shown entries i = list_any (λ e. is_changed e.mark) (slice_range entries (i 
 abbrev pub begins_hunk : List Entry → ℕ → Bool
 begins_hunk entries i = is_shown entries i && (i == 0 || not (is_shown entries (i - 1)))
 
--- how many of the `left` entries from entry i on are shown, up to the first that is not
+-- the number of the `left` entries from entry i on that are shown, up to the first that is not
 abbrev pub shown_len : List Entry → ℕ → ℕ → ℕ
 shown_len entries i zero = 0
 shown_len entries i (suc left) = if is_shown entries i then 1 + shown_len entries (i + 1) left else 0
@@ -33,30 +33,30 @@ mark_byte Kept = 32
 mark_byte Gone = 45
 mark_byte Come = 43
 
--- where a line has no line end, that is told behind it
+-- if a line has no line end, that is said after it
 abbrev pub missing_end : List ℕ → List ℕ
 missing_end line = if is_ended line then [] else codes "\n\\ No newline at end of file\n"
 
--- a line behind its mark
+-- a line after its mark
 abbrev pub entry_text : Entry → List ℕ
 entry_text e = mark_byte e.mark ∷ (e.line ++ missing_end e.line)
 
--- the number of the first of so many lines, where so many stand before them; of no lines, that of the line before them
+-- the number of the first of `count` lines, if `before` lines are before them; for no lines, that of the line before them
 abbrev pub first_line : ℕ → ℕ → ℕ
 first_line before count = if count == 0 then before else before + 1
 
--- the first line of a hunk that has so many lines of each text, where so many stand before them
+-- the first line of a hunk that has these numbers of lines of each text, with these numbers of lines before them
 abbrev pub head_text : ℕ → ℕ → ℕ → ℕ → List ℕ
 head_text old_before old_count new_before new_count =
     codes "@@ -" ++ (decimal (first_line old_before old_count) ++ (codes "," ++ (decimal old_count
     ++ (codes " +" ++ (decimal (first_line new_before new_count) ++ (codes "," ++ (decimal new_count ++ codes " @@\n")))))))
 
--- a hunk behind these entries
+-- a hunk after these entries
 abbrev pub hunk_text : List Entry → List Entry → List ℕ
 hunk_text before hunk =
     head_text (length (old_lines before)) (length (old_lines hunk)) (length (new_lines before)) (length (new_lines hunk)) ++ flat_map entry_text hunk
 
--- the hunk that begins with entry i, where one does
+-- the hunk that begins with entry i, if there is one
 abbrev pub hunk_text_at : List Entry → ℕ → List ℕ
 hunk_text_at entries i = if begins_hunk entries i then hunk_text (take i entries) (hunk_at entries i) else []
 

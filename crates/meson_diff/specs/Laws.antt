@@ -20,17 +20,17 @@ pub data AreLines : List (List ℕ) → Type 0 where
 abbrev pub LinesAreTheText : Type 0
 LinesAreTheText = (text : List ℕ) → AreLines (lines text) × (concat (lines text) ≡ text)
 
--- the lines that are kept or go are the old text, those that are kept or come the new one
+-- the lines that are kept or removed are the old text, those that are kept or added the new one
 abbrev pub TextsAreReadOff : Type 0
 TextsAreReadOff = (old new : List ℕ) (entries : List Entry) → IsAlignment old new entries
     → (concat (old_lines entries) ≡ old) × (concat (new_lines entries) ≡ new)
 
--- no line that comes stands directly before one that goes
+-- no added line is directly before a removed one
 abbrev pub GoneBeforeCome : Type 0
 GoneBeforeCome = (before behind : List Entry) (first second : Entry) → AreChanges (before ++ (first ∷ second ∷ behind))
     → first.mark ≡ Come → second.mark ≡ Gone → ⊥
 
--- a diff of files of the same names is empty exactly where no file differs
+-- a diff of files of the same names is empty exactly if no file differs
 abbrev pub EmptyMeansEqual : Type 0
 EmptyMeansEqual = (old new : List File) (text : List ℕ) → map (λ f. f.name) old ≡ map (λ f. f.name) new → IsDiff old new text
     → (text ≡ []) ↔ (old ≡ new)
@@ -45,7 +45,7 @@ HunksAreRuns = (entries : List Entry) (i : ℕ) → i < length entries → begin
 abbrev pub HiddenAreKept : Type 0
 HiddenAreKept = (entries : List Entry) (i : ℕ) (d : Entry) → i < length entries → is_shown entries i ≡ false → (get_or entries i d).mark ≡ Kept
 
--- the hunk that begins with entry i, or the entry itself where it is not shown
+-- the hunk that begins with entry i, or the entry itself if it is not shown
 abbrev pub piece : List Entry → ℕ → List Entry
 piece entries i = if begins_hunk entries i then hunk_at entries i else (if is_shown entries i then [] else slice_range entries i (i + 1))
 

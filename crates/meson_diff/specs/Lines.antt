@@ -7,7 +7,7 @@ abbrev pub lines : List ℕ → List (List ℕ)
 lines [] = []
 lines (b ∷ text) = if b == 10 then (b ∷ []) ∷ lines text else onto_first b (lines text)
 
--- how many bytes the first line has
+-- the number of bytes of the first line
 abbrev pub line_len : List ℕ → ℕ
 line_len text = min (position_or_len (λ b. b == 10) text + 1) (length text)
 

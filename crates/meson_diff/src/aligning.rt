@@ -1,24 +1,24 @@
 //! The alignment of two texts: which lines are kept.
 
 ghost use Rattle.std.specs.Prelude.{◌≡◌, ◌+◌, ◌++◌, ◌-◌, ◌<◌, ◌≤◌, IfNone, IfOk, IfSome, OnOk, drop, false, length, take, true};
-ghost use Rattle.meson_diff.specs.Alignment.{GoOn, IsMeeting, KeepsEnds, KeepsNearest, NoneNearer, NoneOfBoth, new_lines, old_lines};
+ghost use Rattle.meson_diff.specs.Alignment.{GoOn, IsAlignment, IsMeeting, KeepsEnds, KeepsNearest, NoneNearer, NoneOfBoth, new_lines, old_lines};
 ghost use Rattle.meson_diff.specs.Changes.{AreChanges};
 
 use crate::entry::{Entry, Mark, push_all};
-use crate::line::Line;
+use crate::line::{Line, lines};
 use std::alloc::{AllocError, Global};
 
-/// How many lines of each text may stand before the one that both go on with.
+/// The largest number of lines of each text that may be before the one with which both continue.
 const REACH: usize = 64;
 
-/// How many lines go and how many come before both texts go on with one line.
+/// The number of removed and of added lines before both texts continue with one line.
 #[derive(Drop)]
 struct Meeting {
     gone: usize,
     come: usize,
 }
 
-/// Whether both texts go on with one line behind so many lines each.
+/// Whether both texts continue with the same line after this number of lines of each.
 fn is_meeting(old: &[Line<'_>], new: &[Line<'_>], gone: usize, come: usize) -> bool
     ensures found { result ≡ true → IsMeeting old.now new.now gone come }
     ensures apart { result ≡ false → IsMeeting old.now new.now gone come → ⊥ }
@@ -26,7 +26,7 @@ fn is_meeting(old: &[Line<'_>], new: &[Line<'_>], gone: usize, come: usize) -> b
     gone < old.len() && come < new.len() && old[gone].text() == new[come].text()
 }
 
-/// The nearest place where both texts go on with one line: that with the fewest lines in between.
+/// The nearest place where both texts continue with one line: the one with the fewest lines in between.
 fn next_meeting(old: &[Line<'_>], new: &[Line<'_>]) -> Option<Meeting>
     ensures found { IfSome result (λ m. IsMeeting old.now new.now m.gone m.come) }
     ensures nearest { IfSome result (λ m. NoneNearer old.now new.now (m.gone + m.come)) }
@@ -43,7 +43,7 @@ fn next_meeting(old: &[Line<'_>], new: &[Line<'_>]) -> Option<Meeting>
     None
 }
 
-/// With how many lines both texts end.
+/// The number of lines that both texts end with.
 fn common_tail(old: &[Line<'_>], new: &[Line<'_>]) -> usize
     ensures in_old { result ≤ length old.now }
     ensures in_new { result ≤ length new.now }
@@ -60,7 +60,7 @@ fn common_tail(old: &[Line<'_>], new: &[Line<'_>]) -> usize
     most
 }
 
-/// With how many lines both texts begin.
+/// The number of lines that both texts begin with.
 fn common_head(old: &[Line<'_>], new: &[Line<'_>]) -> usize
     ensures in_old { result ≤ length old.now }
     ensures in_new { result ≤ length new.now }
@@ -76,7 +76,7 @@ fn common_head(old: &[Line<'_>], new: &[Line<'_>]) -> usize
     most
 }
 
-/// Adds the lines that go and those that come before both texts go on with one line, and that line.
+/// Adds the removed and the added lines before both texts continue with one line, and that line.
 fn push_meeting<'a>(
     entries: &mut Vec<Entry<'a>>,
     old: &[Line<'a>],
@@ -95,7 +95,7 @@ fn push_meeting<'a>(
     Ok(())
 }
 
-/// The lines behind one of them.
+/// The lines after one of them.
 fn behind<'s, 'a>(lines: &'s [Line<'a>], at: usize) -> &'s [Line<'a>]
     requires { at < length lines.now }
     ensures { result.now ≡ drop (at + 1) lines.entry.now }
@@ -103,7 +103,7 @@ fn behind<'s, 'a>(lines: &'s [Line<'a>], at: usize) -> &'s [Line<'a>]
     &lines[at + 1..]
 }
 
-/// Adds the entries of two texts, each line by the nearest equal one; where none is near, the rest goes and comes.
+/// Adds the entries of two texts, each line matched with the nearest equal one. If none is near, the rest is removed and added.
 fn push_between<'a>(
     entries: &mut Vec<Entry<'a>>,
     old: &[Line<'a>],
@@ -125,9 +125,9 @@ fn push_between<'a>(
     Ok(())
 }
 
-/// The entries of two texts: the lines that both end with are kept, before them those that both begin with, and of what
-/// stands between these the lines that are found again.
-pub(crate) fn aligned<'a>(
+/// The entries of two texts. Lines that both end with are kept, and so are lines before them that both begin with. Between these, the lines that are found
+/// again are kept.
+fn aligned<'a>(
     alloc: Global,
     old: &[Line<'a>],
     new: &[Line<'a>],
@@ -150,4 +150,18 @@ pub(crate) fn aligned<'a>(
     entries.append(&mut between)?;
     push_all(&mut entries, Mark::Kept, end)?;
     Ok(entries)
+}
+
+/// Aligns the lines of two texts: each line of both, in order, and whether it is kept, goes or comes.
+///
+/// # Errors
+/// Out of memory.
+pub fn align<'a>(alloc: Global, old: &'a [u8], new: &'a [u8]) -> Result<Vec<Entry<'a>>, AllocError>
+    ensures aligned { IfOk result (λ v. IsAlignment old.entry.now new.entry.now v.items) }
+    ensures ends { IfOk result (λ v. KeepsEnds v.items) }
+    ensures changes { IfOk result (λ v. AreChanges v.items) }
+{
+    let old_lines = lines(alloc, old)?;
+    let new_lines = lines(alloc, new)?;
+    aligned(alloc, old_lines.as_slice(), new_lines.as_slice())
 }

@@ -1,4 +1,4 @@
-//! How many lines of each text entries are.
+//! The numbers of lines of each text in entries.
 
 ghost use Rattle.std.specs.Prelude.{◌≡◌, ◌+◌, ◌^◌, ◌<◌, if◌then◌else◌, length};
 ghost use Rattle.meson_diff.specs.Alignment.{is_new, is_old, new_lines, old_lines};
@@ -35,7 +35,7 @@ impl Counts {
     }
 }
 
-/// How many lines of each text these entries are.
+/// The numbers of lines of each text in these entries.
 pub(crate) fn counted(entries: &[Entry<'_>]) -> Counts
     ensures of_old { result.of_old ≡ length (old_lines entries.now) }
     ensures of_new { result.of_new ≡ length (new_lines entries.now) }

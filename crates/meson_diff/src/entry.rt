@@ -1,4 +1,4 @@
-//! The entries of an alignment: lines that are kept, go or come.
+//! The entries of an alignment: lines that are kept, removed or added.
 
 ghost use Rattle.std.specs.Prelude.{◌≡◌, ◌++◌, OnOk, flat_map};
 ghost use Rattle.meson_diff.specs.Alignment.{is_changed, is_new, is_old, marked};
@@ -7,9 +7,9 @@ ghost use Rattle.meson_diff.specs.Hunks.{entry_text, mark_byte, missing_end};
 use crate::line::Line;
 use std::alloc::AllocError;
 
-/// What becomes of a line.
+/// What is done with a line.
 #[derive(Clone, Copy)]
-pub(crate) enum Mark {
+pub enum Mark {
     Kept,
     Gone,
     Come,
@@ -26,7 +26,7 @@ impl Mark {
         }
     }
 
-    /// Whether it is one of the new text.
+    /// Whether it is a line of the new text.
     pub fn is_new(&self) -> bool
         ensures { result ≡ is_new self.now }
     {
@@ -36,7 +36,7 @@ impl Mark {
         }
     }
 
-    /// Whether it goes or comes.
+    /// Whether it is removed or added.
     pub fn is_changed(&self) -> bool
         ensures { result ≡ is_changed self.now }
     {
@@ -46,7 +46,7 @@ impl Mark {
         }
     }
 
-    /// The byte that stands in front of such a line.
+    /// The byte that is written before such a line.
     fn byte(&self) -> u8
         ensures { result ≡ mark_byte self.now }
     {
@@ -58,9 +58,9 @@ impl Mark {
     }
 }
 
-/// A line, and what becomes of it.
+/// A line, and what is done with it.
 #[derive(Drop)]
-pub(crate) struct Entry<'a> {
+pub struct Entry<'a> {
     pub mark: Mark,
     pub line: Line<'a>,
 }
@@ -82,7 +82,7 @@ pub(crate) fn push_all<'a>(
     Ok(())
 }
 
-/// What is told behind a line that has no line end.
+/// What is written after a line that has no line end.
 fn missing_end(line: &Line<'_>) -> &'static [u8]
     ensures { result.now ≡ missing_end line.now }
 {
@@ -93,7 +93,7 @@ fn missing_end(line: &Line<'_>) -> &'static [u8]
     }
 }
 
-/// Writes a line behind its mark, and whether its line end is missing.
+/// Writes a line after its mark, and says if its line end is missing.
 fn push_entry(to: &mut Vec<u8>, entry: &Entry<'_>) -> Result<(), AllocError>
     ensures { OnOk result (to.new.items ≡ to.old.items ++ entry_text entry.now) }
 {
@@ -103,7 +103,7 @@ fn push_entry(to: &mut Vec<u8>, entry: &Entry<'_>) -> Result<(), AllocError>
     Ok(())
 }
 
-/// Writes entries, one behind another.
+/// Writes entries, one after another.
 pub(crate) fn push_entries(to: &mut Vec<u8>, entries: &[Entry<'_>]) -> Result<(), AllocError>
     ensures { OnOk result (to.new.items ≡ to.old.items ++ flat_map entry_text entries.now) }
 {

@@ -9,17 +9,17 @@ use crate::counts::{Counts, counted};
 use crate::entry::{Entry, push_entries};
 use std::alloc::{AllocError, Global};
 
-/// How many entries are shown before a change and behind it.
+/// The number of entries that are shown before a change and after it.
 const CONTEXT: usize = 3;
 
-/// Whether a line goes or comes.
+/// Whether a line is removed or added.
 fn any_changed(entries: &[Entry<'_>]) -> bool
     ensures { result ≡ list_any (λ e. is_changed e.mark) entries.now }
 {
     entries.iter().any(|e| e.mark.is_changed())
 }
 
-/// Whether an entry is shown: it or one near it is changed.
+/// Whether an entry is shown: it is changed, or one near it is.
 fn is_shown(entries: &[Entry<'_>], i: usize) -> bool
     requires { i < length entries.now }
     ensures { result ≡ is_shown entries.now i }
@@ -37,7 +37,7 @@ fn begins_hunk(entries: &[Entry<'_>], i: usize) -> bool
     is_shown(entries, i) && (i == 0 || !is_shown(entries, i - 1))
 }
 
-/// How many entries from one on are shown, up to the first that is not.
+/// The number of entries that are shown from this one on, up to the first that is not.
 fn shown_len(entries: &[Entry<'_>], from: usize) -> usize
     requires { from ≤ length entries.now }
     ensures value { result ≡ shown_len entries.now from (length entries.now - from) }
@@ -51,7 +51,7 @@ fn shown_len(entries: &[Entry<'_>], from: usize) -> usize
     entries.len() - from
 }
 
-/// The number of the first of so many lines, where so many stand before them; of no lines, that of the line before them.
+/// The number of the first of `count` lines, if `before` lines are before them; for no lines, that of the line before them.
 fn first_line(before: usize, count: usize) -> usize
     requires { before < 2 ^ 63 }
     ensures { result ≡ first_line before count }
@@ -59,7 +59,7 @@ fn first_line(before: usize, count: usize) -> usize
     if count == 0 { before } else { before + 1 }
 }
 
-/// The first line of a hunk, where so many lines of each text stand before it.
+/// The first line of a hunk, given the number of lines of each text that are before it.
 fn head(alloc: Global, before: Counts, hunk: Counts) -> Result<String, AllocError>
     requires old_fits { before.of_old < 2 ^ 63 }
     requires new_fits { before.of_new < 2 ^ 63 }

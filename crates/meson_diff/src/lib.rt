@@ -1,4 +1,4 @@
-//! What differs between two sets of files, as a unified diff.
+//! Which lines two texts have in common, and what differs between two sets of files, as a unified diff.
 #![tactic(auto)]
 
 mod aligning;
@@ -9,4 +9,7 @@ pub mod laws;
 mod line;
 mod unified;
 
+pub use aligning::align;
+pub use entry::{Entry, Mark};
+pub use line::Line;
 pub use unified::diff;

@@ -8,7 +8,7 @@ use std::marker::Model;
 
 /// A line with its line end, a line feed. The last one of a text may have none. Contracts see its bytes.
 #[derive(Drop)]
-pub(crate) struct Line<'a> {
+pub struct Line<'a> {
     text: &'a [u8],
 }
 
@@ -43,14 +43,14 @@ impl<'a> Line<'a> {
     }
 }
 
-/// Where the first line feed stands.
+/// The place of the first line feed.
 fn line_feed(text: &[u8]) -> Option<usize>
     ensures { result ≡ position (λ b. b == 10) text.now }
 {
     text.iter().position(|b| *b == b'\n')
 }
 
-/// How many bytes the first line has.
+/// The number of bytes of the first line.
 fn line_len(text: &[u8]) -> usize
     ensures value { result ≡ line_len text.now }
     ensures within { result ≤ length text.now }

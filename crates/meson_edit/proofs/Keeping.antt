@@ -3,6 +3,7 @@ use Rattle.std.proofs.Common.{refl}
 use Rattle.meson_edit.specs.Edits.{First, After, Remove, Replace, Wrap, RemoveStatement, Append}
 use Rattle.meson_edit.specs.Kept.{EditsKeep}
 use Rattle.meson_edit.proofs.lists.Answers.{list-edit-keeps}
+use Rattle.meson_edit.proofs.lists.Values.{wraps-value}
 use Rattle.meson_edit.proofs.statements.Kept.{statement-removals-keep, appended-keep}
 
 pub edits-keep : EditsKeep
@@ -10,6 +11,9 @@ edits-keep (First path new) limits bytes f s items are name writes t is = list-e
 edits-keep (After path n new) limits bytes f s items are name writes t is = list-edit-keeps (After path n new) limits bytes f s items are name writes t is path refl is
 edits-keep (Remove path n) limits bytes f s items are name writes t is = list-edit-keeps (Remove path n) limits bytes f s items are name writes t is path refl is
 edits-keep (Replace path n new) limits bytes f s items are name writes t is = list-edit-keeps (Replace path n new) limits bytes f s items are name writes t is path refl is
-edits-keep (Wrap path n) limits bytes f s items are name writes t is = list-edit-keeps (Wrap path n) limits bytes f s items are name writes t is path refl is
+edits-keep (Wrap path n) limits bytes f s items are name writes t is = λ primitive is_primitive text patches. (
+  list-edit-keeps (Wrap path n) limits bytes f s items are name writes t is path refl is primitive is_primitive text patches,
+  wraps-value path n limits bytes f s items are name t is primitive is_primitive text patches,
+)
 edits-keep (RemoveStatement path n) limits bytes f s items are name writes t is = statement-removals-keep path n limits bytes f s items are name t is
 edits-keep (Append new) limits bytes f s items are name writes t is = appended-keep new limits bytes f s items are name writes

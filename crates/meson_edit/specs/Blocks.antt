@@ -1,4 +1,4 @@
--- Statements removed from a block and appended to a file, and the laws that the text then reads as the tree so changed.
+-- Statements removed from a block and appended to a file. The laws say that the text then parses as the tree with that change.
 use Rattle.std.specs.Str.{IsUtf8}
 use Rattle.std.specs.Prelude.{◌≡◌, ◌≤◌, ℕ, zero, suc, List, [], ◌∷◌, ◌++◌, length, Option, Some, None, option_and_then, ◌⊎◌, ⊤}
 use Rattle.meson_lex.specs.declared.kinds.Span.{Span}
@@ -50,7 +50,7 @@ and_last (statement s more) x = statement s (and_last more x)
 abbrev pub file_and_last : {S : Type 0} → File S → Statement S → File S
 file_and_last (file s (block b list)) x = file s (block b (and_last list x))
 
--- ---- items that go, and items that come
+-- ---- items that are removed, and items that are added
 
 abbrev pub EndsInNoBlank : List Lexeme → Type 0
 EndsInNoBlank xs = (front : List Lexeme) (x : Lexeme) → xs ≡ front ++ x ∷ [] → x.kind ≡ k.Blank → ⊥
@@ -58,13 +58,13 @@ EndsInNoBlank xs = (front : List Lexeme) (x : Lexeme) → xs ≡ front ++ x ∷ 
 abbrev pub BeginsInNoBlank : List Lexeme → Type 0
 BeginsInNoBlank xs = (x : Lexeme) (back : List Lexeme) → xs ≡ x ∷ back → x.kind ≡ k.Blank → ⊥
 
--- what stays of the items left of a statement, before those that stay behind it: all but the blank directly before it, or all, where that
--- makes no blank stand before a blank
+-- What stays of the items left of a statement, before those that stay after it. It is all but the blank directly before it; or all, if no blank is then
+-- directly before another blank.
 abbrev pub IsTrimmed : (left front back : List Lexeme) → Type 0
 IsTrimmed left front back = ((blank : Lexeme) × (blank.kind ≡ k.Blank) × (left ≡ front ++ blank ∷ []))
     ⊎ ((left ≡ front) × (EndsInNoBlank left ⊎ BeginsInNoBlank back))
 
--- what goes behind a statement: nothing, a blank, a line end, or both
+-- what is removed after a statement: nothing, a blank, a line end, or both
 abbrev pub IsLineRest : List Lexeme → Type 0
 IsLineRest [] = ⊤
 IsLineRest (x ∷ []) = (x.kind ≡ k.Blank) ⊎ (x.kind ≡ k.LineEnd)
@@ -82,7 +82,7 @@ pub record IsStatementText (text : List ℕ) (words : List Word) : Type 0 where
 abbrev pub EndsItsLine : List Lexeme → Type 0
 EndsItsLine xs = (xs ≡ []) ⊎ ((front : List Lexeme) × (x : Lexeme) × (x.kind ≡ k.LineEnd) × (xs ≡ front ++ x ∷ []))
 
--- what parts a statement from the items before it: a line end, or nothing where these end their line
+-- what separates a statement from the items before it: a line end, or nothing if these end their line
 abbrev pub IsBreak : List Lexeme → List ℕ → Type 0
 IsBreak xs break = IsLineEnd break ⊎ ((break ≡ []) × EndsItsLine xs)
 
@@ -96,8 +96,8 @@ RemovalsLevel = (f : File Span) (path : List ℕ) (b : BlockAt Span) → block_a
 abbrev pub AppendingLevels : Type 0
 AppendingLevels = (t : Plain) → LevelFile t → (x : Statement Nowhere) → LevelStatement x → LevelFile (file_and_last t x)
 
--- Where a statement's own items go, with the blank before it or without, and with what ends its line or a part of that, the new text spells
--- the tree without the statement.
+-- A statement's own items are removed, with the blank before it or without, and with what ends its line or a part of that. Then the new text spells the tree
+-- without the statement.
 abbrev pub StatementsGo : Type 0
 StatementsGo = (limits : Limits) (bytes : List ℕ) (f : File Span) (s : IsSpannedWithin limits bytes f) (path : List ℕ) (b : BlockAt Span)
     → block_at f path ≡ Some b
@@ -107,7 +107,7 @@ StatementsGo = (limits : Limits) (bytes : List ℕ) (f : File Span) (s : IsSpann
     → (front gone back : List Lexeme) → IsTrimmed left front back → right ≡ gone ++ back → IsLineRest gone
     → Spells (joined (front ++ back)) (erase (b.back (block_without b.inside n)))
 
--- And it reads as that tree, where its length and its depth allow it.
+-- And it parses as that tree, if its length and its depth allow it.
 abbrev pub RemovalsReadAgain : Type 0
 RemovalsReadAgain = (limits : Limits) (bytes : List ℕ) (f : File Span) (s : IsSpannedWithin limits bytes f) (path : List ℕ) (b : BlockAt Span)
     → block_at f path ≡ Some b
@@ -118,14 +118,14 @@ RemovalsReadAgain = (limits : Limits) (bytes : List ℕ) (f : File Span) (s : Is
     → Fits limits.len (length (joined (front ++ back))) → file_depth (b.back (block_without b.inside n)) ≤ limits.depth
     → ReadsWithin limits (joined (front ++ back)) (erase (b.back (block_without b.inside n)))
 
--- A statement's text behind a file's, each on lines of its own, spells the file with that statement at its end.
+-- A statement's text after a file's, each on lines of its own, spells the file with that statement at its end.
 abbrev pub StatementsCome : Type 0
 StatementsCome = (bytes : List ℕ) (t : Plain) → Spells bytes t → (items : List Lexeme) → IsItemList bytes items
     → (x : Statement Nowhere) (text : List ℕ) → IsStatementText text (statement_words x) → LevelStatement x
     → (break end : List ℕ) → IsBreak items break → IsLineEnd end
     → Spells (bytes ++ (break ++ (text ++ end))) (file_and_last t x)
 
--- And it reads as that file, where its length and its depth allow it and the statement's text is UTF-8.
+-- And it parses as that file, if its length and its depth allow it and the statement's text is UTF-8.
 abbrev pub AppendedReadAgain : Type 0
 AppendedReadAgain = (limits : Limits) (bytes : List ℕ) (t : Plain) → ReadsWithin limits bytes t → (items : List Lexeme) → IsItemList bytes items
     → (x : Statement Nowhere) (text : List ℕ) → IsStatementText text (statement_words x) → LevelStatement x

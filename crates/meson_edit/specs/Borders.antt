@@ -1,4 +1,4 @@
--- How far the borders of trees reach.
+-- The furthest borders of trees.
 use Rattle.std.specs.Prelude.{◌≡◌, ℕ, ◌≤◌, List, length}
 use Rattle.meson_syntax.specs.declared.operator.Bracket.{Bracket}
 use Rattle.meson_syntax.specs.declared.source.Limits.{Limits}
@@ -9,11 +9,11 @@ use Rattle.meson_syntax.specs.Reads.{IsSpannedWithin}
 use Rattle.meson_syntax.specs.ReadsList.{IsSpannedList}
 use Rattle.meson_syntax.specs.View.{list_view, view}
 
--- The tree of a text ends where the text ends, and no border of it lies behind.
+-- The tree of a text ends where the text ends, and no border of it is after that.
 abbrev pub TreesEnd : Type 0
 TreesEnd = (limits : Limits) (source : List ℕ) (t : Parsed) → IsSpannedWithin limits source (view source t)
     → (t.span.to ≡ length source) × (furthest t ≤ t.span.to)
 
--- No border of a list that is read alone lies behind its text.
+-- No border of a list that is read alone is after its text.
 abbrev pub ListsEnd : Type 0
 ListsEnd = (b : Bracket) (source : List ℕ) (l : rust.List) → IsSpannedList b source (list_view source l) → furthest_list l ≤ length source

@@ -13,17 +13,17 @@ pub record Written (X : Type 0) : Type 0 where
 pub data Edit : Type 0 where
   -- the first element of an empty list
   First : (list : List ℕ) → Written (Argument Nowhere) → Edit
-  -- an element behind the n-th
+  -- an element after the n-th
   After : (list : List ℕ) → (n : ℕ) → Written (Argument Nowhere) → Edit
-  -- the n-th element goes
+  -- the n-th element is removed
   Remove : (list : List ℕ) → (n : ℕ) → Edit
-  -- the value of the n-th element becomes another one
+  -- the value of the n-th element is replaced by another one
   Replace : (list : List ℕ) → (n : ℕ) → Written (Expression Nowhere) → Edit
-  -- or the array of it
+  -- or by the array of it
   Wrap : (list : List ℕ) → (n : ℕ) → Edit
-  -- the n-th statement goes
+  -- the n-th statement is removed
   RemoveStatement : (block : List ℕ) → (n : ℕ) → Edit
-  -- a statement behind all others of the file
+  -- a statement after all others of the file
   Append : Written (Statement Nowhere) → Edit
 
 -- ---- lists
@@ -32,7 +32,7 @@ abbrev pub is_empty : {A : Type 0} → List A → Bool
 is_empty [] = true
 is_empty (x ∷ xs) = false
 
--- The list with other elements. The comma behind the last one stays while there are elements.
+-- The list with other elements. The comma after the last one stays as long as there are elements.
 abbrev pub with_elements : {S : Type 0} → Listing S → List (Argument S) → Listing S
 with_elements (listing s trailing list) elements = listing s (if is_empty elements then false else trailing) (arguments_of elements)
 
@@ -82,7 +82,7 @@ edited_list e path f = option_and_then (λ p. option_map (λ list. p.back (with_
 abbrev pub without_statement : List ℕ → ℕ → Plain → Option Plain
 without_statement path n f = option_and_then (λ b. option_map (λ s. b.back (block_without b.inside n)) (statement_in b.inside n)) (block_at f path)
 
--- The file after an edit, where the edit names what is there.
+-- The file after an edit, if the edit names what is there.
 abbrev pub edited : Edit → Plain → Option Plain
 edited (First path new) f = edited_list (First path new) path f
 edited (After path n new) f = edited_list (After path n new) path f

@@ -1,4 +1,4 @@
--- The tokens of a text in which one list is exchanged for another.
+-- The tokens of a text in which one list is replaced by another one.
 use Rattle.std.specs.Prelude.{◌≡◌, ℕ, ◌+◌, List, [], ◌∷◌, ◌++◌, length}
 use Rattle.meson_lex.specs.declared.kinds.Span.{Span}
 use Rattle.meson_lex.specs.Items.{Lexeme, IsItemList}
@@ -15,8 +15,8 @@ use Rattle.meson_syntax.specs.Moving.{moved}
 abbrev pub list_tokens : ℕ → (open_item : Lexeme) (inner : List Lexeme) (close_item : Lexeme) → List Token
 list_tokens from o inner c = tokens_by (λ n. n + from) (spots start 0 0 (o ∷ (inner ++ c ∷ [])))
 
--- A text's tokens before and after one of its lists, which begins at `from`, is exchanged for another one: where the list's own stood
--- now stand those of the other, the tokens before them stay, and each border behind them moves by `g`.
+-- How the tokens of a text change when one of its lists, which begins at `from`, is replaced by another one. The tokens of the other list are in the place of
+-- the list's own. The tokens before them stay, and each border after them moves by `g`.
 pub record TokensExchanged (left right : List Lexeme) (o c : Lexeme) (inner : List Lexeme) (q d : Lexeme) (other : List Lexeme)
     (from : ℕ) (g : ℕ → ℕ) : Type 0 where
   pub behind : List Token
@@ -25,7 +25,7 @@ pub record TokensExchanged (left right : List Lexeme) (o c : Lexeme) (inner : Li
   pub is_behind : words behind ≡ emitted (after start (left ++ o ∷ (inner ++ c ∷ []))) right ++ closing (after start (left ++ o ∷ (inner ++ c ∷ right))).fresh
   pub stay : tokens_by g (spots start 0 0 left) ≡ spots start 0 0 left
 
--- Where a list of `was` bytes is exchanged for the text of another one, all behind it moves by the difference of the lengths.
+-- If a list of `was` bytes is replaced by the text of another one, all after it moves by the difference of the lengths.
 abbrev pub TokensMove : Type 0
 TokensMove =
     (bytes : List ℕ) (items : List Lexeme) → IsItemList bytes items → (p : ListAt Span) (s : ListStands items p) (l : Listing Nowhere) (text : List ℕ)

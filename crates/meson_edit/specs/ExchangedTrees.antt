@@ -1,4 +1,4 @@
--- A tree of the code in which a list is exchanged, as `shift` and `put_list` do it, and exchanged back.
+-- A tree of the code in which a list is replaced, as `shift` and `put_list` do it, and put back.
 use Rattle.std.specs.Prelude.{◌≡◌, ℕ, ◌+◌, List, ◌++◌, length, Some}
 use Rattle.meson_lex.specs.declared.kinds.Span.{Span}
 use Rattle.meson_syntax.specs.declared.source.Limits.{Limits}
@@ -32,13 +32,13 @@ abbrev pub tree_with : List ℕ → (front was now : List ℕ) → rust.List →
 tree_with path front was now new t =
     list_exchanged path (length front) (length was) (length now) (moved_list (λ n. n + length front) new) t
 
--- The tree with the new list, moved to its place, stands in the new text.
+-- The tree with the new list, moved to its place, is spelled by the new text.
 abbrev pub TreesExchange : Type 0
 TreesExchange = (limits : Limits) (bytes : List ℕ) (t : Parsed) (path : List ℕ) (p : ListAt Span) (front was now back : List ℕ) (new : rust.List)
     → IsExchange limits bytes t path p front was now back new
     → IsSpannedWithin limits (front ++ (now ++ back)) (view (front ++ (now ++ back)) (tree_with path front was now new t))
 
--- The old list is the one that stands in the moved tree, with its old span.
+-- The old list is the one in the moved tree, with its old span.
 abbrev pub OldListsLook : Type 0
 OldListsLook = (limits : Limits) (bytes : List ℕ) (t : Parsed) (path : List ℕ) (p : ListAt Span) (front was now back : List ℕ) (new : rust.List)
     → IsExchange limits bytes t path p front was now back new

@@ -11,7 +11,7 @@ use Rattle.meson_syntax.specs.Paths.{Sort, of_expression, of_statement, of_block
 use Rattle.meson_edit.specs.Standing.{NodeStands, ListPlaces}
 use Rattle.meson_edit.specs.Blocks.{block_at}
 
--- Each expression and statement that a path names stands at its span: the items of the text are those left of it, its own, and those right of it.
+-- Each expression and statement that a path names is at its span. The items of the text are those left of it, its own, and those right of it.
 abbrev pub NodesStand : Type 0
 NodesStand = (limits : Limits) (bytes : List ℕ) (f : File Span) (s : IsSpannedWithin limits bytes f) (path : List ℕ) (h : Hole Span (Block Span))
     → reach Span of_block (block_of f) path ≡ Some h
@@ -22,12 +22,12 @@ abbrev pub ListsStand : Type 0
 ListsStand = (limits : Limits) (bytes : List ℕ) (f : File Span) (s : IsSpannedWithin limits bytes f) (path : List ℕ) (p : ListAt Span)
     → list_at f path ≡ Some p → ListPlaces s.reads.spells.items p
 
--- The words of a node with another one in a hole are those before the hole, of the other one, and behind the hole.
+-- The words of a node with another one in a hole are those before the hole, of the other one, and after the hole.
 abbrev pub HolesFit : Type 0
 HolesFit = (b : Block Nowhere) (path : List ℕ) (h : Hole Nowhere (Block Nowhere)) → reach Nowhere of_block b path ≡ Some h
     → (h.back h.inside ≡ b) × ((x : Node h.sort Nowhere) → block_words (h.back x) ≡ h.before ++ (node_words Nowhere h.sort x ++ h.behind))
 
--- The same of a file with another list where a path names one.
+-- The same for a file with another list where a path names one.
 abbrev pub ListsFit : Type 0
 ListsFit = (f : Plain) (path : List ℕ) (p : ListAt Nowhere) → list_at f path ≡ Some p
     → (p.back p.list ≡ f) × ((l : Listing Nowhere) → file_words (p.back l) ≡ p.before ++ (listing_words l p.bracket ++ p.behind))

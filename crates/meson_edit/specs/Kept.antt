@@ -1,6 +1,6 @@
--- What an edit keeps. In a list: what stands left and right of what the edit touches, but for commas, blanks and line ends, so every comment and every
--- other element. Of statements: all but the statement's own items and the blanks and the line end that go with it.
-use Rattle.std.specs.Prelude.{◌≡◌, ℕ, ◌<◌, ◌≤◌, true, List, [], ◌∷◌, ◌++◌, length, Some, Ok}
+-- What an edit keeps. In a list: what is left and right of the touched part, but for commas, blanks and line ends. So every comment and every other element
+-- stays. Of statements: all but the statement's own items and the blanks and the line end that are removed with it.
+use Rattle.std.specs.Prelude.{◌≡◌, ℕ, ◌<◌, ◌≤◌, true, List, [], ◌∷◌, ◌++◌, codes, length, Some, Ok}
 use Rattle.meson_lex.specs.declared.kinds.Span.{Span}
 use Rattle.meson_lex.specs.Items.{Lexeme, joined, IsItemList}
 use Rattle.meson_layout.specs.declared.primitive.Primitive.{Primitive}
@@ -15,12 +15,12 @@ use Rattle.meson_syntax.specs.Paths.{ListAt, list_at, ElementAt, element_at, val
 use Rattle.meson_edit.specs.Standing.{argument_span, ListStands, ElementStands, ValueStands, ListPlaces}
 use Rattle.meson_syntax.specs.Reads.{IsSpannedWithin}
 use Rattle.meson_edit.specs.Edits.{Edit, First, After, Remove, Replace, Wrap, RemoveStatement, Append, edited}
-use Rattle.meson_edit.specs.Places.{primitive_of, Writes, span_of_statement}
+use Rattle.meson_edit.specs.Places.{primitive_of, Writes, span_of_statement, value_span}
 
 -- ---- lists
 
--- What an edit of the list `p` touches: no item, where an element comes, else the items of an element or of its value. `left` and `right` are the
--- items of the list left and right of that, and `notes` the comments and continuations that it may not take away.
+-- What an edit of the list `p` touches: no item, if an element is inserted, else the items of an element or of its value. `left` and `right` are the items of
+-- the list left and right of that, and `notes` the comments and continuations that it must not remove.
 abbrev pub Touches : (items : List Lexeme) (p : ListAt Span) → ListStands items p → Edit → (left right notes : List Lexeme) → Type 0
 Touches items p l (First path new) left right notes = (left ≡ []) × (right ≡ l.inner) × (notes ≡ remarks l.inner)
 Touches items p l (After path n new) left right notes =
@@ -38,8 +38,8 @@ Touches items p l (Wrap path n) left right notes =
 Touches items p l (RemoveStatement path n) left right notes = ⊥
 Touches items p l (Append new) left right notes = ⊥
 
--- The new text is the old one but for the items between the brackets of the list. Of these all bytes left and right of what is touched stay, but for at
--- most a comma, blanks and line ends beside it, and every comment and continuation stays, in order.
+-- The new text is the old one but for the items between the brackets of the list. Of these all bytes left and right of the touched part stay, but for at most a
+-- comma, blanks and line ends beside it. Every comment and continuation stays, in order.
 pub record KeepsList (bytes text : List ℕ) (items : List Lexeme) (e : Edit) (p : ListAt Span) : Type 0 where
   pub places : ListPlaces items p
   pub left : List Lexeme
@@ -53,7 +53,7 @@ pub record KeepsList (bytes text : List ℕ) (items : List Lexeme) (e : Edit) (p
   pub keeps : Keeps left right (joined inner)
   pub comments : remarks inner ≡ notes
 
--- whether the element of this number stands before what an edit touches, and whether behind it
+-- whether the element of this number is before what an edit touches, and whether it is after it
 abbrev pub IsBefore : Edit → ℕ → Type 0
 IsBefore (First path new) m = ⊥
 IsBefore (After path n new) m = m ≤ n
@@ -72,7 +72,7 @@ IsBehind (Wrap path n) m = n < m
 IsBehind (RemoveStatement path n) m = ⊥
 IsBehind (Append new) m = ⊥
 
--- up to this offset the texts are one
+-- up to this offset the texts are the same
 pub record SameUpTo (to : ℕ) (bytes text : List ℕ) : Type 0 where
   pub front : List ℕ
   pub was : List ℕ
@@ -81,7 +81,7 @@ pub record SameUpTo (to : ℕ) (bytes text : List ℕ) : Type 0 where
   pub new : text ≡ front ++ now
   pub is : length front ≡ to
 
--- from this offset of the old text on they are one
+-- from this offset of the old text on they are the same
 pub record SameFrom (from : ℕ) (bytes text : List ℕ) : Type 0 where
   pub was : List ℕ
   pub now : List ℕ
@@ -90,7 +90,7 @@ pub record SameFrom (from : ℕ) (bytes text : List ℕ) : Type 0 where
   pub new : text ≡ now ++ back
   pub is : length was ≡ from
 
--- Every other element keeps its bytes: the text stays up to the end of each element before what is touched, and from the beginning of each behind it.
+-- Every other element keeps its bytes. The text stays up to the end of each element before the touched part, and from the beginning of each after it.
 abbrev pub OthersStay : (bytes text : List ℕ) → Edit → ListAt Span → Type 0
 OthersStay bytes text e p =
     (m : ℕ) (x : ElementAt Span) → element_at p.list m ≡ Some x
@@ -98,8 +98,8 @@ OthersStay bytes text e p =
 
 -- ---- statements
 
--- Of the items around the statement there go the blank directly before it, the one directly behind it, and behind that the line end of a statement that
--- began its line. All else stays.
+-- Of the items around the statement these are removed: the blank directly before it, the one directly after it, and then the line end, if the statement began
+-- its line. All else stays.
 pub record KeepsAround (bytes text : List ℕ) (items : List Lexeme) (s : Span) : Type 0 where
   pub front : List Lexeme
   pub before : List Lexeme
@@ -124,13 +124,25 @@ pub record KeepsIn (bytes text : List ℕ) (f : File Span) (items : List Lexeme)
   pub list : KeepsList bytes text items e p
   pub others : OthersStay bytes text e p
 
--- What an edit of the file keeps; an appended statement comes behind all bytes.
+-- The value of the element of this number keeps its bytes, and so do all bytes before and after it. Only the brackets of the array are added around it.
+pub record WrapsValue (bytes text : List ℕ) (f : File Span) (path : List ℕ) (n : ℕ) : Type 0 where
+  pub span : Span
+  pub is_span : value_span f path n ≡ Some span
+  pub front : List ℕ
+  pub value : List ℕ
+  pub back : List ℕ
+  pub old : bytes ≡ front ++ (value ++ back)
+  pub from : length front ≡ span.from
+  pub to : length (front ++ value) ≡ span.to
+  pub new : text ≡ front ++ (codes "[" ++ (value ++ (codes "]" ++ back)))
+
+-- What an edit of the file keeps; an appended statement is after all bytes.
 abbrev pub EditKeeps : (bytes text : List ℕ) → File Span → List Lexeme → Edit → Type 0
 EditKeeps bytes text f items (First path new) = KeepsIn bytes text f items (First path new) path
 EditKeeps bytes text f items (After path n new) = KeepsIn bytes text f items (After path n new) path
 EditKeeps bytes text f items (Remove path n) = KeepsIn bytes text f items (Remove path n) path
 EditKeeps bytes text f items (Replace path n new) = KeepsIn bytes text f items (Replace path n new) path
-EditKeeps bytes text f items (Wrap path n) = KeepsIn bytes text f items (Wrap path n) path
+EditKeeps bytes text f items (Wrap path n) = KeepsIn bytes text f items (Wrap path n) path × WrapsValue bytes text f path n
 EditKeeps bytes text f items (RemoveStatement path n) = (s : Span) × (span_of_statement f path n ≡ Some s) × KeepsAround bytes text items s
 EditKeeps bytes text f items (Append new) = (come : List ℕ) × (text ≡ bytes ++ come)
 

@@ -28,7 +28,7 @@ pub record MakesText (bytes : List ℕ) (f : File Span) (items : List Lexeme) (n
   pub texts : AreTexts (layout_of name items primitive)
   pub spells : Spells text t
 
--- Each edit of this form does so, in each file that reads as a tree, where the edited tree has its levels.
+-- Each edit of this form does so, in each file that parses as a tree, if the edited tree has its levels.
 abbrev pub Spelled : Edit → Type 0
 Spelled e =
     (limits : Limits) (bytes : List ℕ) (f : File Span) → IsSpannedWithin limits bytes f → (items : List Lexeme) → IsItemList bytes items → (name : List ℕ)
@@ -57,7 +57,7 @@ AppendedSpell = (new : Written (Statement Nowhere)) → Spelled (Append new)
 
 -- ---- what is written
 
--- Of the text only the bytes of a list become others: those of the list that the tree `t` has there.
+-- Of the text only the bytes of a list are replaced: those of the list that the tree `t` has there.
 pub record WritesList (bytes text : List ℕ) (f : File Span) (path : List ℕ) (p : ListAt Span) (t : Plain) : Type 0 where
   -- the list in the tree without spans, and the one that takes its place
   pub q : ListAt Nowhere
@@ -65,7 +65,7 @@ pub record WritesList (bytes text : List ℕ) (f : File Span) (path : List ℕ) 
   pub bracket : q.bracket ≡ p.bracket
   pub list : Listing Nowhere
   pub is_tree : q.back list ≡ t
-  -- the bytes before the list, of the old list, of the new one, and behind it
+  -- the bytes before the list, of the old list, of the new one, and after it
   pub front : List ℕ
   pub was : List ℕ
   pub now : List ℕ
@@ -96,14 +96,14 @@ ListEditsWrite =
     → (primitive : Primitive) → primitive_of f e ≡ Some primitive → (text : List ℕ) → patched_by bytes (layout_of name items primitive) ≡ Ok text
     → WritesList bytes text f path p t
 
--- An edit of a list looks at that list alone.
+-- An edit of a list reads that list alone.
 abbrev pub ListEditsLook : Type 0
 ListEditsLook =
     (e : Edit) (limits : Limits) (bytes : List ℕ) (f : File Span) → IsSpannedWithin limits bytes f → Writes e → (t : Plain) → edited e (erase f) ≡ Some t
     → (path : List ℕ) → IsEditOf path e
     → (p : ListAt Span) → list_at f path ≡ Some p → (primitive : Primitive) → primitive_of f e ≡ Some primitive → IsReadyIn bytes (list_span p.list) primitive
 
--- What an edit writes in the place of a list reads by itself as the edited list, within the depth of the edited file.
+-- What an edit writes in the place of a list parses by itself as the edited list, within the depth of the edited file.
 abbrev pub WrittenListsRead : Type 0
 WrittenListsRead = (bytes text : List ℕ) (f : File Span) (path : List ℕ) (p : ListAt Span) (t : Plain) (w : WritesList bytes text f path p t) → LevelFile t
     → (depth : ℕ) → file_depth t ≤ depth → ReadsListWithin depth w.q.bracket w.now w.list

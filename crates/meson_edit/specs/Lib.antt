@@ -1,4 +1,4 @@
--- What the contracts of this crate cite.
+-- What the contracts of this crate use.
 pub mod Edits
 pub mod Places
 pub mod Laws

@@ -1,4 +1,4 @@
--- What an edit on items has to know of statements: where lines begin and end, and which words are left.
+-- What an edit on items has to know of statements: where lines begin and end, and which words remain.
 use Rattle.std.specs.Str.{IsUtf8}
 use Rattle.std.specs.Prelude.{◌≡◌, ◌≤◌, ℕ, false, List, [], ◌∷◌, ◌++◌, length, Some, ⊤}
 use Rattle.meson_lex.specs.declared.kinds.Kind.TheVariants as k
@@ -13,11 +13,11 @@ use Rattle.meson_lex.specs.Words.{spoken, IsTight}
 use Rattle.meson_edit.specs.Standing.{statement_span}
 use Rattle.meson_edit.specs.Blocks.{BlockAt, block_at, statement_in, block_without, file_and_last, IsStatementText}
 
--- behind a token, outside brackets
+-- after a token, outside brackets
 abbrev pub in_line : State
 in_line = record { depth = 0; fresh = false }
 
--- A statement among the items of its text: a line begins before it and ends behind it. `rest` are the words of the text without that line.
+-- A statement among the items of its text: a line begins before it and ends after it. `rest` are the words of the text without that line.
 pub record LineStands (items : List Lexeme) (s : Span) (words rest : List Word) : Type 0 where
   pub left : List Lexeme
   pub own : List Lexeme
@@ -33,7 +33,7 @@ pub record LineStands (items : List Lexeme) (s : Span) (words rest : List Word) 
   pub is_right : emitted (after start (left ++ own)) right ++ closing (after start items).fresh ≡ new_line ∷ more
   pub is_rest : emitted start left ++ more ≡ rest
 
--- Each statement of a block that a path names stands so.
+-- Each statement of a block that a path names is so.
 abbrev pub StatementsStand : Type 0
 StatementsStand = (limits : Limits) (bytes : List ℕ) (f : File Span) (s : IsSpannedWithin limits bytes f) (path : List ℕ) (b : BlockAt Span)
     → block_at f path ≡ Some b
@@ -54,7 +54,7 @@ abbrev pub HasNoLineEnd : List Lexeme → Type 0
 HasNoLineEnd [] = ⊤
 HasNoLineEnd (x ∷ xs) = (x.kind ≡ k.LineEnd → ⊥) × HasNoLineEnd xs
 
--- A text in one line has the words that its items speak.
+-- A text in one line has the words of its items.
 abbrev pub LinesAreTexts : Type 0
 LinesAreTexts = (text : List ℕ) (items : List Lexeme) → IsItemList text items → HasNoLineEnd items → IsTight items → (words : List Word)
     → spoken items ≡ words → IsStatementText text words
@@ -63,7 +63,7 @@ LinesAreTexts = (text : List ℕ) (items : List Lexeme) → IsItemList text item
 abbrev pub FilesEnd : Type 0
 FilesEnd = (bytes : List ℕ) (t : Plain) → Spells bytes t → (items : List Lexeme) → IsItemList bytes items → (after start items).depth ≡ 0
 
--- Behind a statement neither, and its line has not ended.
+-- After a statement neither, and its line has not ended.
 abbrev pub StatementsEnd : Type 0
 StatementsEnd = (x : Statement Nowhere) (text : List ℕ) (s : IsStatementText text (statement_words x)) → after start s.items ≡ in_line
 
@@ -75,7 +75,7 @@ AppendedWords = (t : Plain) (x : Statement Nowhere) → file_words (file_and_las
 abbrev pub CutsAreUtf8 : Type 0
 CutsAreUtf8 = (bytes : List ℕ) (front back : List Lexeme) → IsItemList bytes (front ++ back) → IsUtf8 bytes → IsUtf8 (joined front) × IsUtf8 (joined back)
 
--- A text that spells a tree reads as it, where its coding, its length and its depth allow it.
+-- A text that spells a tree parses as it, if its coding, its length and its depth allow it.
 abbrev pub SpelledReads : Type 0
 SpelledReads = (limits : Limits) (bytes : List ℕ) (t : Plain) → Spells bytes t → IsUtf8 bytes → Fits limits.len (length bytes) → file_depth t ≤ limits.depth
     → ReadsWithin limits bytes t

@@ -1,4 +1,4 @@
--- What a path names in a tree, and in that tree with what its nodes carry exchanged by one function.
+-- What a path names in a tree, and in that tree with the values of its nodes mapped by one function.
 use Rattle.std.specs.Prelude.{◌≡◌, ℕ, List, Option, Some, None}
 use Rattle.meson_lex.specs.declared.kinds.Span.{Span}
 use Rattle.meson_lex.specs.Significant.{Word}
@@ -12,8 +12,8 @@ module _ {S T : Type 0} (h : S → T) where
   each_node of_statement s = each_statement h s
   each_node of_block b = each_block h b
 
-  -- The same hole in both trees: the node in the one is the mapped one, between the same words, and to put another one there and to map
-  -- the whole is the same as to put the mapped one there.
+  -- The same hole in both trees: the node in the one is the mapped one, between the same words. To put another one there and to map the whole is the same as to
+  -- put the mapped one there.
   pub data MapsHole {A B : Type 0} (each : A → B) : Hole S A → Hole T B → Type 0 where
     maps : (sort : Sort) (x : Node sort S) (before before' behind behind' : List Word) (back : Node sort S → A) (back' : Node sort T → B)
         → before' ≡ before → behind' ≡ behind → ((y : Node sort S) → back' (each_node sort y) ≡ each (back y))

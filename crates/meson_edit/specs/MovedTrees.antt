@@ -13,7 +13,7 @@ use Rattle.meson_syntax.specs.MovedCode.{moved_list, moved_parsed}
 use Rattle.meson_edit.specs.Moves.{each_file, each_listing, tokens_by}
 use Rattle.meson_syntax.specs.Moving.{span_by}
 
--- Where tokens spell a tree, the moved tokens spell the moved tree, however borders move, if the first one stays.
+-- If tokens spell a tree, the moved tokens spell the moved tree, however borders move, if the first one stays.
 abbrev pub FilesMove : Type 0
 FilesMove = (g : ℕ → ℕ) → g 0 ≡ 0 → (f : File Span) (len depth : ℕ) (ts : List Token) → SpellsFile f len depth ts
     → SpellsFile (each_file (span_by g) f) (g len) depth (tokens_by g ts)
@@ -25,7 +25,7 @@ ListsMove = (g : ℕ → ℕ) (l : Listing Span) (b : Bracket) (depth : ℕ) (ts
 
 -- ---- views
 
--- The view of a value of the code tells the value.
+-- The view of a value of the code determines the value.
 abbrev pub ViewsTell : Type 0
 ViewsTell = (source : List ℕ) (t u : Parsed) → view source t ≡ view source u → t ≡ u
 

@@ -1,4 +1,4 @@
--- A tree with what its nodes and names carry exchanged by one function.
+-- A tree with the values of its nodes and names mapped by one function.
 use Rattle.std.specs.Prelude.{ℕ, List, map}
 use Rattle.meson_lex.specs.Located.{Token}
 use Rattle.meson_syntax.specs.Tree.{Name, Expression, identifier, boolean, integer, string, paren, array, dictionary, call, unary, row, postfix, conditional, Operands, no_operands, operand, Tail, method, index, Tails, no_tails, tail, Listing, listing, Argument, plain, named, pair, Arguments, no_arguments, argument, Statement, evaluate, assign, selection, iteration, breaks, continues, Branches, no_branches, branch, Otherwise, nothing_else, otherwise, Statements, no_statements, statement, Block, block, File, file}

@@ -1,4 +1,4 @@
--- Where an edit of a tree stands in its file, and what is written there.
+-- The place of an edit of a tree in its file, and what is written there.
 use Rattle.std.specs.Str.{IsUtf8}
 use Rattle.std.specs.Prelude.{◌≡◌, ℕ, List, Option, Some, option_map, option_and_then}
 use Rattle.meson_lex.specs.declared.kinds.Span.{Span}

@@ -1,4 +1,4 @@
--- An exchange of a list is undone by the exchange back.
+-- A replacement of a list is undone by the replacement back.
 use Rattle.std.specs.Prelude.{◌≡◌, ℕ, ◌+◌, List, ◌++◌, length, Some}
 use Rattle.meson_lex.specs.declared.kinds.Span.{Span}
 use Rattle.meson_syntax.specs.declared.source.Limits.{Limits}
@@ -9,8 +9,8 @@ use Rattle.meson_syntax.specs.Paths.{ListAt, list_at, list_span}
 use Rattle.meson_edit.specs.Moves.{each_file, each_listing}
 use Rattle.meson_syntax.specs.Moving.{span_by, moved}
 
--- Where a list was exchanged for another one and is read again from its old bytes, the tree with it in its old place, with the borders behind it
--- moved back, is the tree that was there before, to the last border.
+-- A list was replaced by another one and is parsed again from its old bytes. Then take the tree with that list in its old place, and with the borders after it
+-- moved back. It is the tree that was there before, to the last border.
 abbrev pub ListsPutBack : Type 0
 ListsPutBack = (limits : Limits) (bytes : List ℕ) (f : File Span) → IsSpannedWithin limits bytes f → (path : List ℕ) (p : ListAt Span) → list_at f path ≡ Some p
     → (front was now back : List ℕ) → bytes ≡ front ++ (was ++ back) → length front ≡ (list_span p.list).from → length (front ++ was) ≡ (list_span p.list).to

@@ -13,12 +13,12 @@ use Rattle.meson_syntax.specs.Moving.{span_by, moved}
 use Rattle.meson_syntax.specs.Paths.{ListAt, list_at, list_span}
 use Rattle.meson_syntax.specs.ListPut.{with_list}
 
--- Where a tree of the code looks as a tree does but for its texts, it still does when a list that looks as another one does is put in both.
+-- A tree of the code looks like a tree but for its texts. It still does so when a list is put in both, if the two lists look alike.
 abbrev pub PutListsLook : Type 0
 PutListsLook = (source : List ℕ) (t : Parsed) (f : File Span) → view source t ≡ texts_of source f → (path : List ℕ) (r : ListAt Span) → list_at f path ≡ Some r
     → (l : rust.List) (m : Listing Span) → list_view source l ≡ texts_of_listing source m → view source (with_list path l t) ≡ texts_of source (r.back m)
 
--- And what a path names in it looks as that list of the tree does.
+-- And what a path names in it looks like that list of the tree.
 abbrev pub FoundListsLook : Type 0
 FoundListsLook = (source : List ℕ) (f : File Span) (path : List ℕ) (r : ListAt Span) → list_at f path ≡ Some r
     → (p : ListAt Span) → list_at (texts_of source f) path ≡ Some p → p.list ≡ texts_of_listing source r.list
@@ -27,7 +27,7 @@ FoundListsLook = (source : List ℕ) (f : File Span) (path : List ℕ) (r : List
 abbrev pub with_span : Span → Listing Span → Listing Span
 with_span s (listing old trailing list) = listing s trailing list
 
--- Where the borders from a list's end on move, its elements stay where they are.
+-- If the borders from a list's end on move, its elements stay where they are.
 abbrev pub ElementsStay : Type 0
 ElementsStay = (limits : Limits) (bytes : List ℕ) (f : File Span) → IsSpannedWithin limits bytes f → (path : List ℕ) (p : ListAt Span) → list_at f path ≡ Some p
     → (was now : ℕ) → (list_span p.list).from + was ≡ (list_span p.list).to

@@ -1,4 +1,4 @@
--- What holds from one edit to the next: what an edit put in is found in its place, and the tree keeps its levels and grows no deeper than what was put in.
+-- What holds from one edit to the next. What an edit inserted is found in its place. The tree keeps its levels and grows no deeper than what was inserted.
 use Rattle.std.specs.Prelude.{◌≡◌, ℕ, suc, ◌+◌, ◌≤◌, false, List, [], drop, Some}
 use Rattle.meson_syntax.specs.declared.operator.Bracket.{Bracket}
 use Rattle.meson_syntax.specs.declared.operator.Bracket.TheVariants as bracket
@@ -36,7 +36,7 @@ DepthsGrow = (t : Plain) (path : List ℕ) (q : ListAt Nowhere) → list_at t pa
 abbrev pub ListsAreShallow : Type 0
 ListsAreShallow = (t : Plain) (path : List ℕ) (q : ListAt Nowhere) → list_at t path ≡ Some q → listing_depth q.list ≤ file_depth t
 
--- how deep is what an edit of a list puts in
+-- the depth of what an edit of a list inserts
 abbrev pub new_depth : Edit → ℕ
 new_depth (First path new) = argument_depth new.node
 new_depth (After path n new) = argument_depth new.node
@@ -46,7 +46,7 @@ new_depth (Wrap path n) = 1
 new_depth (RemoveStatement path n) = 0
 new_depth (Append new) = 0
 
--- An edit of a list makes the tree deeper by no more than what it puts in.
+-- An edit of a list makes the tree deeper by no more than what it inserts.
 abbrev pub EditsDeepen : Type 0
 EditsDeepen = (e : Edit) (path : List ℕ) → IsEditOf path e → (t now : Plain) → edited e t ≡ Some now → file_depth now ≤ file_depth t + new_depth e
 
@@ -54,7 +54,7 @@ EditsDeepen = (e : Edit) (path : List ℕ) → IsEditOf path e → (t now : Plai
 abbrev pub RemovalsStayWithin : Type 0
 RemovalsStayWithin = (path : List ℕ) (n : ℕ) (t now : Plain) → edited (Remove path n) t ≡ Some now → file_depth now ≤ file_depth t
 
--- Nor is it with an element more in which nothing nests, as a string.
+-- Nor is it with one more element in which nothing nests, such as a string.
 abbrev pub FirstsStayWithin : Type 0
 FirstsStayWithin = (path : List ℕ) (new : Written (Argument Nowhere)) → argument_depth new.node ≡ 0 → (t now : Plain) → edited (First path new) t ≡ Some now
     → file_depth now ≤ file_depth t
@@ -64,7 +64,7 @@ InsertionsStayWithin =
     (path : List ℕ) (n : ℕ) (new : Written (Argument Nowhere)) → argument_depth new.node ≡ 0 → (t now : Plain) → edited (After path n new) t ≡ Some now
     → file_depth now ≤ file_depth t
 
--- An edit that puts in at most one construct, and the array around a value, make the tree at most one deeper.
+-- An edit that inserts at most one construct, and the array around a value, make the tree at most one deeper.
 abbrev pub EditsDeepenByOne : Type 0
 EditsDeepenByOne = (e : Edit) (path : List ℕ) → IsEditOf path e → new_depth e ≤ 1 → (t now : Plain) → edited e t ≡ Some now → file_depth now ≤ file_depth t + 1
 
@@ -89,8 +89,8 @@ FirstsKeepLevels = (path : List ℕ) (new : Written (Argument Nowhere)) (t now :
     → LevelArgument new.node q.bracket false
     → LevelFile t → edited (First path new) t ≡ Some now → LevelFile now
 
--- Whether an element may follow another one, before these: in an array without a name; in a dictionary with a key;
--- in a call without a name behind one without, or with a name behind the last.
+-- Whether an element may follow another one, before these. In an array it has no name; in a dictionary it has a key. In a call it has no name after one
+-- without, or it has a name after the last.
 abbrev pub MayFollow : Bracket → (it : Argument Nowhere) → (behind : List (Argument Nowhere)) → (new : Argument Nowhere) → Type 0
 MayFollow bracket.Square it behind (plain e) = LevelExpression e
 MayFollow bracket.Curly it behind (pair s k v) = LevelExpression k × LevelExpression v

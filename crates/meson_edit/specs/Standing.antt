@@ -1,4 +1,4 @@
--- Where nodes of a tree stand among the items of their text.
+-- The places of a tree's nodes among the items of their text.
 use Rattle.std.specs.Prelude.{◌≡◌, ℕ, List, [], ◌∷◌, ◌++◌, length, Some, ⊤}
 use Rattle.meson_lex.specs.declared.kinds.Span.{Span}
 use Rattle.meson_lex.specs.Items.{Lexeme, joined}
@@ -40,7 +40,7 @@ statement_span (continues s) = s
 
 -- ---- nodes among items
 
--- The node of this span and these words: left of its own items stand those whose tokens come before its words, right of them the others.
+-- The node of this span and these words. Left of its own items are those whose tokens are before its words, right of them the others.
 pub record StandsAmongItems (items : List Lexeme) (s : Span) (before words behind : List Word) : Type 0 where
   pub left : List Lexeme
   pub own : List Lexeme
@@ -53,7 +53,7 @@ pub record StandsAmongItems (items : List Lexeme) (s : Span) (before words behin
   pub is_right : emitted (after start (left ++ own)) right ++ closing (after start items).fresh ≡ behind
   pub tight : IsTight own
 
--- The expression or statement in a hole. (A block ends with a line end, which is no item of its own.)
+-- The expression or statement in a hole. (A block ends with a line end, which is not an item of its own.)
 abbrev pub NodeStands : List Lexeme → (sort : Sort) → Node sort Span → (before behind : List Word) → Type 0
 NodeStands items of_expression e before behind = StandsAmongItems items (expression_span e) before (expression_words e) behind
 NodeStands items of_statement s before behind = StandsAmongItems items (statement_span s) before (statement_words s) behind
@@ -75,7 +75,7 @@ pub record ListStands (items : List Lexeme) (p : ListAt Span) : Type 0 where
   pub is_inner : spoken inner ≡ inner_words p.list
   pub is_right : emitted (after start (left ++ open_item ∷ (inner ++ close_item ∷ []))) right ++ closing (after start items).fresh ≡ p.behind
 
--- A part of a list, between the words before it and those behind it.
+-- A part of a list, between the words before it and those after it.
 pub record PartStands (items : List Lexeme) (p : ListAt Span) (l : ListStands items p) (s : Span) (before words behind : List Word) : Type 0 where
   pub left : List Lexeme
   pub own : List Lexeme
@@ -92,7 +92,7 @@ pub record PartStands (items : List Lexeme) (p : ListAt Span) (l : ListStands it
 abbrev pub ElementStands : (items : List Lexeme) (p : ListAt Span) → ListStands items p → ElementAt Span → Type 0
 ElementStands items p l e = PartStands items p l (argument_span e.element) e.before (argument_words e.element) e.behind
 
--- The value of an element, behind the element's name where it has one.
+-- The value of an element, after the element's name if it has one.
 abbrev pub ValueStands : (items : List Lexeme) (p : ListAt Span) → ListStands items p → ElementAt Span → Expression Span → Type 0
 ValueStands items p l e v = PartStands items p l (expression_span v) (e.before ++ words_ahead e.element) (expression_words v) e.behind
 

@@ -1,4 +1,4 @@
--- In a file that located tokens spell, the tokens of a list may be exchanged for those of another list with the same span.
+-- If located tokens spell a file, the tokens of a list may be replaced by those of another list with the same span.
 use Rattle.std.specs.Prelude.{◌≡◌, ◌≤◌, ℕ, List, ◌++◌, Some}
 use Rattle.meson_lex.specs.declared.kinds.Span.{Span}
 use Rattle.meson_lex.specs.Located.{Token, words}
@@ -7,7 +7,7 @@ use Rattle.meson_syntax.specs.Grammar.{file_depth}
 use Rattle.meson_syntax.specs.Spelling.{SpellsListing, SpellsFile}
 use Rattle.meson_syntax.specs.Paths.{ListAt, list_at, list_span}
 
--- The tokens of a list among those of its file, and the file with another list there, where its depth allows it.
+-- The tokens of a list among those of its file, and the file with another list there, if its depth allows it.
 pub record ListSwaps (len depth : ℕ) (ts : List Token) (p : ListAt Span) : Type 0 where
   pub inner : ℕ
   pub front : List Token

@@ -8,14 +8,14 @@ ghost use Rattle.meson_syntax.specs.Tree.{operands_of, tails_of, arguments_of, b
 
 use meson_syntax::{Arg, Block, Branch, Expr, List, Operand, Parsed, Stmt, Tail};
 
-/// No more than so many brackets, conditionals, selections and iterations of the tree stand inside one another.
+/// Whether at most this number of brackets, conditionals, selections and iterations of the tree are inside one another.
 pub fn nests_within(tree: &Parsed, most: usize) -> bool
     ensures { (source : Bytes) → result ≡ nat_le (file_depth (view source tree.now)) most }
 {
     block_fits(&tree.block, most)
 }
 
-// Below, whether a part fits where there is room for so many constructs inside one another.
+// Below: whether a part fits if there is room for this number of constructs inside one another.
 
 #[cycle(expressions)]
 fn expr_fits(expr: &Expr, room: usize) -> bool

@@ -6,8 +6,8 @@ ghost use Rattle.meson_edit.specs.Laws.{AppendedSpell, FirstsSpell, InsertionsSp
 ghost use Rattle.meson_edit.specs.PutBack.{ListsPutBack};
 ghost use Rattle.meson_edit.specs.Sequences.{DepthsGrow, EditsDeepen, EditsDeepenByOne, FirstsKeepLevels, FirstsStayWithin, InsertionsKeepLevels, InsertionsStayWithin, ListsAreShallow, ListsStay, RemovalsKeepLevels, RemovalsStayWithin, ReplacementsKeepLevels, WrapsKeepLevels};
 
-/// An element put in, removed, exchanged or wrapped: the new text spells the tree so edited. No byte outside the list is looked
-/// at or changes, and in its place stands the text of the edited list, which reads by itself.
+/// An element is inserted, removed, replaced or wrapped: the new text spells the tree with that edit. No byte outside the list is read or changed. In its place
+/// is the text of the edited list, which also parses by itself.
 pub fn lists()
     ensures firsts { FirstsSpell }
     ensures insertions { InsertionsSpell }
@@ -19,20 +19,20 @@ pub fn lists()
     ensures written_read { WrittenListsRead }
 {}
 
-/// A statement removed or appended: the new text spells the tree so edited.
+/// A statement is removed or appended: the new text spells the tree with that edit.
 pub fn statements()
     ensures removals { StatementRemovalsSpell }
     ensures appended { AppendedSpell }
 {}
 
-/// What an edit keeps. In a list each comment and continuation but those of what is touched, and each other element, byte for byte;
-/// around a removed statement all but a blank on each side and the line end of its line; before an appended one all.
+/// What an edit keeps. In a list: each comment and continuation but those of what is touched, and each other element, byte for byte. Around a removed
+/// statement: all but a blank on each side and the line end of its line. Before an appended one: all.
 pub fn kept()
     ensures edits { EditsKeep }
 {}
 
-/// What one edit leaves to the next: a list stands where it was put and all around it as before, the tree is no deeper than what
-/// was put in makes it, no list is deeper than its tree, and the tree keeps its levels.
+/// What one edit leaves to the next. A list is where it was put, and all around it is as before. The tree is no deeper than the inserted part makes it, no list
+/// is deeper than its tree, and the tree keeps its levels.
 pub fn sequences()
     ensures stay { ListsStay }
     ensures depths { DepthsGrow }
@@ -49,12 +49,12 @@ pub fn sequences()
     ensures insertions_level { InsertionsKeepLevels }
 {}
 
-/// A list that was exchanged for another one and is put back from its old bytes leaves the tree as it was, to the last border.
+/// A list was replaced by another one and is put back from its old bytes. Then the tree is as it was, to the last border.
 pub fn put_back()
     ensures lists { ListsPutBack }
 {}
 
-/// A tree of the code whose list is exchanged stands in the new text, and exchanged back it is the old value.
+/// A tree of the code whose list is replaced is spelled by the new text. With the old list put back, it is the old value.
 pub fn exchanged_trees()
     ensures exchange { TreesExchange }
     ensures old { OldListsLook }

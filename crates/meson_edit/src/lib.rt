@@ -1,4 +1,4 @@
-//! Edits of the trees of build files, and the laws that the splices of their layout make the text of the edited tree.
+//! Edits of the trees of build files. The laws say that the splices of an edit's layout give the text of the edited tree.
 #![tactic(auto)]
 
 mod depth;

@@ -1,4 +1,4 @@
-//! Where an expression stands.
+//! The span of an expression.
 
 ghost use Rattle.std.specs.Prelude.{◌≡◌};
 ghost use Rattle.meson_syntax.specs.View.{Bytes, expr_view};
@@ -7,7 +7,7 @@ ghost use Rattle.meson_edit.specs.Standing.{expression_span};
 use meson_lex::Span;
 use meson_syntax::Expr;
 
-/// Where an expression stands.
+/// The span of an expression in its source, in bytes.
 pub fn span_of(expr: &Expr) -> Span
     ensures { (source : Bytes) → result ≡ expression_span (expr_view source expr.now) }
 {

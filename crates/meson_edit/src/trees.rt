@@ -1,4 +1,4 @@
-//! Laws of trees and of the texts that spell them: where nodes stand, and what stays when a list or a statement is exchanged.
+//! Laws of trees and of the texts that spell them: where nodes are, and what stays when a list or a statement is replaced.
 //! The functions do nothing: what they ensure is the law.
 
 ghost use Rattle.meson_edit.specs.Holes.{ListsStand, NodesStand, BlocksErase, ListsErase, NodesErase, HolesFit, ListsFit};
@@ -13,8 +13,8 @@ ghost use Rattle.meson_edit.specs.Borders.{ListsEnd, TreesEnd};
 ghost use Rattle.meson_edit.specs.KeptLists.{ListsAlone, ListsKept, ListsPutErase};
 ghost use Rattle.meson_edit.specs.PutLists.{FoundListsLook, PutListsLook, ElementsStay};
 
-/// A span names its node's place among the items of the text: for each expression and statement that a path names, and for
-/// each list with its elements and their values.
+/// A span determines its node's place among the items of the text. So it is for each expression and statement that a path names, and for each list with its
+/// elements and their values.
 pub fn places()
     ensures nodes_stand { NodesStand }
     ensures lists_stand { ListsStand }
@@ -27,23 +27,22 @@ pub fn erased()
     ensures blocks_erase { BlocksErase }
 {}
 
-/// A tree with another node, or another list, where a path names one has the words of the other in the place of the old ones.
+/// Another node, or another list, may be put where a path names one. Then the tree has the words of the other in the place of the old ones.
 pub fn holes()
     ensures holes_fit { HolesFit }
     ensures lists_fit { ListsFit }
 {}
 
-/// A list's bytes may be exchanged for the text of another list: the new text spells the tree with the other list in that place,
-/// and reads as that tree where its length and its depth allow it.
+/// A list's bytes may be replaced by the text of another list: the new text spells the tree with the other list in that place. It parses as that tree if its
+/// length and its depth allow it.
 pub fn exchange()
     ensures lists_exchange { ListsExchange }
     ensures lists_read_again { ListsReadAgain }
     ensures lists_level { ListsLevel }
 {}
 
-/// A statement may go from its block, with the blank before it and with what ends its line, and one may be put behind a file on
-/// lines of its own: the new text spells the tree without that statement, or with it at the end, and reads as that tree where
-/// its length and its depth allow it.
+/// A statement may be removed from its block, with the blank before it and with what ends its line. One may be added at the end of a file on lines of its own.
+/// The new text spells the tree without that statement, or with it at the end. It parses as that tree if its length and its depth allow it.
 pub fn statements()
     ensures statements_go { StatementsGo }
     ensures removals_read_again { RemovalsReadAgain }
@@ -53,8 +52,8 @@ pub fn statements()
     ensures appending_levels { AppendingLevels }
 {}
 
-/// What an edit on the items of a text has to know of them: before a statement a line begins, behind it one ends, and which words
-/// are left without it; which items are a statement's text; and that a text which spells a tree reads as it.
+/// What an edit on the items of a text has to know of them. Before a statement a line begins, after it one ends. Which words are left without it. Which items
+/// are a statement's text. And a text which spells a tree parses as it.
 pub fn lines()
     ensures statements_stand { StatementsStand }
     ensures statements_are_texts { StatementsAreTexts }
@@ -66,8 +65,7 @@ pub fn lines()
     ensures spelled_reads { SpelledReads }
 {}
 
-/// Where a list is exchanged for another one, the tokens before it stay where they are, and those behind it move by the difference
-/// of the lengths.
+/// If a list is replaced by another one, the tokens before it stay where they are. Those after it move by the difference of the lengths.
 pub fn tokens()
     ensures tokens_move { TokensMove }
 {}
@@ -78,14 +76,14 @@ pub fn mapped()
     ensures lists_map { ListsMap }
 {}
 
-/// In a file that located tokens spell, the tokens of a list may be exchanged for those of another list with the same span,
-/// where the depth allows it: they spell the file with the other list in that place.
+/// If located tokens spell a file, the tokens of a list may be replaced by those of another list with the same span, if the depth allows it. They spell the
+/// file with the other list in that place.
 pub fn swapping()
     ensures lists_swap { ListsSwap }
 {}
 
-/// Where the borders of a tree and of the tokens that spell it move alike, the tokens spell it as before; and what a tree looks like
-/// once the code's value has its borders moved.
+/// If the borders of a tree and of the tokens that spell it move alike, the tokens spell it as before. And the view of a tree once the code's value has its
+/// borders moved.
 pub fn moving()
     ensures files_move { FilesMove }
     ensures lists_move { ListsMove }
@@ -93,8 +91,7 @@ pub fn moving()
     ensures list_views_move { ListViewsMove }
 {}
 
-/// Two trees that look alike over one source are the same value, and so are two lists. Over two sources one tree looks alike but
-/// for its texts.
+/// Two trees that look alike over one source are the same value, and so are two lists. Over two sources one tree looks alike but for its texts.
 pub fn views_tell()
     ensures views_tell { ViewsTell }
     ensures list_views_tell { ListViewsTell }
@@ -102,28 +99,27 @@ pub fn views_tell()
     ensures list_views_text { ListViewsText }
 {}
 
-/// No border of a tree lies behind its text, which ends where the tree does, and none of a list that is read alone.
+/// No border of a tree is after the end of its text, which ends where the tree does. The same holds of a list that is read alone.
 pub fn borders()
     ensures trees_end { TreesEnd }
     ensures lists_end { ListsEnd }
 {}
 
-/// Where a list's bytes are exchanged for the text of another list, the tree of the new text is the old one, with its borders behind the
-/// list moved by the difference of the lengths, and the other list in that place, moved to it. And each list of a tree is
-/// what is read of its own bytes, moved.
+/// If a list's bytes are replaced by the text of another list, the tree of the new text is the old one with two changes. Its borders after the list are moved
+/// by the difference of the lengths, and the other list is in that place, moved to it. And each list of a tree is what is parsed from its own bytes, moved.
 pub fn kept()
     ensures lists_kept { ListsKept }
     ensures lists_put_erase { ListsPutErase }
     ensures lists_alone { ListsAlone }
 {}
 
-/// What a tree of the code looks like once a list is put in it, and what the list that stood there looks like.
+/// The model of a tree of the code once a list is put in it, and the model of the list that was there.
 pub fn putting()
     ensures put_lists_look { PutListsLook }
     ensures found_lists_look { FoundListsLook }
 {}
 
-/// Where the borders from a list's end on move, its elements stay where they are.
+/// If the borders from a list's end on move, its elements stay where they are.
 pub fn elements()
     ensures elements_stay { ElementsStay }
 {}

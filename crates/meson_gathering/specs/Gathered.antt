@@ -14,7 +14,7 @@ IsUnread failed failed' name (store.ReadFailed n) = (n ≡ name) × Rose failed 
 IsUnread failed failed' name store.OutOfMemory = ⊤
 IsUnread failed failed' name _ = ⊥
 
--- Why gathering stops, where P holds of the ending.
+-- Why gathering stops, if P holds of the ending.
 abbrev pub StoreStopsAt : ℕ → ℕ → (Ending → Type 0) → StoreFault → Type 0
 StoreStopsAt failed failed' P (store.ReadFailed name) = Rose failed failed' × P (unread name)
 StoreStopsAt failed failed' P (store.NoFile name) = (name ≡ build_file) × P rootless

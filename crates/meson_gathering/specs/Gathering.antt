@@ -22,21 +22,21 @@ named_folder name = option_map (λ n. n.now) name
 
 -- ---- one name after another
 
--- the files with one more behind them, or none where they are as many as may be
+-- the files with one more after them, or none if they are as many as may be
 abbrev pub with_more : List File → File → Option (List File)
 with_more files f = if nat_lt (length files) max_files then Some (files ++ f ∷ []) else None
 
--- a name whose file is among them changes nothing, nor does one that the store has no file of
+-- a name changes nothing if its file is among them, or if the store has no such file
 abbrev pub files_with : List File → List ℕ → Option ℕ → Option (List ℕ) → Option (List File)
 files_with files name None (Some bytes) = with_more files (file_of name bytes)
 files_with files name _ _ = Some files
 
 module _ (content : Content) (folder : Option (List ℕ)) where
-  -- the bytes that the store has of the file of that name in the project
+  -- the bytes that the store has for the file of that name in the project
   abbrev pub held_bytes : List ℕ → Option (List ℕ)
   held_bytes name = get content (path_in folder name)
 
-  -- The files with those that the names mean and the store has behind them, in order, each once; none where they would be too many.
+  -- The files, followed by those that the names mean and the store has, in order, each once; none if they would be too many.
   abbrev pub files_entered : List (List ℕ) → List File → Option (List File)
   files_entered [] files = Some files
   files_entered (name ∷ names) files = option_and_then (files_entered names) (files_with files name (position_of_file name files) (held_bytes name))
@@ -49,7 +49,7 @@ pub data Ending : Type 0 where
   whole : List File → Ending
   -- the store has no root file
   rootless : Ending
-  -- the file of this name is no build file
+  -- the file of this name is not a valid build file
   unparsed : List ℕ → ParseFault → Ending
   -- the file of this name could not be read; no statement on a store's content says when
   unread : List ℕ → Ending
@@ -64,7 +64,7 @@ pub record IsNextFile (content : Content) (folder : Option (List ℕ)) (names : 
   pub are_there : files_entered content folder before files ≡ Some there
   pub is_new : position_of_file name there ≡ None
 
--- The files that were looked at, and behind them those that are still to be looked at, in order: each in turn enters the files of its `subdir` calls.
+-- The files that were looked at, followed by those that are still to be looked at, in order. Each in turn enters the files of its `subdir` calls.
 pub data Gathers (content : Content) (folder : Option (List ℕ)) : List File → List File → Ending → Type 0 where
   ended : (looked : List File) → Gathers content folder looked [] (whole looked)
   enters : (looked todo more : List File) (f : File) (names : List (List ℕ)) (end : Ending) → Enters f.name f.bytes names
@@ -85,10 +85,10 @@ pub data Collects (content : Content) (folder : Option (List ℕ)) : Ending → 
       → Gathers content folder [] (file_of build_file bytes ∷ []) end
       → Collects content folder end
 
--- P holds of what the store holds, if it tells it
+-- P holds of what the store holds, if it reports that
 abbrev pub Told : Option Content → (Content → Type 0) → Type 0
 Told before P = (content : Content) → before ≡ Some content → P content
 
--- a store that told this before the files were read
+-- a store that reported this before the files were read
 abbrev pub Finds : Option Content → Option (List ℕ) → Ending → Type 0
 Finds before folder end = Told before (λ content. Collects content folder end)

@@ -1,5 +1,5 @@
--- How often a store is read for a project's files: once for the root file, and once for each name that is entered and that no file there has.
--- The file of which a fault tells that it could not be read is the last that the store was asked for.
+-- The number of reads of a store for a project's files: one for the root file, and one for each entered name that no file there has. If a fault says that a
+-- file could not be read, it is the last file that the store was queried for.
 use Rattle.std.specs.Prelude.{◌≡◌, ◌<◌, ◌≤◌, ◌⊎◌, true, ℕ, suc, List, [], ◌∷◌, ◌++◌, length, Option, Some, None, IfSome, is_some}
 use Rattle.meson_splice.specs.declared.file_set.File.{File}
 use Rattle.meson_splice.specs.Files.{bytes_at, position_of_file}
@@ -14,7 +14,7 @@ use Rattle.meson_gathering.specs.Gathering.{Told, file_of, held_bytes, files_wit
 use Rattle.meson_gathering.specs.declared.fault.GatherFault.{GatherFault}
 use Rattle.meson_gathering.specs.declared.fault.GatherFault.TheVariants.{Store}
 
--- ---- the file of which a fault tells that it could not be read, if there is one
+-- ---- the file that a fault reports as unreadable, if there is one
 
 -- a fault of the store
 abbrev pub unread_name : StoreFault → Option (List ℕ)
@@ -26,29 +26,29 @@ abbrev pub unread_file : GatherFault → Option (List ℕ)
 unread_file (Store fault) = unread_name fault
 unread_file _ = None
 
--- ---- what the store is asked for at last, where it ends with a fault; `unread` is the file that the fault tells of so
+-- ---- the last query to the store, if it ends with a fault; `unread` is the file that the fault reports as unreadable
 
--- for nothing, and it tells of none
+-- no query, and the fault reports no file
 abbrev pub AsksNone : ℕ → ℕ → Option (List ℕ) → Type 0
 AsksNone reads reads' unread = (reads' ≡ reads) × (unread ≡ None)
 
--- for the file of that name, once, and it tells of no other
+-- a query for the file of that name, once, and the fault reports no other
 abbrev pub Asks : List ℕ → ℕ → ℕ → Option (List ℕ) → Type 0
 Asks name reads reads' unread = (reads' ≡ one_more reads) × IfSome unread (λ n. n ≡ name)
 
--- for nothing, or for that file
+-- no query, or one for that file
 abbrev pub MayAsk : List ℕ → ℕ → ℕ → Option (List ℕ) → Type 0
 MayAsk name reads reads' unread = AsksNone reads reads' unread ⊎ Asks name reads reads' unread
 
--- the same, and for nothing where that file is there
+-- the same, and no query if that file is there
 abbrev pub MayAskIfNew : List ℕ → List File → ℕ → ℕ → Option (List ℕ) → Type 0
 MayAskIfNew name files reads reads' unread = AsksNone reads reads' unread ⊎ ((position_of_file name files ≡ None) × Asks name reads reads' unread)
 
--- of a store that told this before
+-- of a store that reported this before
 module _ (before : Option Content) (folder : Option (List ℕ)) where
   -- ---- names that are entered
 
-  -- a name is entered: where its file is there nothing is read; else the store is asked for it, once
+  -- a name is entered: if its file is there nothing is read; else the store is queried for it, once
   pub data EntersOne (name : List ℕ) (files : List File) (reads : ℕ) : List File → ℕ → Type 0 where
     is_there : is_some (position_of_file name files) ≡ true → EntersOne name files reads files reads
     is_read : (bytes : Option (List ℕ)) (new : List File) → position_of_file name files ≡ None → Told before (λ content. bytes ≡ held_bytes content folder name)
@@ -71,7 +71,7 @@ module _ (before : Option Content) (folder : Option (List ℕ)) where
     pub entered : EntersEach files reads done there so_far
     pub last : MayAskIfNew name there so_far reads' unread
 
-  -- ---- the files, of which so many were looked at
+  -- ---- the files, of which this number were looked at
 
   -- the names that the file at a place enters are entered
   abbrev pub EntersFor : List File → ℕ → ℕ → List File → ℕ → Type 0

@@ -1,14 +1,14 @@
-//! Why the files of a project are not gathered.
+//! Why the files of a project cannot be gathered.
 
 use meson_splice::Text;
 use meson_store::StoreFault;
 use meson_syntax::ParseFault;
 use std::alloc::{AllocError, AllocFailed};
 
-/// Why a store's files are no project.
+/// Why a store's files are not a project.
 #[derive(Debug, Drop)]
 pub enum GatherFault {
-    /// The file of this name is no build file.
+    /// The file of this name is not a valid build file.
     Parse { name: Text, fault: ParseFault },
     /// The project has more files than it may have.
     TooManyFiles,

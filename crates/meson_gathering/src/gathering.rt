@@ -25,10 +25,10 @@ use std::alloc::Global;
 /// The root build file's name.
 const ROOT: &str = "meson.build";
 
-/// The bytes of a file NAME of the folder's project, or none where the store has no such file.
+/// The bytes of a file NAME of the folder's project, or none if the store has no such file.
 ///
 /// # Errors
-/// The store failed to read it, or want of memory.
+/// The store failed to read it, or out of memory.
 pub fn read_file<S: Store>(
     alloc: Global,
     store: &mut S,
@@ -53,7 +53,7 @@ pub fn read_file<S: Store>(
     }
 }
 
-/// Puts a file behind the others, of which none has its name.
+/// Adds a file after the others; none of them has its name.
 fn add(alloc: Global, files: &mut NamedFiles, name: &str, bytes: Vec<u8>) -> Result<(), GatherFault>
     requires named { IsFileName name.now }
     requires few { length files.old ≤ max_files }
@@ -69,7 +69,7 @@ fn add(alloc: Global, files: &mut NamedFiles, name: &str, bytes: Vec<u8>) -> Res
     Ok(())
 }
 
-/// Reads the file of a name that is entered, where it is not there yet and the store has it.
+/// Reads the file of a name that is entered, if it is not there yet and the store has it.
 fn enter<S: Store>(
     alloc: Global,
     store: &mut S,
@@ -130,7 +130,7 @@ fn enter_all<S: Store>(
     Ok(())
 }
 
-/// What a file says.
+/// The contents of a file.
 #[derive(Drop)]
 struct ParsedFile {
     tree: Parsed,
@@ -138,7 +138,7 @@ struct ParsedFile {
     names: Vec<String>,
 }
 
-/// A file that is none, by its name.
+/// The fault of a file that is not valid, by its name.
 fn unparsed(alloc: Global, name: &str, fault: ParseFault) -> GatherFault
     ensures { (bytes : List ℕ) → MayNotRead bytes fault → StopsLooking name.now bytes result }
 {
@@ -173,7 +173,7 @@ fn entry_at(alloc: Global, files: &NamedFiles, place: usize) -> Result<ParsedFil
     Ok(ParsedFile { tree, names })
 }
 
-/// Reads the files that one of the files enters, and answers its tree.
+/// Reads the files that one of the files enters, and returns its tree.
 fn look<S: Store>(
     alloc: Global,
     store: &mut S,
@@ -231,12 +231,12 @@ fn root_set<S: Store>(
 }
 
 /// Reads the project in this folder: the root file, and then for each file in order those that it enters.
-/// A file that is entered need not be there. Each file is parsed once. The store is asked once for the root file, once for
-/// each name that is entered and that no file has which was read before, and for no other.
+/// A file that is entered need not exist. Each file is parsed once. The store is queried once for the root file, once for each entered name for which no file
+/// was read before, and for no other.
 ///
 /// # Errors
-/// The store has no root file, a file can't be read or is none, there are too many, or want of memory. The file that can't be
-/// read is the last that the store was asked for.
+/// The store has no root file, a file can't be read or is not valid, there are too many, or out of memory. The file that can't be read is the last that the
+/// store was queried for.
 pub fn gather<S: Store>(
     alloc: Global,
     store: &mut S,

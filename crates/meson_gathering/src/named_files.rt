@@ -10,7 +10,7 @@ use std::alloc::{AllocError, Global};
 use std::collections::HashSet;
 use std::marker::Model;
 
-/// Files in order, no two of one name, and the set of their names. Contracts see the list of the files.
+/// Files in order, with different names, and the set of their names. Contracts see the list of the files.
 #[derive(Drop)]
 pub(crate) struct NamedFiles {
     files: FileSet,
@@ -30,7 +30,7 @@ impl Model for NamedFiles {
 }
 
 impl NamedFiles {
-    /// No files. Takes no memory.
+    /// No files. Does not allocate.
     pub(crate) fn new(alloc: Global) -> Self
         ensures { result ≡ [] }
     {
@@ -78,10 +78,10 @@ impl NamedFiles {
         self.names.contains(name)
     }
 
-    /// Adds a file behind the others, of which none has its name.
+    /// Adds a file after the others; none of them has its name.
     ///
     /// # Errors
-    /// Want of memory.
+    /// Out of memory.
     pub(crate) fn push(
         &mut self,
         alloc: Global,

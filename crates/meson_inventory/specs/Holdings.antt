@@ -31,7 +31,7 @@ calls_of p f = places (all_chosen (with_function f) (calls p))
 
 -- ---- what a project holds
 
--- whether a `subdir` call enters one of the files: its folder is a plain literal, and the file that is meant is there
+-- whether a `subdir` call enters one of the files: its folder is a plain literal, and that file is among them
 abbrev pub enters_one : List File → HeldCall → Bool
 enters_one files c = is_entered files (meant_in files c.file c.head.name)
 

@@ -14,11 +14,11 @@ use Rattle.meson_inventory.specs.declared.holdings.HeldCall.{HeldCall}
 abbrev pub file_data : File → Data
 file_data f = string f.name
 
--- where a call stands
+-- the place of a call
 abbrev pub spot_data : List File → HeldCall → Data
 spot_data files c = object (member (codes "at") (number (unsigned c.head.at)) (member (codes "file") (string (name_of_file c.file files)) no_members))
 
--- and what names it
+-- and its names
 abbrev pub held_data : List File → HeldCall → Data
 held_data files c =
     object (member (codes "at") (number (unsigned c.head.at))

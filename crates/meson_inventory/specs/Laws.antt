@@ -1,4 +1,4 @@
--- What is promised of the calls that are listed of a project, in the words of ids and of variables.
+-- What is promised about the calls that are listed of a project, in the words of ids and of variables.
 use Rattle.std.specs.Prelude.{◌≡◌, ◌≢◌, ◌⊎◌, ℕ, false, List, [], filter, Some, All}
 use Rattle.std.specs.List.{Contains, list_any}
 use Rattle.meson_calls.specs.declared.call.CallRef.{CallRef}
@@ -12,7 +12,7 @@ use Rattle.meson_calls.specs.Subdirs.{enters_unknown}
 use Rattle.meson_inventory.specs.Holdings.{held_call, held_calls, holdings}
 use Rattle.meson_inventory.specs.declared.holdings.HeldCall.{HeldCall}
 
--- ---- What an id finds is among the targets that are listed, and has the id there as its name or its variable.
+-- ---- What an id finds is among the listed targets, and has the id there as its name or its variable.
 
 pub record IsListed (l : Loaded) (id : List ℕ) (c : CallRef) : Type 0 where
   pub call : HeldCall
@@ -25,8 +25,8 @@ FoundAreListed = (l : Loaded) (id : List ℕ) → All (IsListed l id) (places (f
 
 -- ---- What is not entered makes the value of every variable unknown.
 
--- The calls that are listed as not entered are the `subdir` calls by which any variable may be set. Where there is one, no variable is known; where
--- there is none, no `subdir` call is why.
+-- The calls that are listed as not entered are the `subdir` calls by which any variable may be set. With such a call, no variable is known; without one, no
+-- `subdir` call is the reason.
 pub record TellsWhyUnknown (l : Loaded) : Type 0 where
   pub same : (holdings l).not_entered ≡ held_calls l (places (filter (enters_unknown (project l)) (calls (project l))))
   pub unknown : (holdings l).not_entered ≢ [] → all_known (project l) ≡ false

@@ -30,7 +30,7 @@ pub(crate) struct HeldCall {
     pub variable: Option<Text>,
 }
 
-/// What a project holds beside its files, each in file order and source order.
+/// What a project holds besides its files, each in file order and source order.
 #[derive(Drop)]
 pub(crate) struct Holdings {
     /// The calls that make targets.

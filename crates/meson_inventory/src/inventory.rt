@@ -23,7 +23,7 @@ fn files_value(alloc: Global, files: &FileSet) -> Result<Value, AllocError>
     Ok(Value::Array(list))
 }
 
-/// A call, with what names it.
+/// A call, with its names.
 fn call_value(alloc: Global, files: &FileSet, call: HeldCall) -> Result<Value, AllocError>
     ensures { IfOk result (λ v. view v ≡ held_data files.now call) }
 {
@@ -44,7 +44,7 @@ fn call_value(alloc: Global, files: &FileSet, call: HeldCall) -> Result<Value, A
     Ok(Value::Object(members))
 }
 
-/// Calls, with what names them.
+/// Calls, with their names.
 fn calls_value(alloc: Global, files: &FileSet, calls: Many<HeldCall>) -> Result<Value, AllocError>
     ensures { IfOk result (λ v. view v ≡ array (items_of (map (held_data files.now) calls))) }
 {
@@ -55,7 +55,7 @@ fn calls_value(alloc: Global, files: &FileSet, calls: Many<HeldCall>) -> Result<
     Ok(Value::Array(list))
 }
 
-/// Where some calls stand.
+/// The places of some calls.
 fn spots_value(alloc: Global, files: &FileSet, calls: &[HeldCall]) -> Result<Value, AllocError>
     ensures { IfOk result (λ v. view v ≡ array (items_of (map (spot_data files.now) calls.now))) }
 {
@@ -70,7 +70,7 @@ fn spots_value(alloc: Global, files: &FileSet, calls: &[HeldCall]) -> Result<Val
 /// What a project holds: its files, the calls that make its targets, and the `subdir` calls that enter none of its files.
 ///
 /// # Errors
-/// Memory is refused.
+/// Out of memory.
 pub fn project_object(alloc: Global, project: &Project) -> Result<Value, AllocError>
     ensures { IfOk result (λ v. view v ≡ project_data project.now) }
 {

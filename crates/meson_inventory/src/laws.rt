@@ -1,19 +1,18 @@
-//! Laws of what a project holds. Each one's contract is a law.
+//! Laws of what a project holds. The contract of each function is a law.
 
 ghost use Rattle.meson_inventory.specs.Laws.{FoundAreListed, NotEnteredMeansUnknown};
 
 use meson_calls::laws::parts_are_all;
 
-/// Each call that an id finds is among the targets that are listed of a project, and has the id there as its name or as its
-/// variable.
+/// Each call that an id finds is among the listed targets of a project. It has the id there as its name or as its variable.
 pub fn found_are_listed()
     ensures { FoundAreListed }
 {
     parts_are_all();
 }
 
-/// The calls that are listed as not entered are the `subdir` calls by which any variable may be set. Where there is one, no
-/// variable of the project is known; where there is none, no `subdir` call is the reason why one is unknown.
+/// The calls that are listed as not entered are the `subdir` calls by which any variable may be set. With such a call, no
+/// variable of the project is known. Without one, no `subdir` call is the reason why a variable is unknown.
 pub fn not_entered_means_unknown()
     ensures { NotEnteredMeansUnknown }
 {}

@@ -1,4 +1,4 @@
-//! The numbers of lines in files, each counted on from the last one.
+//! The numbers of lines in files, each counted from the last one.
 
 ghost use Rattle.std.specs.Prelude.{◌≡◌, ◌≤◌, ◌==◌, filter, length};
 ghost use Rattle.meson_splice.specs.Files.{bytes_at};
@@ -17,14 +17,14 @@ fn file_bytes(files: &FileSet, file: usize) -> &[u8]
     }
 }
 
-/// How many line feeds there are.
+/// The number of line feeds.
 fn line_feeds(bytes: &[u8]) -> usize
     ensures { result ≡ length (filter (λ b. b == 10) bytes.now) }
 {
     bytes.iter().filter(|b| **b == b'\n').count()
 }
 
-/// The number of the line of the byte at an offset, counted on from the line of an earlier one.
+/// The number of the line of the byte at an offset, counted from the line of an earlier offset.
 fn line_from(bytes: &[u8], from: usize, line: usize, at: usize) -> usize
     requires found { line ≡ line_number bytes.now from }
     requires later { from ≤ at }
@@ -34,8 +34,8 @@ fn line_from(bytes: &[u8], from: usize, line: usize, at: usize) -> usize
     line + line_feeds(&bytes[from.min(to)..to])
 }
 
-/// Counts the lines of files. It goes on from the last offset where the next one stands behind that in the same file, so one
-/// pass over a file serves offsets in their order.
+/// Counts the lines of files. It continues from the last offset if the next one is after that in the same file. So one pass over a file serves offsets in their
+/// order.
 #[derive(Drop)]
 pub(crate) struct LineCounter<'f> {
     files: &'f FileSet,

@@ -37,7 +37,7 @@ fn variable_part(alloc: Global, variable: &Option<Text>) -> Result<String, Alloc
     }
 }
 
-/// The line of a call, which stands in a line of this number; at its end it says more.
+/// The line of a call, which begins on the line of this number; more text may be added at its end.
 fn call_line(
     alloc: Global,
     files: &FileSet,
@@ -86,11 +86,11 @@ fn file_lines(alloc: Global, files: &FileSet) -> Result<String, AllocError>
     Ok(text)
 }
 
-/// What a project holds, a line for each call that makes a target, for each file, and for each `subdir` call that enters
-/// none of the files: `FILE:LINE: WHAT`, with the number of the line counted from 1.
+/// What a project holds, in lines of the form `FILE:LINE: WHAT`, with the number of the line counted from 1. There is a line for each call that makes a target,
+/// for each file, and for each `subdir` call that enters none of the files.
 ///
 /// # Errors
-/// Memory is refused.
+/// Out of memory.
 pub fn project_lines(alloc: Global, project: &Project) -> Result<String, AllocError>
     ensures { IfOk result (λ text. string_bytes text ≡ project_lines project.now) }
 {

@@ -55,13 +55,13 @@ are_placed cs = list_all (λ c. list_all is_placed c.splices) cs
 abbrev pub is_text_history : History → Bool
 is_text_history h = are_text h.future && are_text h.past
 
--- compact, and a line end; only what is text has a log
+-- compact, and a line end; only text has a log
 unfoldable pub log_of : History → Result (List ℕ) ScriptFault
 log_of h = if is_text_history h then Ok (compact_text (log_data h) ++ 10 ∷ []) else Err BadLog
 
 -- ---- and back
 
--- where it is an object of these four members
+-- if it is an object of these four members
 unfoldable pub splice_of_data : Data → Option Splice
 splice_of_data d =
     if has_members 4 d
@@ -73,7 +73,7 @@ splice_of_data d =
 abbrev pub titled : List Splice → List ℕ → Option Change
 titled ss title = if is_title title then Some (record { splices = ss; title = title }) else None
 
--- where it is an object of these two members
+-- if it is an object of these two members
 unfoldable pub titled_change_of : Data → Option Change
 titled_change_of d =
     if has_members 2 d
@@ -92,7 +92,7 @@ change_of Titled d = titled_change_of d
 abbrev pub changes_at : Version → List ℕ → Data → Option (List Change)
 changes_at version name d = option_and_then (each_of (change_of version)) (option_and_then as_array (get name d))
 
--- where it is an object of these three members, of a version that there is
+-- if it is an object of these three members, of a known version
 unfoldable pub history_of : Data → Option History
 history_of d =
     if has_members 3 d
@@ -101,6 +101,6 @@ history_of d =
     (option_and_then version_of (whole_at (codes "version") d))
     else None
 
--- the history that a text is the log of
+-- the history of a log's text
 unfoldable pub logged : List ℕ → Option History
 logged text = if is_utf8 text then option_and_then history_of (read text) else None

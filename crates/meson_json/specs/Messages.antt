@@ -1,4 +1,4 @@
--- What is told of a text that is no script or no log.
+-- What is reported of a text that is not a valid script or log.
 use Rattle.std.specs.Prelude.{ℕ, List, ◌++◌, codes, decimal}
 use Rattle.meson_json.specs.declared.fault.ScriptFault.{ScriptFault}
 use Rattle.meson_json.specs.declared.fault.ScriptFault.TheVariants.{NotJson, NotArray, TooMany, NotObject, UnknownType, BadField}

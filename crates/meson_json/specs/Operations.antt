@@ -11,7 +11,7 @@ use Rattle.meson_json.specs.declared.names.OptionsOperation.TheVariants as optio
 use Rattle.meson_json.specs.declared.target.TargetOperation.{TargetOperation}
 use Rattle.meson_json.specs.declared.target.TargetOperation.TheVariants as target
 
--- what a word stands for in a table of words, each with its meaning
+-- the meaning of a word in a table of words, each with its meaning
 abbrev pub among : {A : Type 0} → List (List ℕ × A) → List ℕ → Option A
 among [] s = None
 among (row ∷ rows) s = if bytes_eq s row.0 then Some row.1 else among rows s
@@ -25,7 +25,7 @@ target_operation s =
     ∷ (codes "target_add", target.TargetAdd)
     ∷ (codes "extra_files_add", target.ExtraAdd) ∷ (codes "extra_files_rm", target.ExtraRemove) ∷ (codes "info", target.Info) ∷ []) s
 
--- `remove_regex` is known, and not done here
+-- `remove_regex` is known, but not supported here
 abbrev pub kwargs_operation : List ℕ → Option KwargsOperation
 kwargs_operation s =
     among ((codes "set", kwargs.Set) ∷ (codes "delete", kwargs.Delete) ∷ (codes "add", kwargs.Add) ∷ (codes "remove", kwargs.Remove)

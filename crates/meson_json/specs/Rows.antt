@@ -1,4 +1,4 @@
--- Texts of scripts, each with the commands that it stands for or with its first fault; and logs.
+-- Texts of scripts, each with its commands or its first fault; and logs.
 use Rattle.std.specs.Prelude.{◌≡◌, ℕ, ◌==◌, List, [], ◌∷◌, map, codes, if◌then◌else◌, true, Some, None, Result, Ok, Err}
 use Rattle.serde_json.specs.Data.{Items, array}
 use Rattle.serde_json.specs.Events.{items_len}
@@ -79,7 +79,7 @@ Faults =
 
 -- ---- logs
 
--- `, 'b.c'` put in at 50
+-- `, 'b.c'` inserted at 50
 abbrev an_insertion : Splice
 an_insertion = record { file = codes "meson.build"; at = 50; was = []; now = codes ", 'b.c'" }
 

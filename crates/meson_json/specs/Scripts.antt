@@ -1,4 +1,4 @@
--- The commands that a JSON value stands for, or the first fault.
+-- The commands of a JSON value, or the first fault.
 use Rattle.std.specs.Prelude.{ℕ, ◌+◌, List, [], ◌∷◌, codes, is_some, nat_lt, if◌then◌else◌, Option, Some, None, ok_or, option_and_then, Result, Ok, Err}
 use Rattle.serde_json.specs.Data.{Data, Items, no_items, item, Members, no_members}
 use Rattle.serde_json.specs.Events.{items_len}
@@ -24,11 +24,11 @@ use Rattle.meson_json.specs.declared.names.OptionsOperation.TheVariants as optio
 
 -- ---- members
 
--- a text that has to be there
+-- a required text
 abbrev pub required_text : ℕ → List ℕ → Data → Result (List ℕ) ScriptFault
 required_text i name d = ok_or (member_text name d) (BadField i name)
 
--- what is read of a member, or another value where there is no such member
+-- what is read of a member, or another value if there is no such member
 abbrev pub given : {A : Type 0} → (Data → Option A) → ℕ → List ℕ → A → Option Data → Result A ScriptFault
 given read i name otherwise None = Ok otherwise
 given read i name otherwise (Some d) = ok_or (read d) (BadField i name)
@@ -54,7 +54,7 @@ target_entry i d =
 abbrev pub role_at : ℕ → Data → Result Role ScriptFault
 role_at i d = ok_or (option_and_then role_of (member_text (codes "function") d)) (BadField i (codes "function"))
 
--- an operation that is done here
+-- an operation that is supported here
 abbrev pub kwargs_asked : ℕ → Option KwargsOperation → Result KwargsOperation ScriptFault
 kwargs_asked i None = Err (UnknownOperation i)
 kwargs_asked i (Some kwargs.RemoveRegex) = Err (Unsupported i)

@@ -1,4 +1,4 @@
--- What a change is for, in the words of whom made it.
+-- What a change is for, in the words of the person who made it.
 use Rattle.std.specs.Prelude.{◌&&◌, ℕ, nat_le, List, length, Bool, not}
 use Rattle.std.specs.List.{list_any}
 use Rattle.meson_calls.specs.Folders.{is_control}

@@ -1,4 +1,4 @@
-//! Entries of a script: each stands for one command.
+//! Entries of a script: each is one command.
 
 ghost use Rattle.std.specs.Prelude.{◌≡◌, ◌≢◌, Err, IfErr, IfOk, Ok};
 ghost use Rattle.serde_json.specs.View.{members_view, view};
@@ -62,7 +62,7 @@ fn role_at(alloc: Global, index: usize, entry: &Value) -> Result<Role, ScriptFau
     }
 }
 
-/// An operation that is done here.
+/// An operation that is supported here.
 fn kwargs_asked(index: usize, word: &str) -> Result<KwargsOperation, ScriptFault>
     ensures { result ≡ kwargs_asked index (kwargs_operation word.now) }
 {

@@ -5,28 +5,28 @@ use std::alloc::{AllocError, AllocFailed};
 use std::error::Error;
 use std::fmt;
 
-/// Why a text is no script or no log. Entries of a script are counted from 0.
+/// Why a text is not a valid script or log. Entries of a script are counted from 0.
 #[derive(Debug, Drop, PartialEq)]
 pub enum ScriptFault {
-    /// The text is no JSON.
+    /// The text is not JSON.
     NotJson,
-    /// Its value is no array.
+    /// Its value is not an array.
     NotArray,
     /// More than `MAX_COMMANDS` entries.
     TooMany,
-    /// This entry, counted from 0, is no object.
+    /// This entry, counted from 0, is not an object.
     NotObject(usize),
-    /// Its `type` is missing, or none of those that are known.
+    /// Its `type` is missing or unknown.
     UnknownType(usize),
     /// Its member of this name is missing or of another kind.
     BadField(usize, Text),
-    /// Its `operation` is none of those that are known.
+    /// Its `operation` is unknown.
     UnknownOperation(usize),
     /// The operation is known, but not done here.
     Unsupported(usize),
-    /// The text is no log.
+    /// The text is not a valid log.
     BadLog,
-    /// A growth was refused.
+    /// An allocation failed.
     OutOfMemory,
 }
 

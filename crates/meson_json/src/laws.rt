@@ -2,14 +2,14 @@
 
 ghost use Rattle.meson_json.specs.Rows.{ArgumentEntries, Faults, Logs, TargetEntries};
 
-/// Which commands some texts are, and why some are none.
+/// Which commands some texts are, and why some are not valid.
 pub fn script_rows()
     ensures targets { TargetEntries }
     ensures arguments { ArgumentEntries }
     ensures faults { Faults }
 {}
 
-/// Which logs some histories have, and which texts are logs.
+/// The logs of some histories, and which texts are logs.
 pub fn log_rows()
     ensures { Logs }
 {}

@@ -68,7 +68,7 @@ fn change_object(alloc: Global, splices: Value, title: &str) -> Result<Value, Al
     json!(in alloc; {"splices": splices, "title": title})
 }
 
-/// A change as JSON, if its bytes are text and its title is one.
+/// A change as JSON, if its bytes are text and its title is valid.
 fn change_value(alloc: Global, change: &Change) -> Result<Value, ScriptFault>
     ensures ok { IfOk result (λ v. view v ≡ change_data change.now) }
     ensures text { OnOk result (change_has_text change.now ≡ true) }
@@ -115,10 +115,10 @@ fn log_value(alloc: Global, history: &History) -> Result<Value, ScriptFault>
     Ok(log_object(alloc, future, past)?)
 }
 
-/// The log of a history: compact JSON and a line end. It is read back as that history.
+/// The log of a history: compact JSON and a line end. Reading it gives that history.
 ///
 /// # Errors
-/// The bytes of a splice are no text, a title is none, or want of memory.
+/// The bytes of a splice are not UTF-8, a title is not valid, or out of memory.
 pub fn history_text(alloc: Global, history: &History) -> Result<Vec<u8>, ScriptFault>
     ensures text { IfOk result (λ b. log_of history.now ≡ Ok b.items) }
     ensures refused { IfErr result (λ e. e ≢ OutOfMemory → log_of history.now ≡ Err e) }
@@ -133,7 +133,7 @@ pub fn history_text(alloc: Global, history: &History) -> Result<Vec<u8>, ScriptF
 /// The log of a history without changes.
 ///
 /// # Errors
-/// Want of memory.
+/// Out of memory.
 pub fn empty_log(alloc: Global) -> Result<Vec<u8>, ScriptFault>
     ensures text { IfOk result (λ b. b.items ≡ codes "{\"future\":[],\"past\":[],\"version\":2}\n") }
     ensures refused { IfErr result (λ e. e ≡ OutOfMemory) }
@@ -309,10 +309,10 @@ fn history_from(alloc: Global, value: &Value) -> Result<History, ScriptFault>
     Ok(History { past, future })
 }
 
-/// The history that a log is of.
+/// The history of a log.
 ///
 /// # Errors
-/// The bytes are no log, or want of memory.
+/// The bytes are not a valid log, or out of memory.
 #[tactic(auto, unfolding(crate::specs::Log::logged))]
 pub fn read_log(alloc: Global, bytes: &[u8]) -> Result<History, ScriptFault>
     ensures ok { IfOk result (λ h. logged bytes.now ≡ Some h) }
@@ -322,7 +322,7 @@ pub fn read_log(alloc: Global, bytes: &[u8]) -> Result<History, ScriptFault>
     match Value::from_slice(alloc, bytes) {
         Ok(value) => history_from(alloc, &value),
         Err(error) => match ScriptFault::from(error) {
-            // What is no JSON is no log.
+            // What is not JSON is not a log.
             ScriptFault::NotJson => Err(ScriptFault::BadLog),
             fault => Err(fault),
         },

@@ -28,7 +28,7 @@ pub fn owned(alloc: Global, text: &str) -> Result<Text, AllocError>
     Ok(Text::of(String::from_str(alloc, text)?))
 }
 
-/// That the member of this name is missing or of another kind.
+/// The fault that the member of this name is missing or of another kind.
 pub(crate) fn bad_field(alloc: Global, index: usize, name: &str) -> Result<ScriptFault, AllocError>
     ensures { IfOk result (λ fault. fault ≡ BadField index name.now) }
 {
@@ -69,7 +69,7 @@ pub(crate) fn text_or(
     }
 }
 
-/// The texts of an array that has nothing else.
+/// The texts of an array that holds nothing else.
 pub(crate) fn texts(alloc: Global, list: &[Value]) -> Result<Option<Many<Text>>, AllocError>
     ensures { IfOk result (λ o. o ≡ each_of as_str (items_view list.now)) }
 {
@@ -105,7 +105,7 @@ pub(crate) fn texts_or_none(
     }
 }
 
-/// The object of this name, or another one where the entry has no such member.
+/// The object of this name, or another one if the entry has no such member.
 pub(crate) fn members_or<'a>(
     alloc: Global,
     index: usize,

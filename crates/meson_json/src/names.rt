@@ -1,4 +1,4 @@
-//! The words for operations and functions. The command line has them too, but for those of targets.
+//! The words for operations and functions. The command line has the same ones, but for those of targets.
 
 ghost use Rattle.std.specs.Prelude.{◌≡◌};
 ghost use Rattle.meson_json.specs.Operations.{entry_type, kwargs_operation, options_operation, role_of, target_operation};
@@ -21,7 +21,7 @@ pub enum KwargsOperation {
     Delete,
     Add,
     Remove,
-    /// Known of other rewriters, and not done here.
+    /// Known from other rewriters, but not supported here.
     RemoveRegex,
     Info,
 }
@@ -47,7 +47,7 @@ pub(crate) fn find_type(name: &str) -> Option<EntryType>
     }
 }
 
-/// What a script calls an operation on a target.
+/// The operation on a target that a word of a script names.
 pub(crate) fn find_target_operation(name: &str) -> Option<TargetOperation>
     ensures { result ≡ target_operation name.now }
 {

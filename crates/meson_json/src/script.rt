@@ -1,4 +1,4 @@
-//! Scripts: commands that are done one after another, all or none.
+//! Scripts: commands that are performed one after another, all or none.
 
 ghost use Rattle.std.specs.Prelude.{◌≡◌, ◌≢◌, ◌∷◌, [], Err, IfErr, IfOk, Ok, Some};
 ghost use Rattle.serde_json.specs.Read.{read};
@@ -13,7 +13,7 @@ use meson_steps::command::Command;
 use serde_json::Value;
 use std::alloc::Global;
 
-/// How many entries a script may have.
+/// The largest number of entries in a script.
 pub const MAX_COMMANDS: usize = 4096;
 
 /// Commands in order.
@@ -23,10 +23,10 @@ pub struct Script {
 }
 
 impl Script {
-    /// The script that a text of JSON is: an array with an object for each command.
+    /// The script of a JSON text: an array with an object for each command.
     ///
     /// # Errors
-    /// The first fault of the text, of the array, and then entry by entry; or want of memory.
+    /// The first fault of the text, of the array, and then entry by entry; or out of memory.
     pub fn from_json(alloc: Global, text: &str) -> Result<Script, ScriptFault>
         ensures ok { IfOk result (λ s. script_of (read text.now) ≡ Ok s.commands) }
         ensures refused { IfErr result (λ e. e ≢ OutOfMemory → script_of (read text.now) ≡ Err e) }
@@ -35,7 +35,7 @@ impl Script {
         script_from(alloc, &value)
     }
 
-    /// The script of one command. Drops the command where memory is refused.
+    /// The script of one command. If it is out of memory, it drops the command.
     pub fn of(alloc: Global, command: Command) -> Result<Script, ScriptFault>
         ensures ok { IfOk result (λ s. s.commands ≡ command ∷ []) }
         ensures refused { IfErr result (λ e. e ≡ OutOfMemory) }

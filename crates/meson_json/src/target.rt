@@ -1,4 +1,4 @@
-//! What is asked of a target, by a script or on the command line.
+//! Requests on a target, by a script or on the command line.
 
 ghost use Rattle.std.specs.Prelude.{◌≡◌};
 ghost use Rattle.meson_json.specs.Targets.{target_command};
@@ -18,7 +18,7 @@ pub enum TargetOperation {
     Info,
 }
 
-/// The target that is meant, and what is said of it. An operation may leave out all but the target.
+/// The target that is meant, and the members for it. An operation may leave out all but the target.
 #[derive(Drop)]
 pub struct TargetMembers {
     pub target: Text,

@@ -5,7 +5,7 @@ ghost use Rattle.meson_json.specs.Titles.{is_title};
 
 use meson_calls::folders::has_control;
 
-/// How many bytes a title has at most.
+/// The largest number of bytes in a title.
 const MAX_TITLE: usize = 200;
 
 /// Whether a text may be the title of a change: it has at most 200 bytes, and no control character of ASCII.

@@ -3,7 +3,7 @@
 ghost use Rattle.std.specs.Prelude.{◌≡◌};
 ghost use Rattle.meson_json.specs.Log.{version_of};
 
-/// How a log has its changes.
+/// The form of the changes in a log.
 #[derive(Clone, Copy)]
 pub(crate) enum Version {
     /// Each is its splices alone.

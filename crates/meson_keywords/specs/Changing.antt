@@ -21,8 +21,8 @@ use Rattle.meson_calls.specs.Project.{Project}
 use Rattle.meson_calls.specs.declared.call.Role.{Role}
 use Rattle.meson_splice.specs.Patch.{then_ok}
 
--- The call is there, in round brackets; and whatever stands there in its place, as long as it nests no deeper than so much, leaves the file within the limit
--- between two steps. So deep is an argument that is an array of elements, so that each task may put one in, and no task makes room for a deeper one.
+-- The call is there, in round brackets. Whatever is in its place, as long as it nests no deeper than this number, leaves the file within the limit between two
+-- steps. An argument that is an array of elements has that depth. So each task may insert one, and no task makes room for a deeper one.
 pub record CallStands (c : CallRef) (trees : List Plain) : Type 0 where
   pub tree : Plain
   pub is_tree : nth trees c.file ≡ Some tree
@@ -36,7 +36,7 @@ pub record CallStands (c : CallRef) (trees : List Plain) : Type 0 where
 
 -- ---- the answers of the work
 
--- These steps are done, and the call stands.
+-- These steps are done, and the call is there.
 pub record Between (old : Loaded) (c : CallRef) (before : List Step) (w : Work) : Type 0 where
   pub reached : Reached old before [] w
   pub stands : CallStands c (plain_trees (so_far w))
@@ -52,7 +52,7 @@ pub record IsNextTask (old : Loaded) (c : CallRef) (task : code.Task) (w : Work)
   pub is : TaskIs task meant
   pub may : MayBeWritten meant
 
--- The steps of a task are done behind those before.
+-- The steps of a task are done after those before.
 pub record TaskDone (old : Loaded) (c : CallRef) (before : List Step) (t : Task) (was now : Work) : Type 0 where
   pub steps : List Step
   pub are : steps_of_task c t was ≡ Ok steps

@@ -1,4 +1,4 @@
--- What a change leaves of a call, said of the call's arguments before and after it. Meson manual, Rewriter: `kwargs`, `default-options`.
+-- What a change leaves of a call, as to the call's arguments before and after it. Meson manual, Rewriter: `kwargs`, `default-options`.
 use Rattle.std.specs.Prelude.{◌≡◌, ℕ, ◌==◌, Bool, not, List, [], ◌∷◌, ◌++◌, map, if◌then◌else◌, Option, Some, None, is_none, option_and_then, All, Ok}
 use Rattle.std.specs.List.{AllByRecursion, filter, filter_map}
 use Rattle.std.specs.Str.{IsUtf8}
@@ -46,7 +46,7 @@ held_elements (array l) = elements l
 held_elements (dictionary l) = elements l
 held_elements e = plain e ∷ []
 
--- nothing where there is no value (of more than one value no command changes any)
+-- nothing if there is no value (of more than one value no command changes any)
 abbrev pub held_in : {S : Type 0} → List (Expression S) → List (Argument S)
 held_in [] = []
 held_in (v ∷ more) = held_elements v
@@ -67,7 +67,7 @@ pub record Holds (key : List ℕ) (now before after : List (Argument Nowhere)) :
   pub holds : holds key after ≡ now
   pub others : others key after ≡ others key before
 
--- the values that come: each that is not there yet, once; where the argument is absent, all as they are handed in
+-- the values that are added: each that is not there yet, once; if the argument is absent, all as they are given
 abbrev pub coming : ElementKind → List (List ℕ) → List (Expression Nowhere) → List (List ℕ)
 coming k values [] = values
 coming k values (v ∷ more) = distinct_by (filter_map (element_text k) (held_elements v)) values
@@ -77,7 +77,7 @@ put_behind k values = map (λ text. plain (element_node k text)) values
 
 -- ---- options
 
--- what stands behind the first `=`
+-- what is after the first `=`
 abbrev pub after_equals : List ℕ → Option (List ℕ)
 after_equals [] = None
 after_equals (b ∷ bs) = if b == 61 then Some bs else after_equals bs
@@ -119,7 +119,7 @@ pub data TasksLeave : List Task → (before after : List (Argument Nowhere)) →
   one : (t : Task) (ts : List Task) (before between after : List (Argument Nowhere)) → TaskLeaves t before between → TasksLeave ts between after
       → TasksLeave (t ∷ ts) before after
 
--- ---- the law: the steps that tasks mean, done where the call stands, leave of it what these tasks leave
+-- ---- the law: the steps of tasks, done where the call is, leave of it what these tasks leave
 
 abbrev pub StepsLeave : Type 0
 StepsLeave = (ts : List Task) → AllByRecursion MayBeWritten ts → (c : CallRef) (trees : List Plain) → All MayStandBetween trees → CallStands c trees
@@ -152,7 +152,7 @@ pub record CallLeft (old : Loaded) (r : Role) (id : List ℕ) (asked : Asked) (a
   pub are_tasks : asked_tasks r asked ≡ Ok tasks
   pub leave : TasksLeave tasks (elements_in call.place (plain_trees old)) (elements_in call.place after)
 
--- the law: where a request means steps, these leave of its call what its tasks leave
+-- the law: if a request means steps, these leave of its call what its tasks leave
 abbrev pub RequestsLeave : Type 0
 RequestsLeave = (old : Loaded) → IsProject old → (r : Role) (id : List ℕ) (asked : Asked) → AreAskedTexts asked → (steps : List Step)
     → request_steps (project old) (r, id, asked) ≡ Ok steps

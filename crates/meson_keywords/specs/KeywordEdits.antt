@@ -16,13 +16,13 @@ use Rattle.meson_steps.specs.Steps.{step_in, Step}
 use Rattle.meson_steps.specs.Names.{distinct_by}
 use Rattle.meson_keywords.specs.ValueKinds.{written_element, written_list, written_named}
 
--- ---- the keyword argument in hand
+-- ---- the present keyword argument
 
 -- the values of the arguments of a name
 abbrev pub keyword_in : {S : Type 0} → List ℕ → List (Argument S) → List (Numbered (Expression S))
 keyword_in key xs = filter_map (kept_number (value_with_name key)) (numbered 0 (arguments_of xs))
 
--- the one, or none
+-- the only one, or none
 abbrev pub one_at_most : {X : Type 0} → List ℕ → List X → Result (Option X) Refusal
 one_at_most key [] = Ok None
 one_at_most key (x ∷ []) = Ok (Some x)
@@ -33,19 +33,19 @@ the_value key xs = one_at_most key (keyword_in key xs)
 
 -- ---- insertion
 
--- an element behind all of a list with so many
+-- an element at the end of a list with this number of elements
 abbrev pub behind_all : CallRef → ℕ → Written (Argument Nowhere) → Step
 behind_all list zero new = step_in list (First list.path.steps new)
 behind_all list (suc n) new = step_in list (After list.path.steps n new)
 
--- one behind the other
+-- in order
 abbrev pub all_behind : CallRef → ℕ → List (Written (Argument Nowhere)) → List Step
 all_behind list n [] = []
 all_behind list n (new ∷ more) = behind_all list n new ∷ all_behind list (suc n) more
 
 -- ---- removal
 
--- the elements of these numbers, the least first, where so many before them have gone
+-- the elements of these numbers, the least first, when this number before them is removed
 abbrev pub removed_from : CallRef → ℕ → List ℕ → List Step
 removed_from list gone [] = []
 removed_from list gone (n ∷ more) = step_in list (Remove list.path.steps (n - gone)) ∷ removed_from list (suc gone) more
@@ -84,12 +84,12 @@ value_shape _ = no_array
 
 -- ---- set and delete
 
--- The value becomes the new one, whatever it was. An absent argument is inserted as the last one.
+-- The value is replaced by the new one, whatever it was. An absent argument is inserted as the last one.
 abbrev pub set_there : {S : Type 0} → CallRef → ℕ → List ℕ → Written (Expression Nowhere) → Option (Numbered (Expression S)) → Step
 set_there c many key new None = behind_all c many (written_named key new)
 set_there c many key new (Some v) = step_in c (Replace c.path.steps v.number new)
 
--- The argument goes. An absent one changes nothing.
+-- The argument is removed. An absent one changes nothing.
 abbrev pub delete_there : {S : Type 0} → CallRef → Option (Numbered (Expression S)) → List Step
 delete_there c None = []
 delete_there c (Some v) = step_in c (Remove c.path.steps v.number) ∷ []
@@ -105,24 +105,24 @@ abbrev pub add_to_lone : CallRef → ℕ → List ℕ → ElementKind → List (
 add_to_lone c n key k values None = Err (NotLiteral key)
 add_to_lone c n key k values (Some text) = Ok (step_in c (Wrap c.path.steps n) ∷ all_behind (child c n) 1 (new_elements k (text ∷ []) values))
 
--- An array gets each value that is no element yet, behind its last one.
+-- An array gets each value that is not an element yet, after its last one.
 abbrev pub add_by_shape : {S : Type 0} → CallRef → ℕ → List ℕ → ElementKind → List (List ℕ) → Option (List ℕ) → ValueShape S → Result (List Step) Refusal
 add_by_shape c n key k values text (an_array xs) = Ok (all_behind (child c n) (length xs) (new_elements k (filter_map (element_text k) xs) values))
 add_by_shape c n key k values text no_array = add_to_lone c n key k values text
 
--- An absent argument is inserted as the list of the values, as they are handed in.
+-- An absent argument is inserted as the list of the values, as they are given.
 abbrev pub add_there : {S : Type 0} → CallRef → ℕ → List ℕ → ElementKind → List (List ℕ) → Option (Numbered (Expression S)) → Result (List Step) Refusal
 add_there c many key k values None = Ok (behind_all c many (written_named key (written_list k values)) ∷ [])
 add_there c many key k values (Some v) = add_by_shape c v.number key k values (text_in k v.value) (value_shape v.value)
 
 -- ---- remove
 
--- A lone equal value takes its argument with it. A lone unequal one of the kind stays. Of no other value is known what it holds.
+-- A lone equal value is removed with its argument. A lone unequal one of the kind stays. Of any other value it is not known what it holds.
 abbrev pub remove_lone : CallRef → ℕ → List ℕ → List ℕ → Option (List ℕ) → Result (List Step) Refusal
 remove_lone c n key value None = Err (NotLiteral key)
 remove_lone c n key value (Some text) = Ok (if bytes_eq value text then step_in c (Remove c.path.steps n) ∷ [] else [])
 
--- All equal elements go. Where there is none, all elements have to be of the kind: another one may hold the value.
+-- All equal elements are removed. If no element is equal, all elements have to be of the kind: another one may hold the value.
 abbrev pub remove_equal : CallRef → List ℕ → Bool → List ℕ → Result (List Step) Refusal
 remove_equal list key known [] = if known then Ok [] else Err (NotLiteral key)
 remove_equal list key known (n ∷ more) = Ok (removed_from list 0 (n ∷ more))

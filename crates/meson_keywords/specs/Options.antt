@@ -33,12 +33,12 @@ is_entry_element name x = is_entry name (element_text element.Text x)
 
 -- ---- set
 
--- The first entry becomes the new one, and then later ones go. Without one the new one is inserted behind all others.
+-- The first entry becomes the new one, and then later ones are removed. Without one the new one is inserted after all others.
 abbrev pub set_in_list : CallRef → ℕ → List ℕ → List ℕ → List Step
 set_in_list list many entry [] = behind_all list many (written_element element.Text entry) ∷ []
 set_in_list list many entry (n ∷ more) = step_in list (Replace list.path.steps n (written_text entry)) ∷ removed_from list 0 more
 
--- A lone entry of the option becomes the new one. Another one is first wrapped into an array.
+-- A lone entry of the option becomes the new one. Any other value is first wrapped into an array.
 abbrev pub set_in_lone : CallRef → ℕ → List ℕ → Bool → List Step
 set_in_lone c n entry is_same =
     if is_same then step_in c (Replace c.path.steps n (written_text entry)) ∷ []
@@ -90,7 +90,7 @@ keys_known xs = list_all (λ x. is_some (key_text x)) xs
 abbrev pub written_pair : (name value : List ℕ) → Written (Argument Nowhere)
 written_pair name value = record { bytes = literal name ++ (codes ": " ++ literal value); node = pair tt (string_of name) (string_of value) }
 
--- The value of the first entry becomes the new one, and then later ones go. Without one a new one is inserted behind all others.
+-- The value of the first entry becomes the new one, and then later ones are removed. Without one a new one is inserted after all others.
 abbrev pub set_in_dictionary : CallRef → ℕ → (name value : List ℕ) → List ℕ → List Step
 set_in_dictionary list many name value [] = behind_all list many (written_pair name value) ∷ []
 set_in_dictionary list many name value (n ∷ more) = step_in list (Replace list.path.steps n (written_text value)) ∷ removed_from list 0 more
@@ -100,7 +100,7 @@ abbrev pub set_by_value : {S : Type 0} → CallRef → ℕ → (name value : Lis
 set_by_value c n name value e (Some xs) = of_list (keys_known xs) (set_in_dictionary (child c n) (length xs) name value (passing (has_key name) 0 xs))
 set_by_value c n name value e None = set_by_shape c n name (option_text name value) (text_in element.Text e) (value_shape e)
 
--- Every entry of the option goes. The dictionary stays, and be it empty.
+-- Every entry of the option is removed. The dictionary stays, even if it is empty.
 abbrev pub delete_by_value : {S : Type 0} → CallRef → ℕ → List ℕ → Expression S → Option (List (Argument S)) → Result (List Step) Refusal
 delete_by_value c n name e (Some xs) = of_list (keys_known xs) (removed_from (child c n) 0 (passing (has_key name) 0 xs))
 delete_by_value c n name e None = delete_by_shape c n name (text_in element.Text e) (value_shape e)
@@ -111,7 +111,7 @@ abbrev pub set_option_there : {S : Type 0} → CallRef → ℕ → (name value :
 set_option_there c many name value None = Ok (behind_all c many (written_named options_key (written_list element.Text (option_text name value ∷ []))) ∷ [])
 set_option_there c many name value (Some v) = set_by_value c v.number name value v.value (entries v.value)
 
--- Every entry of the option goes. A lone value takes the argument with it.
+-- Every entry of the option is removed. A lone value is removed with the argument.
 abbrev pub delete_option_there : {S : Type 0} → CallRef → List ℕ → Option (Numbered (Expression S)) → Result (List Step) Refusal
 delete_option_there c name None = Ok []
 delete_option_there c name (Some v) = delete_by_value c v.number name v.value (entries v.value)

@@ -32,7 +32,7 @@ task_steps (delete_option name) c xs = then_ok (the_value options_key xs) (delet
 abbrev pub elements_in : CallRef → List Plain → List (Argument Nowhere)
 elements_in c trees = option_map_or (λ p. elements p.list) (option_and_then (λ t. list_at t c.path.steps) (nth trees c.file)) []
 
--- the trees after steps; these name what is there
+-- the trees after steps; the steps name what is there
 abbrev pub trees_after : List Step → List Plain → List Plain
 trees_after steps trees = unwrap_or (all_stepped steps trees) trees
 

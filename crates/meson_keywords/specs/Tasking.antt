@@ -19,7 +19,7 @@ use Rattle.meson_keywords.specs.declared.tasks.Task.TheVariants as code_task
 use Rattle.meson_steps.specs.inside.WrittenValues.{WrittenFor, value_written}
 use Rattle.meson_keywords.specs.Tasks.{Task, set, delete, add, remove, once, set_option, delete_option, each_made, set_entry, delete_entry, add_entry, remove_entry, set_option_entry, delete_option_entry}
 
--- ---- what a command asks
+-- ---- the request of a command
 
 pub data Asked : Type 0 where
   to_set to_add to_remove : List (List ℕ × Setting) → Asked
@@ -61,7 +61,7 @@ AreElements e (t ∷ ts) = IsElement e t × AreElements e ts
 abbrev pub IsKey : List ℕ → Type 0
 IsKey key = IsIdentifier key × IsUtf8 key
 
--- a value in which no construct stands in another but for the elements of an array
+-- a value in which no construct is in another but for the elements of an array
 abbrev pub IsValue : Written (Expression Nowhere) → Type 0
 IsValue new = IsWritten new.bytes (expression_words new.node) × LevelExpression new.node × (expression_depth new.node ≤ 1)
 

@@ -1,4 +1,4 @@
--- What a command on keyword arguments or default options consists of: changes of one call, each made after the one before it.
+-- The parts of a command on keyword arguments or default options: changes of one call, each made after the one before it.
 -- Meson manual, Rewriter: `kwargs set`, `delete`, `add`, `remove`, `default-options set`, `delete`.
 use Rattle.std.specs.Prelude.{ℕ, ◌==◌, ◌||◌, List, [], ◌∷◌, ◌++◌, map, if◌then◌else◌, Option, Some, None, option_map, is_some, Result, Ok, Err}
 use Rattle.meson_splice.specs.Patch.{then_ok}
@@ -15,20 +15,20 @@ use Rattle.meson_keywords.specs.ValueKinds.{key_kind, list_kind, list_values, wr
 pub data Task : Type 0 where
   -- the keyword argument gets this value
   set : (key : List ℕ) → Written (Expression Nowhere) → Task
-  -- the keyword argument goes
+  -- the keyword argument is removed
   delete : (key : List ℕ) → Task
-  -- each of these is among the elements of the keyword argument
+  -- each of these values is made one of the elements of the keyword argument
   add : (key : List ℕ) → ElementKind → (values : List (List ℕ)) → Task
-  -- this is not among them
+  -- this value is removed from its elements
   remove : (key : List ℕ) → ElementKind → (value : List ℕ) → Task
   -- nothing; but the keyword argument may be there once only
   once : (key : List ℕ) → Task
   -- a default option gets this value
   set_option : (name value : List ℕ) → Task
-  -- a default option goes
+  -- a default option is removed
   delete_option : (name : List ℕ) → Task
 
--- ---- the tasks of a command. Its words are looked at in their order, before anything is asked of the call.
+-- ---- the tasks of a command. Its words are checked in their order, before anything is checked of the call.
 
 abbrev pub each_made : {X : Type 0} → (X → Result (List Task) Refusal) → List X → Result (List Task) Refusal
 each_made make [] = Ok []
@@ -37,7 +37,7 @@ each_made make (x ∷ xs) = then_ok (make x) (λ here. then_ok (each_made make x
 abbrev pub set_entry : Role → List ℕ × Setting → Result (List Task) Refusal
 set_entry r pair = then_ok (key_kind r pair.0) (λ k. then_ok (written_value k pair.0 pair.1) (λ new. Ok (set pair.0 new ∷ [])))
 
--- of a deleted argument no value is asked
+-- of a deleted argument no value is required
 abbrev pub delete_entry : Role → List ℕ → Result (List Task) Refusal
 delete_entry r key = then_ok (key_kind r key) (λ k. Ok (delete key ∷ []))
 
@@ -53,7 +53,7 @@ remove_entry r pair =
 
 -- ---- options: each is one text, NAME=VALUE
 
--- what stands before the first `=`
+-- what is before the first `=`
 abbrev pub before_equals : List ℕ → Option (List ℕ)
 before_equals [] = None
 before_equals (b ∷ bs) = if b == 61 then Some [] else option_map (λ front. b ∷ front) (before_equals bs)

@@ -1,5 +1,5 @@
--- What values the keyword arguments have that commands change, and what is written for these. Meson manual, Reference manual: `project`,
--- `dependency`, `executable`.
+-- The values of the keyword arguments that commands change, and what is written for them. Meson manual, Reference manual: `project`, `dependency`,
+-- `executable`.
 use Rattle.std.specs.Prelude.{ℕ, Bool, true, false, not, ◌&&◌, List, [], ◌∷◌, ◌++◌, map, codes, if◌then◌else◌, bytes_eq, Option, Some, None, ok_or, option_map, Result, Ok, Err}
 use Rattle.std.specs.List.{list_all}
 use Rattle.meson_lex.specs.Bytes.{is_word_start, is_word_byte}
@@ -21,7 +21,7 @@ use Rattle.meson_calls.specs.Keys.{identifier_list_keys, switch_keys, text_keys,
 use Rattle.meson_calls.specs.Roles.{one_of}
 use Rattle.meson_steps.specs.WrittenTexts.{string_of, array_of_values, comma_between, written_text}
 
--- ---- what the value of a keyword argument is, by what the call is one of
+-- ---- what the value of a keyword argument is, depending on the kind of call
 
 abbrev pub key_kind : Role → List ℕ → Result ValueKind Refusal
 key_kind r key =
@@ -71,7 +71,7 @@ written_named key new = record { bytes = key ++ (codes ": " ++ new.bytes); node 
 
 -- ---- the values of a command
 
--- what a switch is set to: a truth value, or its name
+-- the value to which a switch is set: a truth value, or its name
 abbrev pub truth_of : Setting → Option Bool
 truth_of (setting.Text t) = if bytes_eq t (codes "true") then Some true else (if bytes_eq t (codes "false") then Some false else None)
 truth_of (setting.Bool b) = Some b

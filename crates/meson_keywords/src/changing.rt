@@ -37,7 +37,7 @@ use std::alloc::Global;
 /// The steps of a task.
 ///
 /// # Errors
-/// The call can't be changed so, or memory is refused.
+/// The call can't be changed so, or out of memory.
 fn task_steps(alloc: Global, subject: Subject<'_>, task: Task<'_>) -> Result<Vec<ListStep>, Refusal>
     requires { GoodArgs subject.source.now subject.args.now }
     ensures meant { (t : changes.Task) → TaskIs task.entry t
@@ -59,7 +59,7 @@ fn task_steps(alloc: Global, subject: Subject<'_>, task: Task<'_>) -> Result<Vec
 /// Does a task on the call at a place, as the steps so far leave it.
 ///
 /// # Errors
-/// The call can't be changed so, or memory is refused.
+/// The call can't be changed so, or out of memory.
 fn do_task(alloc: Global, work: &mut Work, call: &CallRef, task: Task<'_>) -> Result<(), Refusal>
     requires { (old : Loaded) × IsNextTask old call.now task work.old }
     ensures done { (old : Loaded) (before : List meant.Step) (t : changes.Task) → Between old call.now before work.old → TaskIs task.entry t
@@ -87,7 +87,7 @@ fn do_task(alloc: Global, work: &mut Work, call: &CallRef, task: Task<'_>) -> Re
 /// Refuses a call that may have hidden arguments.
 ///
 /// # Errors
-/// It may.
+/// It may have hidden arguments.
 fn not_hidden(source: &[u8], args: &[Arg]) -> Result<(), Refusal>
     ensures { result ≡ not_hidden (kept_args source.now (value_with_name kwargs_key) 0 args.now) }
 {
@@ -100,7 +100,7 @@ fn not_hidden(source: &[u8], args: &[Arg]) -> Result<(), Refusal>
 /// Does tasks on the call at a place.
 ///
 /// # Errors
-/// The call can't be changed so, or the result passes a limit, or memory is refused.
+/// The call can't be changed so, or the result passes a limit, or out of memory.
 fn tasks_done(
     alloc: Global,
     work: &mut Work,
@@ -125,7 +125,7 @@ fn tasks_done(
 /// The place of the one call that an id names.
 ///
 /// # Errors
-/// There is no project, no such call or more than one, or memory is refused.
+/// There is no project, no such call or more than one, or out of memory.
 fn place_named(
     alloc: Global,
     files: &FileSet,
@@ -142,11 +142,11 @@ fn place_named(
     the_call(alloc, role, id, notes.as_slice())
 }
 
-/// Does what is asked.
+/// Performs the request.
 ///
 /// # Errors
-/// The call is not there or not one, or the words are none of such a request, or the call can't be changed so, or the result passes a limit, or memory is
-/// refused.
+/// The call is missing or not the only one. Or the words do not fit such a request, the call can't be changed so, or the result passes a limit. Or out of
+/// memory.
 pub fn changed(alloc: Global, work: &mut Work, request: Request<'_>) -> Result<(), Refusal>
     requires { IsFresh work.old }
     ensures done { OnOk result (IsDone (so_far work.old) (request_steps (project (so_far work.old)) (request_view request.entry)) work.new) }

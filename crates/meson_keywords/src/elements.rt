@@ -1,4 +1,4 @@
-//! The keyword argument in hand, and what the elements of its value say.
+//! The present keyword argument, and what the elements of its value say.
 
 ghost use Rattle.std.specs.Prelude.{◌≡◌, ◌∷◌, [], ◌||◌, IfOk, MatchOption, None, Ok, Some, bytes_eq, is_some, map, option_map};
 ghost use Rattle.std.specs.List.{filter_map, list_any};
@@ -45,7 +45,7 @@ pub(crate) struct NumberedValue<'t> {
 /// The value of the argument of a name, if there is one.
 ///
 /// # Errors
-/// There is more than one, or memory is refused.
+/// There is more than one, or out of memory.
 pub(crate) fn the_value<'t>(
     alloc: Global,
     subject: Subject<'t>,
@@ -176,7 +176,7 @@ pub(crate) fn is_entry(
     }
 }
 
-/// What is asked of each element of a list.
+/// A test of each element of a list.
 #[derive(Clone, Copy)]
 pub(crate) enum Test<'c> {
     /// An element of the kind with this text.

@@ -1,4 +1,4 @@
-//! The steps by which the keyword arguments of a call are changed.
+//! The steps that change the keyword arguments of a call.
 
 ghost use Rattle.std.specs.Prelude.{◌≡◌, ◌<◌, ◌^◌, ◌++◌, ◌∷◌, [], IfErr, IfOk, OnOk, Some, map};
 ghost use Rattle.std.specs.Str.{IsUtf8};
@@ -45,7 +45,7 @@ pub(crate) fn push_edit(
     push_step(steps, list, edit)
 }
 
-/// Puts an element behind all of a list with so many.
+/// Adds an element at the end of a list with this number of elements.
 pub(crate) fn put_behind(
     alloc: Global,
     list: &CallRef,
@@ -64,7 +64,7 @@ pub(crate) fn put_behind(
     push_edit(alloc, list, edit, steps)
 }
 
-/// Puts elements behind all of a list with so many, one behind the other.
+/// Adds elements at the end of a list with this number of elements, in order.
 fn put_all_behind(
     alloc: Global,
     list: &CallRef,
@@ -109,10 +109,10 @@ pub(crate) fn not_literal(alloc: Global, key: &[u8]) -> Result<Refusal, AllocErr
     Ok(Refusal::NotLiteral(text_of_name(alloc, key)?))
 }
 
-/// The steps by which a keyword argument is set.
+/// The steps that set a keyword argument.
 ///
 /// # Errors
-/// It is there twice, or memory is refused.
+/// It is there twice, or out of memory.
 pub(crate) fn set_steps(
     alloc: Global,
     subject: Subject<'_>,
@@ -141,10 +141,10 @@ pub(crate) fn set_steps(
     Ok(steps)
 }
 
-/// The steps by which a keyword argument is deleted.
+/// The steps that delete a keyword argument.
 ///
 /// # Errors
-/// It is there twice, or memory is refused.
+/// It is there twice, or out of memory.
 pub(crate) fn delete_steps(
     alloc: Global,
     subject: Subject<'_>,
@@ -163,10 +163,10 @@ pub(crate) fn delete_steps(
     Ok(steps)
 }
 
-/// No steps; but the keyword argument may be there once only.
+/// No steps: it only checks that the keyword argument is there at most once.
 ///
 /// # Errors
-/// It is there twice, or memory is refused.
+/// It is there twice, or out of memory.
 pub(crate) fn once_steps(
     alloc: Global,
     subject: Subject<'_>,
@@ -183,7 +183,7 @@ pub(crate) fn once_steps(
 /// Wraps a lone element into an array, and adds values to it.
 ///
 /// # Errors
-/// It is no element of the kind, or memory is refused.
+/// It is not an element of the kind, or out of memory.
 fn add_to_lone(
     alloc: Global,
     subject: Subject<'_>,
@@ -213,7 +213,7 @@ fn add_to_lone(
 /// Adds values to the value of an argument: to an array, or to the array of a lone element.
 ///
 /// # Errors
-/// It is neither, or memory is refused.
+/// It is neither, or out of memory.
 fn add_to_value(
     alloc: Global,
     subject: Subject<'_>,
@@ -240,10 +240,10 @@ fn add_to_value(
     }
 }
 
-/// The steps by which values are added to a keyword argument.
+/// The steps that add values to a keyword argument.
 ///
 /// # Errors
-/// It is there twice, or its value can't be changed, or memory is refused.
+/// It is there twice, or its value can't be changed, or out of memory.
 pub(crate) fn add_steps(
     alloc: Global,
     subject: Subject<'_>,
@@ -274,7 +274,7 @@ pub(crate) fn add_steps(
 /// Removes the equal elements of an array.
 ///
 /// # Errors
-/// None is equal, and some element is not of the kind; or memory is refused.
+/// None is equal, and some element is not of the kind; or out of memory.
 fn remove_from_array(
     alloc: Global,
     source: &[u8],
@@ -303,7 +303,7 @@ fn remove_from_array(
 /// Removes a value from the value of an argument: from an array, or the argument of a lone equal element.
 ///
 /// # Errors
-/// It is neither, and may hold the value; or memory is refused.
+/// It is neither, and may hold the value; or out of memory.
 fn remove_from_value(
     alloc: Global,
     subject: Subject<'_>,
@@ -339,10 +339,10 @@ fn remove_from_value(
     }
 }
 
-/// The steps by which a value is removed from a keyword argument.
+/// The steps that remove a value from a keyword argument.
 ///
 /// # Errors
-/// It is there twice, or its value may hold the value unseen, or memory is refused.
+/// It is there twice, or its value may hold the value unseen, or out of memory.
 pub(crate) fn remove_steps(
     alloc: Global,
     subject: Subject<'_>,

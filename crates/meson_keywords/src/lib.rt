@@ -1,4 +1,4 @@
-//! Keyword arguments and default options: what a command asks of a call, and its edits, one entry after another.
+//! Keyword arguments and default options: what a command requests of a call, and its edits, one entry after another.
 #![tactic(auto)]
 
 pub mod changing;

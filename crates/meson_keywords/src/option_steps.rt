@@ -1,4 +1,4 @@
-//! The steps by which default options are set and deleted.
+//! The steps that set and delete default options.
 
 ghost use Rattle.std.specs.Prelude.{◌≡◌, ◌++◌, ◌∷◌, [], IfErr, IfOk, OnOk, Some, false, length, map, true};
 ghost use Rattle.meson_syntax.specs.Grammar.{expression_words};
@@ -58,7 +58,7 @@ fn written_options(alloc: Global, name: &Text, value: &str) -> Result<Bytes, Ref
     Ok(written_named(alloc, OPTIONS.as_bytes(), &list)?)
 }
 
-/// The first entry of the option in a list becomes the new one and later ones go; without one it goes behind all others.
+/// The first entry of the option in a list becomes the new one and later ones are removed. Without one, it is added at the end.
 fn set_in_list(
     alloc: Global,
     source: &[u8],
@@ -85,7 +85,7 @@ fn set_in_list(
     Ok(())
 }
 
-/// A lone entry of the option becomes the new one; another one is first wrapped into an array.
+/// A lone entry of the option becomes the new one; any other value is first wrapped into an array.
 fn set_in_lone(
     alloc: Global,
     subject: Subject<'_>,
@@ -114,7 +114,7 @@ fn set_in_lone(
 /// Refuses a list that holds anything but literals.
 ///
 /// # Errors
-/// It does, or memory is refused.
+/// It does, or out of memory.
 fn only_literals(alloc: Global, source: &[u8], elements: &[Arg]) -> Result<(), Refusal>
     requires { GoodArgs source.now elements.now }
     ensures all { OnOk result (all_of_kind ElementKind.Text (args_view source.now elements.now) ≡ true) }
@@ -127,7 +127,7 @@ fn only_literals(alloc: Global, source: &[u8], elements: &[Arg]) -> Result<(), R
     Ok(())
 }
 
-/// The value of the first entry of the option in a dictionary becomes the new one and later entries go; without one a new one goes behind all others.
+/// The value of the first entry of the option in a dictionary becomes the new one and later entries are removed. Without one, a new entry is added at the end.
 fn set_in_dictionary(
     alloc: Global,
     source: &[u8],
@@ -155,10 +155,10 @@ fn set_in_dictionary(
     Ok(())
 }
 
-/// Refuses a dictionary with a key that is no literal.
+/// Refuses a dictionary with a key that is not a literal.
 ///
 /// # Errors
-/// It has one, or memory is refused.
+/// It has one, or out of memory.
 fn only_literal_keys(alloc: Global, source: &[u8], pairs: &[Arg]) -> Result<(), Refusal>
     requires { GoodArgs source.now pairs.now }
     ensures all { OnOk result (keys_known (args_view source.now pairs.now) ≡ true) }
@@ -171,10 +171,10 @@ fn only_literal_keys(alloc: Global, source: &[u8], pairs: &[Arg]) -> Result<(), 
     Ok(())
 }
 
-/// Sets an option in the value of `default_options:`, which is no dictionary.
+/// Sets an option in the value of `default_options:`, which is not a dictionary.
 ///
 /// # Errors
-/// It is neither a literal nor a list of literals, or memory is refused.
+/// It is neither a literal nor a list of literals, or out of memory.
 fn set_in_value(
     alloc: Global,
     subject: Subject<'_>,
@@ -208,7 +208,7 @@ fn set_in_value(
 /// Sets an option in the value of `default_options:`.
 ///
 /// # Errors
-/// It is neither a literal, nor a list of literals, nor a dictionary with literals as its keys, or memory is refused.
+/// It is neither a literal, nor a list of literals, nor a dictionary with literals as its keys, or out of memory.
 fn set_by_value(
     alloc: Global,
     subject: Subject<'_>,
@@ -236,10 +236,10 @@ fn set_by_value(
     }
 }
 
-/// The steps by which a default option is set.
+/// The steps that set a default option.
 ///
 /// # Errors
-/// `default_options:` is there twice, or its value can't be changed, or memory is refused.
+/// `default_options:` is there twice, or its value can't be changed, or out of memory.
 pub(crate) fn set_option_steps(
     alloc: Global,
     subject: Subject<'_>,
@@ -263,7 +263,7 @@ pub(crate) fn set_option_steps(
     Ok(steps)
 }
 
-/// Removes the elements of a list in an argument that pass.
+/// Removes those elements of a list in an argument that pass.
 fn remove_passing(
     alloc: Global,
     subject: Subject<'_>,
@@ -282,10 +282,10 @@ fn remove_passing(
     Ok(())
 }
 
-/// Deletes an option from the value of `default_options:`, which is no dictionary.
+/// Deletes an option from the value of `default_options:`, which is not a dictionary.
 ///
 /// # Errors
-/// It is neither a literal nor a list of literals, or memory is refused.
+/// It is neither a literal nor a list of literals, or out of memory.
 fn delete_in_value(
     alloc: Global,
     subject: Subject<'_>,
@@ -321,7 +321,7 @@ fn delete_in_value(
 /// Deletes an option from the value of `default_options:`.
 ///
 /// # Errors
-/// It is neither a literal, nor a list of literals, nor a dictionary with literals as its keys, or memory is refused.
+/// It is neither a literal, nor a list of literals, nor a dictionary with literals as its keys, or out of memory.
 fn delete_by_value(
     alloc: Global,
     subject: Subject<'_>,
@@ -346,10 +346,10 @@ fn delete_by_value(
     }
 }
 
-/// The steps by which a default option is deleted.
+/// The steps that delete a default option.
 ///
 /// # Errors
-/// `default_options:` is there twice, or its value can't be changed, or memory is refused.
+/// `default_options:` is there twice, or its value can't be changed, or out of memory.
 pub(crate) fn delete_option_steps(
     alloc: Global,
     subject: Subject<'_>,

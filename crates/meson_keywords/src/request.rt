@@ -1,10 +1,10 @@
-//! What is asked of the arguments of a call: which call it is, and the words.
+//! Requests on the arguments of a call: which call it is, and the words.
 
 use meson_calls::Role;
 use meson_splice::Text;
 use meson_steps::command::Setting;
 
-/// What is asked.
+/// What is requested.
 #[derive(Clone, Copy)]
 pub enum AskedWords<'c> {
     Set(&'c [(Text, Setting)]),
@@ -15,7 +15,7 @@ pub enum AskedWords<'c> {
     DeleteOptions(&'c [Text]),
 }
 
-/// Of which call.
+/// A request, and on which call.
 #[derive(Clone, Copy)]
 pub struct Request<'c> {
     pub role: Role,

@@ -1,4 +1,4 @@
-//! What a command on keyword arguments or default options consists of: changes of one call, each made after the one before it.
+//! The parts of a command on keyword arguments or default options: changes of one call, each made after the one before it.
 
 ghost use Rattle.std.specs.Prelude.{◌≡◌, ◌++◌, ◌∷◌, [], IfOk, MatchOption, None, Ok, OnOk, Some};
 ghost use Rattle.std.specs.Str.{IsUtf8};
@@ -20,19 +20,19 @@ use std::alloc::{AllocError, Global};
 /// One change of a call.
 #[derive(Drop)]
 pub(crate) enum Task<'c> {
-    /// The keyword argument gets the value that is written so.
+    /// The keyword argument gets this written value.
     Set(&'c Text, Bytes),
-    /// It goes.
+    /// It is removed.
     Delete(&'c Text),
-    /// Each of these is among its elements.
+    /// Each of these values is made one of its elements.
     Add(&'c Text, ElementKind, Vec<&'c Text>),
-    /// This is not among them.
+    /// This value is removed from its elements.
     Remove(&'c Text, ElementKind, &'c Text),
-    /// Nothing, but it may be there once only.
+    /// No change: it may be there once only.
     Once(&'c Text),
     /// A default option gets this value.
     SetOption(&'c Text, &'c str),
-    /// It goes.
+    /// It is removed.
     DeleteOption(&'c Text),
 }
 
@@ -43,10 +43,10 @@ fn push_task<'c>(tasks: &mut Vec<Task<'c>>, task: Task<'c>) -> Result<(), AllocE
     Ok(())
 }
 
-/// The tasks by which keyword arguments are set.
+/// The tasks that set keyword arguments.
 ///
 /// # Errors
-/// A keyword argument is not changed in such a call, or can't have such a value, or memory is refused.
+/// A keyword argument is not changed in such a call, or can't have such a value, or out of memory.
 fn set_tasks<'c>(
     alloc: Global,
     role: Role,
@@ -65,10 +65,10 @@ fn set_tasks<'c>(
     Ok(tasks)
 }
 
-/// The tasks by which keyword arguments are deleted.
+/// The tasks that delete keyword arguments.
 ///
 /// # Errors
-/// A keyword argument is not changed in such a call, or memory is refused.
+/// A keyword argument is not changed in such a call, or out of memory.
 fn delete_tasks<'c>(alloc: Global, role: Role, keys: &'c [Text]) -> Result<Vec<Task<'c>>, Refusal>
     ensures made { IfOk result (λ tasks. AreTasks (each_made (delete_entry role) keys.entry.now) tasks.items) }
     ensures refused { RefusedAs result (each_made (delete_entry role) keys.entry.now) }
@@ -85,7 +85,7 @@ fn delete_tasks<'c>(alloc: Global, role: Role, keys: &'c [Text]) -> Result<Vec<T
 /// What the elements of a keyword argument are.
 ///
 /// # Errors
-/// It is not changed in such a call, or is no list, or memory is refused.
+/// It is not changed in such a call, or is not a list, or out of memory.
 fn element_kind(role: Role, key: &Text) -> Result<ElementKind, Refusal>
     ensures found { IfOk result (λ e. then_ok (keys.key_kind role key.now) (keys.list_kind key.now) ≡ Ok e) }
     ensures key { IfOk result (λ e. IsKey key.now) }
@@ -95,10 +95,10 @@ fn element_kind(role: Role, key: &Text) -> Result<ElementKind, Refusal>
     list_kind(key, kind)
 }
 
-/// The tasks by which values are added to keyword arguments.
+/// The tasks that add values to keyword arguments.
 ///
 /// # Errors
-/// A keyword argument is not changed in such a call, or is no list of such values, or memory is refused.
+/// A keyword argument is not changed in such a call, or is not a list of such values, or out of memory.
 fn add_tasks<'c>(
     alloc: Global,
     role: Role,
@@ -117,10 +117,10 @@ fn add_tasks<'c>(
     Ok(tasks)
 }
 
-/// Adds the tasks by which the values of an entry are removed.
+/// Adds the tasks that remove the values of an entry.
 ///
 /// # Errors
-/// The keyword argument is not changed in such a call, or is no list of such values, or memory is refused.
+/// The keyword argument is not changed in such a call, or is not a list of such values, or out of memory.
 fn remove_one<'c>(
     alloc: Global,
     role: Role,
@@ -140,10 +140,10 @@ fn remove_one<'c>(
     Ok(())
 }
 
-/// The tasks by which values are removed from keyword arguments.
+/// The tasks that remove values from keyword arguments.
 ///
 /// # Errors
-/// A keyword argument is not changed in such a call, or is no list of such values, or memory is refused.
+/// A keyword argument is not changed in such a call, or is not a list of such values, or out of memory.
 fn remove_tasks<'c>(
     alloc: Global,
     role: Role,
@@ -159,7 +159,7 @@ fn remove_tasks<'c>(
     Ok(tasks)
 }
 
-/// What stands before the first `=`.
+/// The part before the first `=`.
 pub(crate) fn before_equals(text: &[u8]) -> Option<&[u8]>
     ensures { MatchOption result (before_equals text.now ≡ None)
         (λ front. before_equals text.now ≡ Some front.now) }
@@ -172,7 +172,7 @@ pub(crate) fn before_equals(text: &[u8]) -> Option<&[u8]>
     None
 }
 
-/// Refuses what is no name of an option.
+/// Refuses what cannot be the name of an option.
 ///
 /// # Errors
 /// It is empty or holds `=`.
@@ -187,10 +187,10 @@ fn checked_option(name: &Text) -> Result<(), Refusal>
     Ok(())
 }
 
-/// The tasks by which default options are set.
+/// The tasks that set default options.
 ///
 /// # Errors
-/// A name is none of an option, or memory is refused.
+/// A name cannot be that of an option, or out of memory.
 fn set_option_tasks<'c>(alloc: Global, pairs: &'c [(Text, Text)]) -> Result<Vec<Task<'c>>, Refusal>
     ensures made { IfOk result (λ tasks. AreTasks (each_made set_option_entry pairs.entry.now) tasks.items) }
     ensures refused { RefusedAs result (each_made set_option_entry pairs.entry.now) }
@@ -204,10 +204,10 @@ fn set_option_tasks<'c>(alloc: Global, pairs: &'c [(Text, Text)]) -> Result<Vec<
     Ok(tasks)
 }
 
-/// The tasks by which default options are deleted.
+/// The tasks that delete default options.
 ///
 /// # Errors
-/// A name is none of an option, or memory is refused.
+/// A name cannot be that of an option, or out of memory.
 fn delete_option_tasks<'c>(alloc: Global, names: &'c [Text]) -> Result<Vec<Task<'c>>, Refusal>
     ensures made { IfOk result (λ tasks. AreTasks (each_made delete_option_entry names.entry.now) tasks.items) }
     ensures refused { RefusedAs result (each_made delete_option_entry names.entry.now) }
@@ -224,7 +224,7 @@ fn delete_option_tasks<'c>(alloc: Global, names: &'c [Text]) -> Result<Vec<Task<
 /// The tasks of a command's words.
 ///
 /// # Errors
-/// The words can't be those of such a command, or memory is refused.
+/// The words do not fit such a command, or out of memory.
 pub(crate) fn tasks_of<'c>(
     alloc: Global,
     role: Role,

@@ -29,7 +29,7 @@ pub(crate) enum ValueKind {
 /// The kind of the values of a keyword argument.
 ///
 /// # Errors
-/// Commands don't change it in such a call, or memory is refused.
+/// Commands don't change it in such a call, or out of memory.
 pub(crate) fn kind_of(role: Role, key: &Text) -> Result<ValueKind, Refusal>
     ensures found { IfOk result (λ k. key_kind role key.now ≡ Ok k) }
     ensures key { IfOk result (λ k. IsKey key.now) }
@@ -54,7 +54,7 @@ pub(crate) fn kind_of(role: Role, key: &Text) -> Result<ValueKind, Refusal>
 /// What the elements are, of a kind that is a list.
 ///
 /// # Errors
-/// It is none, or memory is refused.
+/// The kind is not a list, or out of memory.
 pub(crate) fn list_kind(key: &Text, kind: ValueKind) -> Result<ElementKind, Refusal>
     ensures found { IfOk result (λ e. list_kind key.now kind ≡ Ok e) }
     ensures refused { RefusedAs result (list_kind key.now kind) }

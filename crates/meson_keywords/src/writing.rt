@@ -1,4 +1,4 @@
-//! What is written for the value of a keyword argument.
+//! The text that is written for the value of a keyword argument.
 
 ghost use Rattle.std.specs.Prelude.{◌≡◌, ◌++◌, ◌∷◌, [], All, IfErr, IfOk, Ok, OnOk, codes, map, option_map};
 ghost use Rattle.std.specs.Str.{IsUtf8};
@@ -16,7 +16,7 @@ use meson_steps::command::Setting;
 use meson_steps::literals::{key_of, push_literal, written_text};
 use std::alloc::{AllocError, Global};
 
-/// Writes an element of a list behind what is there.
+/// Writes an element of a list after what is there.
 fn push_element(
     alloc: Global,
     to: &mut Vec<u8>,
@@ -37,7 +37,7 @@ fn push_element(
     }
 }
 
-/// What is written for one element.
+/// The text that is written for one element.
 pub(crate) fn written_element(
     alloc: Global,
     kind: ElementKind,
@@ -52,7 +52,7 @@ pub(crate) fn written_element(
     Ok(Bytes::of(out))
 }
 
-/// What is written for a list of elements.
+/// The text that is written for a list of elements.
 pub(crate) fn written_list(
     alloc: Global,
     kind: ElementKind,
@@ -107,7 +107,7 @@ pub(crate) fn written_pair(alloc: Global, name: &Text, value: &str) -> Result<By
     Ok(Bytes::of(out))
 }
 
-/// What a switch is set to.
+/// The value to which a switch is set.
 fn truth_of(setting: &Setting) -> Option<bool>
     ensures { result ≡ truth_of setting.now }
 {
@@ -160,7 +160,7 @@ fn texts_of<'c>(alloc: Global, setting: &'c Setting) -> Result<Option<Vec<&'c Te
 /// The elements that a list gets.
 ///
 /// # Errors
-/// The value is none for a list, or one of them is no element of the kind, or memory is refused.
+/// The value is not one for a list, or one of its elements is not of the kind, or out of memory.
 pub(crate) fn list_values<'c>(
     alloc: Global,
     kind: ElementKind,
@@ -180,10 +180,10 @@ pub(crate) fn list_values<'c>(
     Ok(texts)
 }
 
-/// What is written for a value of a keyword argument that is one text.
+/// The text that is written for a value of a keyword argument that is one text.
 ///
 /// # Errors
-/// The value is no text, or memory is refused.
+/// The value is not a text, or out of memory.
 fn text_value(alloc: Global, key: &Text, setting: &Setting) -> Result<Bytes, Refusal>
     ensures done { IfOk result (IsSet (written_value ValueKind.Text key.now setting.now)) }
     ensures refused { RefusedAs result (written_value ValueKind.Text key.now setting.now) }
@@ -195,10 +195,10 @@ fn text_value(alloc: Global, key: &Text, setting: &Setting) -> Result<Bytes, Ref
     }
 }
 
-/// What is written for one that is `true` or `false`.
+/// The text that is written for one that is `true` or `false`.
 ///
 /// # Errors
-/// The value is neither, or memory is refused.
+/// The value is neither, or out of memory.
 fn switch_value(alloc: Global, key: &Text, setting: &Setting) -> Result<Bytes, Refusal>
     ensures done { IfOk result (IsSet (written_value ValueKind.Switch key.now setting.now)) }
     ensures refused { RefusedAs result (written_value ValueKind.Switch key.now setting.now) }
@@ -212,10 +212,10 @@ fn switch_value(alloc: Global, key: &Text, setting: &Setting) -> Result<Bytes, R
     }
 }
 
-/// What is written for one that is a list.
+/// The text that is written for one that is a list.
 ///
 /// # Errors
-/// The value is none for such a list, or memory is refused.
+/// The value is not one for such a list, or out of memory.
 fn list_value(
     alloc: Global,
     kind: ElementKind,
@@ -229,10 +229,10 @@ fn list_value(
     written_list(alloc, kind, texts.as_slice())
 }
 
-/// What is written for a value of a keyword argument.
+/// The text that is written for a value of a keyword argument.
 ///
 /// # Errors
-/// It can't have such a value, or memory is refused.
+/// It can't have such a value, or out of memory.
 pub(crate) fn written_value(
     alloc: Global,
     kind: ValueKind,

@@ -19,7 +19,7 @@ pub struct TextCase {
     text: Vec<u8>,
 }
 
-/// Answers what a word asks of a text. An unknown word asks nothing.
+/// Answers the question of a word about a text. An unknown word is no question.
 fn answer(alloc: Global, word: &str, text: &[u8], to: &mut Transcript) -> bool {
     match word {
         "items" => put_items(text, to),
@@ -40,7 +40,7 @@ fn answer(alloc: Global, word: &str, text: &[u8], to: &mut Transcript) -> bool {
 }
 
 impl TextCase {
-    /// Answers what a word asks of what stands behind it, or of the text.
+    /// Answers the question of a word about the words after it, or about the text.
     fn ask(&self, word: &str, rest: &str, to: &mut Transcript) -> Result<bool, AllocError> {
         if rest.is_empty() {
             return Ok(answer(self.alloc, word, self.text.as_slice(), to));
@@ -49,7 +49,7 @@ impl TextCase {
         Ok(answer(self.alloc, word, text.as_slice(), to))
     }
 
-    /// Answers what a word asks of the text about what stands behind it.
+    /// Answers the question of a word about the text and the words after it.
     fn ask_about(&self, word: &str, rest: &str, to: &mut Transcript) -> Result<(), AllocError> {
         let text = self.text.as_slice();
         match word {

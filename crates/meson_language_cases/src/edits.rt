@@ -34,7 +34,7 @@ pub fn edit_of(word: &str) -> Option<Edit> {
     }
 }
 
-/// The edit of what stands at a span.
+/// The edit of the part at a span.
 fn primitive_at(edit: Edit, span: Span, new: Bytes) -> Primitive {
     match edit {
         Edit::First => Primitive::First {
@@ -114,7 +114,7 @@ struct Asked {
 }
 
 impl Asked {
-    /// The edit of a text that the words behind its name say: the part of the text, and ` :: ` before what is new.
+    /// The edit of a text, from the words after the edit's name: the part of the text, and ` :: ` before the new text.
     fn of(alloc: Global, text: &[u8], edit: Edit, words: &str) -> Result<Self, AllocError> {
         let (part, new) = match edit {
             Edit::Append => ("", words),
@@ -131,7 +131,7 @@ impl Asked {
         })
     }
 
-    /// The same edit where all lines end in CR LF.
+    /// The same edit, with all lines ending in CR LF.
     fn with_returns(&self, alloc: Global) -> Result<Self, AllocError> {
         let text = with_returns(alloc, self.text.as_slice())?;
         let part = with_returns(alloc, self.part.as_slice())?;
@@ -202,7 +202,7 @@ pub fn put_splices(
     asked.put_splices(alloc, to)
 }
 
-/// The splices of an edit, the text after it and its tree; and whether it is the same where all lines end in CR LF.
+/// The splices of an edit, the text after it and its tree; and whether it is the same if all lines end in CR LF.
 pub fn lay_out(
     alloc: Global,
     text: &[u8],

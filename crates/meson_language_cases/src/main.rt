@@ -1,4 +1,4 @@
-//! Does the cases on texts: items, trees, literals and the splices of single edits.
+//! Runs the cases on texts: items, trees, literals and the splices of single edits.
 #![tactic(auto)]
 
 mod case;

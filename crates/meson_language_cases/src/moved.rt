@@ -16,7 +16,7 @@ fn bracket_of(text: &[u8]) -> Bracket {
     }
 }
 
-/// The list that a text is, with each border so many bytes further, over the text behind as many blanks.
+/// The list of a text, with each border moved by a number of bytes, over the text after as many blanks.
 pub fn put_moved(
     alloc: Global,
     text: &[u8],
@@ -47,7 +47,7 @@ fn exchanged(alloc: Global, text: &[u8], span: Span, new: &[u8]) -> Result<Vec<u
     Ok(bytes)
 }
 
-/// The tree of a text, with its borders as they stand where the bytes of a span become others.
+/// The tree of a text, with its borders as they are once the bytes of a span are replaced.
 fn shifted(alloc: Global, text: &[u8], span: Span, new: &[u8]) -> Option<Parsed> {
     if span.from >= span.to || span.to > text.len() {
         return None;
@@ -61,7 +61,7 @@ fn shifted(alloc: Global, text: &[u8], span: Span, new: &[u8]) -> Option<Parsed>
     }
 }
 
-/// That tree, over the text with those bytes, where the first place of a part becomes what stands behind ` :: `.
+/// That tree, over the text in which the first place of a part is replaced by what is after ` :: `.
 pub fn put_shifted(
     alloc: Global,
     text: &[u8],

@@ -18,7 +18,7 @@ pub fn path_of(alloc: Global, words: &str) -> Result<Path, AllocError> {
     })
 }
 
-/// Where an expression stands.
+/// The span of an expression.
 pub fn span_of(expr: &Expr) -> Span {
     match expr {
         Expr::Identifier(span) | Expr::Integer(span) => *span,

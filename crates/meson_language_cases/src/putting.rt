@@ -1,4 +1,4 @@
-//! Lists put in place of others.
+//! Lists that replace others.
 
 use crate::nodes::path_of;
 use crate::tree::put_file_and_list;
@@ -6,8 +6,8 @@ use meson_case_files::Transcript;
 use meson_syntax::{Bracket, parse, parse_list};
 use std::alloc::{AllocError, Global};
 
-/// The tree of a text with the list that the second path names put where the first one names one, and the list that stood there.
-/// Where the second path names none, an empty list is put.
+/// The tree of a text with the list of the second path in place of the list of the first path, and the replaced list. If the second path names no list, an
+/// empty list is put there.
 pub fn put_put(
     alloc: Global,
     source: &[u8],

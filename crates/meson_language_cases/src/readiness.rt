@@ -1,4 +1,4 @@
-//! Whether the places of an edit are borders of the source's items, as `layout` asks.
+//! Whether the places of an edit are borders of the source's items, as `layout` requires.
 ghost use Rattle.std.specs.Bool.{OnTrue};
 ghost use Rattle.std.specs.Prelude.{◌≡◌, List};
 ghost use Rattle.meson_lex.specs.Items.{IsItemList, Lexeme};
@@ -29,7 +29,7 @@ fn has_span(source: &[u8], span: Span) -> bool
     span.from < span.to
 }
 
-/// Whether a source has no fault, and an opening bracket stands at the offset.
+/// Whether a source has no fault, and an opening bracket is at the offset.
 fn has_bracket(source: &[u8], at: usize) -> bool
     ensures { OnTrue result ((xs : List Lexeme) × IsItemList source.now xs × IsBracketOf xs at) }
 {

@@ -1,4 +1,4 @@
-//! What is asked of one text: its items, whether it reads, how deep it is, the literals.
+//! Questions about one text: its items, whether it parses, how deep it is, the literals.
 
 use crate::tree::put_file_spans;
 use meson_case_files::Transcript;
@@ -9,7 +9,7 @@ use meson_syntax::{
 };
 use std::alloc::{AllocError, Global};
 
-/// Each item's kind, and where it ends.
+/// Each item's kind, and its end.
 pub fn put_items(source: &[u8], to: &mut Transcript) {
     to.put(if source.is_empty() { "  none" } else { " " });
     for item in items(source) {
@@ -26,7 +26,7 @@ pub fn put_items(source: &[u8], to: &mut Transcript) {
     to.put("\n");
 }
 
-/// How many items stand before the fault, and the fault.
+/// The number of items before the fault, and the fault.
 pub fn put_first_fault(source: &[u8], to: &mut Transcript) {
     let mut count = 0u64;
     for item in items(source) {
@@ -43,7 +43,7 @@ pub fn put_first_fault(source: &[u8], to: &mut Transcript) {
     }
 }
 
-/// That a text reads, or why it does not.
+/// Writes that a text parses, or why it does not.
 fn put_fault(fault: Option<ParseFault>, to: &mut Transcript) {
     match fault {
         None => to.line("reads"),
@@ -82,7 +82,7 @@ pub fn put_list_within(alloc: Global, word: &str, source: &[u8], depth: &str, to
     );
 }
 
-/// Whether a text reads within limits: its greatest length, if any, and its greatest depth.
+/// Whether a text parses within limits: its greatest length, if any, and its greatest depth.
 pub fn put_within(alloc: Global, source: &[u8], limits: &str, to: &mut Transcript) {
     let (len, depth) = limits.split_once(' ').unwrap_or(("", ""));
     let limits = Limits {
@@ -92,7 +92,7 @@ pub fn put_within(alloc: Global, source: &[u8], limits: &str, to: &mut Transcrip
     put_fault(parse_within(alloc, source, limits).err(), to);
 }
 
-/// The least depth within which a text nests.
+/// The least depth limit that a text meets.
 pub fn put_depth(alloc: Global, source: &[u8], to: &mut Transcript) {
     let file = match parse(alloc, source) {
         Ok(file) => file,
@@ -153,7 +153,7 @@ pub fn put_value(alloc: Global, source: &[u8], to: &mut Transcript) {
     }
 }
 
-/// What is written for a text.
+/// The literal that is written for a text.
 pub fn put_literal(alloc: Global, source: &[u8], to: &mut Transcript) {
     let source = str::from_utf8(source).unwrap_or("?");
     if let Ok(token) = write_literal(alloc, source) {

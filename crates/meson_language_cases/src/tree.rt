@@ -9,7 +9,7 @@ use meson_syntax::{
 };
 use std::alloc::Global;
 
-/// Writes trees of one source, where asked each node with its span.
+/// Writes trees of one source; if requested, each node with its span.
 #[derive(Clone, Copy)]
 struct Shaper<'a> {
     source: &'a [u8],
@@ -87,7 +87,7 @@ fn sign(operator: Operator) -> &'static str {
     }
 }
 
-/// The letter that stands before a string of this kind.
+/// The letter before a string of this kind.
 fn letter(kind: StringKind) -> &'static str {
     match kind {
         StringKind::Plain => "",
@@ -97,7 +97,7 @@ fn letter(kind: StringKind) -> &'static str {
     }
 }
 
-/// Where a statement stands.
+/// The span of a statement.
 fn span_of_statement(stmt: &Stmt) -> Span {
     match stmt {
         Stmt::Expr(value) => span_of(value),
@@ -107,7 +107,7 @@ fn span_of_statement(stmt: &Stmt) -> Span {
 }
 
 impl Shaper<'_> {
-    /// Where a node stands, where that is asked.
+    /// Writes the span of a node, if that is requested.
     fn mark(self, span: Span, to: &mut Transcript) {
         if self.has_spans {
             to.show(&span.from);

@@ -41,7 +41,7 @@ abbrev pub patched_by : List ℕ → List Splice → Result (List ℕ) SpliceFau
 patched_by bytes [] = Ok bytes
 patched_by bytes (s ∷ ss) = then_ok (patched bytes s) (λ next. patched_by next ss)
 
--- What stands left of the touched part keeps its bytes, but for at most a comma and white space at its end, and so does what stands right of it.
+-- What is left of the touched part keeps its bytes, but for at most a comma and white space at its end. So does what is right of it.
 pub record Keeps (left right : List Lexeme) (text : List ℕ) : Type 0 where
   pub front : List Lexeme
   pub gone : List Lexeme
@@ -54,8 +54,8 @@ pub record Keeps (left right : List Lexeme) (text : List ℕ) : Type 0 where
   pub gone_is : IsCommaAtMost (spoken gone)
   pub lost_is : IsCommaAtMost (spoken lost)
 
--- The splices give a text that differs within the brackets alone. There stands a list with these words and remarks, and the items left and
--- right of the touched part are kept.
+-- The splices give a text that differs within the brackets alone. Between them is a list with these words and remarks, and the items left and right of the
+-- touched part are kept.
 pub record Edited (source : List ℕ) (items : List Lexeme) (l : ListOfItems items) (left right : List Lexeme) (ss : List Splice) (words : List Word)
     (notes : List Lexeme) : Type 0 where
   pub inner : List Lexeme

@@ -11,14 +11,14 @@ use Rattle.meson_layout.specs.Layout.{layout_of}
 use Rattle.meson_lex.specs.Words.{IsTight}
 use Rattle.meson_layout.specs.Edited.{patched_by}
 
--- outside brackets, at the start of a line or behind a token
+-- outside brackets, at the start of a line or after a token
 abbrev pub line_start : State
 line_start = record { depth = 0; fresh = true }
 
 abbrev pub behind_token : State
 behind_token = record { depth = 0; fresh = false }
 
--- A statement among the items of a file: `more` are the file's tokens behind its line.
+-- A statement among the items of a file: `more` are the file's tokens after its line.
 pub record StatementIn (items : List Lexeme) (s : Span) (more : List Word) : Type 0 where
   pub left : List Lexeme
   pub own : List Lexeme
@@ -38,12 +38,12 @@ pub record EditedFile (source : List ℕ) (ss : List Splice) (text : List ℕ) (
   pub are_items : IsItemList text items
   pub says : significant items ≡ tokens
 
--- where the statement began its line, the line end behind it
+-- if the statement began its line, the line end after it
 abbrev pub IsItsLineEnd : (front line : List Lexeme) → Type 0
 IsItsLineEnd front line = (line ≡ []) ⊎ ((at_line_start (reverse front) ≡ true) × (x : Lexeme) × (is_line_end x.kind ≡ true) × (line ≡ x ∷ []))
 
--- A removed statement: its tokens and those of its line end go. All before it and all behind it stays, but for the blank directly before it, the one
--- directly behind it, and behind that the line end of a statement that began its line.
+-- A removed statement: its tokens and those of its line end are removed. All before it and all after it stays, with these exceptions: the blank directly before
+-- it, the one directly after it, and then the line end, if the statement began its line.
 pub record StatementCut (source : List ℕ) (left right : List Lexeme) (ss : List Splice) (tokens : List Word) : Type 0 where
   pub front : List Lexeme
   pub gone : List Lexeme
@@ -68,7 +68,7 @@ pub record IsStatement (bytes : List ℕ) (fresh : List Lexeme) (words : List Wo
   pub says : emitted start fresh ≡ words
   pub ends : after start fresh ≡ behind_token
 
--- An appended statement: its tokens and a line end come last, and the file stays as it is before them.
+-- An appended statement: its tokens and a line end are last, and the file before them stays as it is.
 abbrev pub AppendLaw : Type 0
 AppendLaw = (file source : List ℕ) (items : List Lexeme) → IsItemList source items → (after start items).depth ≡ 0
     → (new : List ℕ) (fresh : List Lexeme) (words : List Word) → IsStatement new fresh words

@@ -1,4 +1,4 @@
--- Where a new element goes: `left`, `own` and `right` are the items before, of and behind the element after which it comes.
+-- Where a new element is inserted: `left`, `own` and `right` are the items before, of and after the element that it follows.
 use Rattle.std.specs.Prelude.{ℕ, zero, suc, List, [], ◌∷◌, ◌++◌, take, drop, if◌then◌else◌, Option, Some, None}
 use Rattle.meson_lex.specs.Items.{Lexeme}
 use Rattle.meson_layout.specs.Looks.{last_few, line_before, note_len, comma_note_len, closing_follows}
@@ -14,11 +14,11 @@ plain_insertion left own right new = Keep left ∷ Keep own ∷ Change [] (comma
 
 -- Stacked: the element is first on its line, and `line` is the line end before it with its indent.
 
--- A comma follows on the line, and the line ends behind n items: before that line end.
+-- A comma follows on the line, and the line ends after n items: before that line end.
 abbrev pub with_comma : ℕ → List Lexeme → List Lexeme → List Lexeme → List Lexeme → List Lexeme → List Piece
 with_comma n left own right line new = Keep left ∷ Keep own ∷ Keep (take n right) ∷ Change [] (line ++ (new ++ comma ∷ [])) ∷ Keep (drop n right) ∷ []
 
--- No comma follows, and the line ends behind n items: a comma after the element, the rest before that line end; one splice where both places are one.
+-- No comma follows, and the line ends after n items: a comma after the element, the rest before that line end. It is one splice if both places are one.
 abbrev pub without_comma : ℕ → List Lexeme → List Lexeme → List Lexeme → List Lexeme → List Lexeme → List Piece
 without_comma zero left own right line new = Keep left ∷ Keep own ∷ Change [] (comma ∷ (line ++ new)) ∷ Keep right ∷ []
 without_comma (suc n) left own right line new = Keep left ∷ Keep own ∷ Change [] (comma ∷ []) ∷ Keep (take (suc n) right) ∷ Change [] (line ++ new)

@@ -1,4 +1,4 @@
--- What the splices of an edit within a list make of the text: between the same brackets stands the edited list, and all else keeps its bytes.
+-- What the splices of an edit within a list make of the text. Between the same brackets is the edited list, and all else keeps its bytes.
 use Rattle.std.specs.Str.{IsUtf8}
 use Rattle.std.specs.Prelude.{◌≡◌, ℕ, List, [], ◌∷◌, ◌++◌, ◌⊎◌, length, Some, Ok}
 use Rattle.meson_lex.specs.declared.kinds.Kind.TheVariants.{OpenSquare, CloseSquare}
@@ -16,13 +16,13 @@ use Rattle.meson_lex.specs.Words.{spoken}
 use Rattle.meson_layout.specs.Words.{remarks, comma_word, IsBehindElement, IsBeforeElement, IsBeforeValue}
 use Rattle.meson_layout.specs.Edited.{ListOfItems, PartIn, IsNew, Edited, patched_by}
 
--- The first element of a list that has none.
+-- The first element of an empty list.
 abbrev pub FirstLaw : Type 0
 FirstLaw = (file source : List ℕ) (items : List Lexeme) → IsItemList source items → (l : ListOfItems items) → spoken l.inner ≡ []
     → (at : ℕ) → at ≡ length (joined l.front) → (new : List ℕ) (fresh : List Lexeme) → IsNew new fresh
     → Edited source items l [] l.inner (layout_of file items (First at new)) (spoken fresh) (remarks l.inner)
 
--- A new element behind another one: its words come behind a comma. No comment and no continuation goes.
+-- A new element after another one: its words are added after a comma. No comment and no continuation is removed.
 abbrev pub InsertionLaw : Type 0
 InsertionLaw = (file source : List ℕ) (items : List Lexeme) → IsItemList source items → (l : ListOfItems items) (s : Span) (p : PartIn items l s)
     → IsBehindElement (spoken p.right)
@@ -30,27 +30,27 @@ InsertionLaw = (file source : List ℕ) (items : List Lexeme) → IsItemList sou
     → Edited source items l (p.left ++ p.own) p.right (layout_of file items (After s new))
     (spoken p.left ++ (spoken p.own ++ comma_word ∷ (spoken fresh ++ spoken p.right))) (remarks l.inner)
 
--- the words of a list without an element, by those before and behind it: the comma behind it goes, else the one before it
+-- the words of a list without an element, by those before and after it: the comma after it is removed, else the one before it
 abbrev pub IsWithout : List Word → List Word → List Word → Type 0
 IsWithout left right words =
     ((more : List Word) × (right ≡ comma_word ∷ more) × (words ≡ left ++ more))
     ⊎ ((front : List Word) × (right ≡ []) × (left ≡ front ++ comma_word ∷ []) × (words ≡ front))
     ⊎ ((right ≡ []) × (left ≡ []) × (words ≡ []))
 
--- An element removed: its own comments and continuations go, and no others.
+-- An element removed: its own comments and continuations are removed, and no others.
 abbrev pub RemovalLaw : Type 0
 RemovalLaw = (file source : List ℕ) (items : List Lexeme) → IsItemList source items → (l : ListOfItems items) (s : Span) (p : PartIn items l s)
     → IsBeforeElement (spoken p.left) → IsBehindElement (spoken p.right) → (words : List Word) → IsWithout (spoken p.left) (spoken p.right) words
     → Edited source items l p.left p.right (layout_of file items (Remove s)) words (remarks p.left ++ remarks p.right)
 
--- A value that becomes another one.
+-- A value that is replaced by another one.
 abbrev pub ReplacementLaw : Type 0
 ReplacementLaw = (file source : List ℕ) (items : List Lexeme) → IsItemList source items → (l : ListOfItems items) (s : Span) (p : PartIn items l s)
     → IsBeforeValue (spoken p.left) → IsBehindElement (spoken p.right) → (new : List ℕ) (fresh : List Lexeme) → IsNew new fresh
     → Edited source items l p.left p.right (layout_of file items (Replace s new)) (spoken p.left ++ (spoken fresh ++ spoken p.right))
     (remarks p.left ++ remarks p.right)
 
--- A value that becomes the array of it.
+-- A value that is replaced by the array of it.
 abbrev pub WrapLaw : Type 0
 WrapLaw = (file source : List ℕ) (items : List Lexeme) → IsItemList source items → (l : ListOfItems items) (s : Span) (p : PartIn items l s)
     → IsBeforeValue (spoken p.left) → IsBehindElement (spoken p.right)
@@ -83,7 +83,7 @@ abbrev pub AreUtf8 : List Lexeme → Type 0
 AreUtf8 [] = Unit {0}
 AreUtf8 (x ∷ xs) = IsUtf8 x.text × AreUtf8 xs
 
--- Where each item is UTF-8, the splices of an edit make a text in UTF-8.
+-- If each item is UTF-8, the splices of an edit make a text in UTF-8.
 abbrev pub CodingLaw : Type 0
 CodingLaw = (file source : List ℕ) (items : List Lexeme) → IsItemList source items → AreUtf8 items → (primitive : Primitive) → WritesUtf8 primitive
     → (text : List ℕ) → patched_by source (layout_of file items primitive) ≡ Ok text → IsUtf8 text
@@ -93,6 +93,6 @@ abbrev pub AreTexts : List Splice → Type 0
 AreTexts [] = Unit {0}
 AreTexts (s ∷ ss) = (IsUtf8 s.was × IsUtf8 s.now) × AreTexts ss
 
--- Where each item is UTF-8, so is what the splices of an edit take away and put in.
+-- If each item is UTF-8, so is what the splices of an edit remove and insert.
 abbrev pub TextsLaw : Type 0
 TextsLaw = (file : List ℕ) (items : List Lexeme) → AreUtf8 items → (primitive : Primitive) → WritesUtf8 primitive → AreTexts (layout_of file items primitive)

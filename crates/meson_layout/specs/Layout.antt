@@ -13,12 +13,12 @@ use Rattle.meson_layout.specs.Statements.{statement_removed, appended}
 
 -- ---- places
 
--- how many items stand before an offset
+-- the number of items before an offset
 abbrev pub before_len : ℕ → List Lexeme → ℕ
 before_len n [] = 0
 before_len n (x ∷ xs) = if n == 0 then 0 else suc (before_len (n - length x.text) xs)
 
--- the items before, of and behind a span
+-- the items before, of and after a span
 pub record Parts : Type 0 where
   pub left : List Lexeme
   pub own : List Lexeme
@@ -35,7 +35,7 @@ split_at_span s items = parts_of_items (before_len s.from items) (s.to - s.from)
 
 -- ---- pieces
 
--- a value becomes other items, and the array of itself
+-- a value is replaced by other items, and by the array of itself
 abbrev pub replaced : List Lexeme → List Lexeme → List Lexeme → List Lexeme → List Piece
 replaced left own right new = Keep left ∷ Change own new ∷ Keep right ∷ []
 
@@ -70,7 +70,7 @@ pub record IsSpanOf (items : List Lexeme) (s : Span) : Type 0 where
   pub from : s.from ≡ length (joined left)
   pub to : s.to ≡ length (joined (left ++ first ∷ more))
 
--- an opening bracket stands at the offset
+-- an opening bracket is at the offset
 pub record IsBracketOf (items : List Lexeme) (at : ℕ) : Type 0 where
   pub left : List Lexeme
   pub bracket : Lexeme

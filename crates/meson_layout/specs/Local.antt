@@ -13,7 +13,7 @@ use Rattle.meson_layout.specs.Layout.{layout_of}
 abbrev pub nearer_span : ℕ → Span → Span
 nearer_span n s = record { from = s.from - n; to = s.to - n }
 
--- the edit, where so many bytes before its places are left out
+-- the edit, with a number of bytes before its places left out
 abbrev pub nearer : ℕ → Primitive → Primitive
 nearer n (First bracket new) = First (bracket - n) new
 nearer n (After element new) = After (nearer_span n element) new
@@ -23,7 +23,7 @@ nearer n (Wrap value) = Wrap (nearer_span n value)
 nearer n (RemoveStatement statement) = RemoveStatement (nearer_span n statement)
 nearer n (Append new) = Append new
 
--- the splice, where so many bytes more stand before it
+-- the splice, with a number of bytes more before it
 abbrev pub farther : ℕ → Splice → Splice
 farther n s = record { file = s.file; at = n + s.at; was = s.was; now = s.now }
 
@@ -56,7 +56,7 @@ pub record IsReadyIn (source : List ℕ) (list : Span) (primitive : Primitive) :
 
 -- ---- the law
 
--- Where a list stands changes nothing in how an edit of it is laid out: its splices are those in the list's own text.
+-- The place of a list changes nothing in how an edit of it is laid out: its splices are those in the list's own text.
 abbrev pub LocalLaw : Type 0
 LocalLaw = (file source : List ℕ) (items : List Lexeme) → IsItemList source items → (l : ListOfItems items) → (primitive : Primitive)
     → IsOfList items l primitive

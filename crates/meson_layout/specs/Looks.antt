@@ -1,5 +1,5 @@
--- Looks at the items beside an element or a statement. Each answers with a number of items, or says that there are none such. What stands
--- before an element is looked at backwards: the nearest item first.
+-- Looks at the items beside an element or a statement. Each answers with a number of items, or says that there are none such. What is before an element is
+-- looked at backwards: the nearest item first.
 use Rattle.std.specs.Prelude.{ℕ, suc, ◌+◌, ◌-◌, Bool, true, false, ◌&&◌, List, [], ◌∷◌, length, take, drop, reverse, if◌then◌else◌, Option, Some, None}
 use Rattle.std.specs.List.{list_all, prefix_len}
 use Rattle.meson_lex.specs.declared.kinds.Kind.{Kind}
@@ -12,7 +12,7 @@ abbrev pub is_blank_kind : Kind → Bool
 is_blank_kind Blank = true
 is_blank_kind _ = false
 
--- a continuation is no line end
+-- a continuation is not a line end
 abbrev pub is_line_end : Kind → Bool
 is_line_end LineEnd = true
 is_line_end _ = false
@@ -31,7 +31,7 @@ is_closing CloseSquare = true
 is_closing CloseCurly = true
 is_closing _ = false
 
--- what is no token inside brackets
+-- what is not a token inside brackets
 abbrev pub is_gap : Kind → Bool
 is_gap Blank = true
 is_gap LineEnd = true
@@ -49,7 +49,7 @@ abbrev pub first_is : (Kind → Bool) → List Lexeme → Bool
 first_is test [] = false
 first_is test (x ∷ xs) = test x.kind
 
--- 1, where the first item is of such a kind
+-- 1, if the first item is of such a kind
 abbrev pub one_if : (Kind → Bool) → List Lexeme → ℕ
 one_if test xs = if first_is test xs then 1 else 0
 
@@ -62,7 +62,7 @@ last_few n xs = drop (length xs - n) xs
 
 -- ---- lines
 
--- How many items stand between a line end and what follows it: none, or one blank. (Nearest first.)
+-- The number of items between a line end and what follows it: none, or one blank. (Nearest first.)
 abbrev pub line_near : List Lexeme → Option ℕ
 line_near [] = None
 line_near (x ∷ xs) = if is_line_end x.kind then Some 0 else (if is_blank_kind x.kind && first_is is_line_end xs then Some 1 else None)
@@ -70,13 +70,13 @@ line_near (x ∷ xs) = if is_line_end x.kind then Some 0 else (if is_blank_kind 
 abbrev pub line_before : List Lexeme → Option ℕ
 line_before left = line_near (reverse left)
 
--- How many items end a line: nothing or one blank, and a line end.
+-- The number of items that end a line: nothing or one blank, and a line end.
 abbrev pub line_behind : List Lexeme → Option ℕ
 line_behind right =
     let n = one_if is_blank_kind right in
     if first_is is_line_end (drop n right) then Some (suc n) else None
 
--- How many items stand before the line end that ends this line, where these are at most a blank and a comment.
+-- The number of items before the line end of this line, if these are at most a blank and a comment.
 abbrev pub note_len : List Lexeme → Option ℕ
 note_len right =
     let n = one_if is_blank_kind right in
@@ -87,7 +87,7 @@ abbrev pub more_by : ℕ → Option ℕ → Option ℕ
 more_by n None = None
 more_by n (Some m) = Some (n + m)
 
--- The same, where a comma stands before these, and at most a blank before it.
+-- The same, if a comma is before these, with at most a blank before it.
 abbrev pub comma_note_len : List Lexeme → Option ℕ
 comma_note_len right =
     let n = one_if is_blank_kind right in
@@ -99,7 +99,7 @@ closing_follows right = first_is is_closing (drop (one_if is_blank_kind right) r
 
 -- ---- gaps
 
--- how many items stand at the front that are no tokens
+-- the number of items at the front that are not tokens
 abbrev pub gap_len : List Lexeme → ℕ
 gap_len xs = prefix_len (λ (x : Lexeme). is_gap x.kind) xs
 

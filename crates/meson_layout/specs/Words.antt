@@ -1,4 +1,4 @@
--- Words at the ends of what stands in a list, and the remarks beside words.
+-- Words at the ends of what is in a list, and the remarks beside words.
 use Rattle.std.specs.Prelude.{◌≡◌, Bool, true, false, List, [], ◌∷◌, ◌++◌, ◌⊎◌, if◌then◌else◌}
 use Rattle.meson_lex.specs.declared.kinds.Kind.{Kind}
 use Rattle.meson_lex.specs.declared.kinds.Kind.TheVariants.{Comment, Continuation, Comma, Colon}
@@ -25,15 +25,15 @@ remarks (x ∷ xs) = if is_remark x.kind then x ∷ remarks xs else remarks xs
 
 -- ---- ends of words
 
--- nothing, or a comma comes first
+-- nothing, or a comma is first
 abbrev pub IsBehindElement : List Word → Type 0
 IsBehindElement words = (words ≡ []) ⊎ ((more : List Word) × (words ≡ comma_word ∷ more))
 
--- nothing, or a comma comes last
+-- nothing, or a comma is last
 abbrev pub IsBeforeElement : List Word → Type 0
 IsBeforeElement words = (words ≡ []) ⊎ ((front : List Word) × (words ≡ front ++ comma_word ∷ []))
 
--- nothing, or a comma or the colon of a named argument comes last
+-- nothing, or a comma or the colon of a named argument is last
 abbrev pub IsBeforeValue : List Word → Type 0
 IsBeforeValue words = IsBeforeElement words ⊎ ((front : List Word) × (words ≡ front ++ colon_word ∷ []))
 

@@ -18,7 +18,7 @@ use meson_lex::Span;
 use meson_splice::{Splice, SpliceFault};
 use std::alloc::Global;
 
-/// How many items stand before an offset.
+/// The number of items before an offset.
 fn before_len(items: &[Lexeme<'_>], offset: usize) -> usize
     ensures value { result ≡ before_len offset items.now }
     ensures within { result ≤ length items.now }
@@ -62,7 +62,7 @@ fn place_of<'i, 'a>(
 }
 
 impl<'i, 'a> Place<'i, 'a> {
-    /// The value becomes other bytes.
+    /// The value is replaced by other bytes.
     fn replaced(self, new: &[u8]) -> Result<Vec<Splice>, SpliceFault>
         requires { PlaceFits self }
         ensures done { IfOk result (λ v. v.items ≡ splices self.entry.file.now 0 (at_place replaced self.entry (as_one new.now))) }
@@ -87,7 +87,7 @@ impl<'i, 'a> Place<'i, 'a> {
         Ok(now)
     }
 
-    /// The value becomes the array of it.
+    /// The value is replaced by the array of it.
     #[tactic(auto, using(crate::proofs::Texts::joined_closed))]
     fn wrapped(self) -> Result<Vec<Splice>, SpliceFault>
         requires { PlaceFits self }
@@ -101,7 +101,7 @@ impl<'i, 'a> Place<'i, 'a> {
     }
 }
 
-/// The first element of a list, behind these items.
+/// The first element of a list, after these items.
 fn first(
     alloc: Global,
     file: &str,
@@ -151,7 +151,7 @@ pub(crate) fn layout_items(
     }
 }
 
-/// The offset before which all items begin that the layout of an edit looks at.
+/// The offset before which all items begin that the layout of an edit reads.
 fn end_of(primitive: &Primitive) -> usize
     requires { FirstFits primitive.now }
     ensures { result ≡ end_of_look primitive.now }
@@ -164,7 +164,7 @@ fn end_of(primitive: &Primitive) -> usize
     }
 }
 
-/// The splices of an edit, from left to right: the offset of each counts in the bytes that the ones before it left.
+/// The splices of an edit, from left to right. The offset of each counts in the bytes that the ones before it left.
 pub fn layout(
     alloc: Global,
     file: &str,

@@ -1,4 +1,4 @@
-//! Where a new element goes.
+//! Where a new element is inserted.
 
 ghost use Rattle.std.specs.Prelude.{◌≡◌, ◌++◌, ◌∷◌, [], OnOk, ◌+◌, ◌<◌, ◌≤◌, ◌^◌, IfErr, IfOk, length, take, zero};
 ghost use Rattle.meson_lex.specs.Items.{joined};
@@ -12,7 +12,7 @@ use crate::looks::{closes, comma_note_len, line_before, note_len};
 use crate::place::{Place, addition, push_texts, splice, text_len, two_splices};
 use meson_splice::{Splice, SpliceFault};
 
-/// Writes a line end with its indent, and what is new on that line.
+/// Writes a line end with its indent, and the new text of that line.
 fn push_line(to: &mut Vec<u8>, line: &[Lexeme<'_>], new: &[u8]) -> Result<(), SpliceFault>
     ensures done { OnOk result (to.new.items ≡ to.old.items ++ (joined line.now ++ new.now)) }
     ensures refused { IfErr result (λ e. e ≡ OutOfMemory) }
@@ -35,7 +35,7 @@ impl<'i, 'a> Place<'i, 'a> {
         addition(self.alloc, self.file, self.end(), now)
     }
 
-    /// Behind the element, on a line of its own: a comma and the new line.
+    /// After the element, on a line of its own: a comma and the new line.
     #[tactic(auto, using(crate::proofs::Texts::line_joined))]
     fn before_bracket(self, line: &[Lexeme<'a>], new: &[u8]) -> Result<Vec<Splice>, SpliceFault>
         requires { PlaceFits self }
@@ -48,7 +48,7 @@ impl<'i, 'a> Place<'i, 'a> {
         addition(self.alloc, self.file, self.end(), now)
     }
 
-    /// Behind the line of the element and its comma: the new line with a comma.
+    /// After the line of the element and its comma: the new line with a comma.
     #[tactic(auto, using(crate::proofs::Texts::joined_take, crate::proofs::Texts::line_joined_comma))]
     fn with_comma(
         self,
@@ -68,7 +68,7 @@ impl<'i, 'a> Place<'i, 'a> {
         addition(self.alloc, self.file, at, now)
     }
 
-    /// Behind the line of the element, which has no comma yet.
+    /// After the line of the element, which has no comma yet.
     #[tactic(auto, using(crate::proofs::Texts::joined_take, crate::proofs::Texts::line_joined))]
     fn without_comma(
         self,
@@ -107,7 +107,7 @@ impl<'i, 'a> Place<'i, 'a> {
         )
     }
 
-    /// The new line behind the line of the element, where the comma after the element is written first.
+    /// The new line after the line of the element, where the comma after the element is written first.
     #[tactic(auto, using(crate::proofs::Texts::joined_take))]
     fn line_after_comma(
         self,
@@ -128,7 +128,7 @@ impl<'i, 'a> Place<'i, 'a> {
         splice(self.alloc, self.file, at, Vec::new(self.alloc), now)
     }
 
-    /// A new element behind this one.
+    /// A new element after this one.
     #[tactic(auto, unfolding(crate::specs::Insertion::inserted))]
     pub(crate) fn inserted(self, new: &[u8]) -> Result<Vec<Splice>, SpliceFault>
         requires { PlaceFits self }

@@ -4,12 +4,12 @@ ghost use Rattle.meson_layout.specs.FileLaws.{AppendLaw, StatementRemovalLaw};
 ghost use Rattle.meson_layout.specs.Local.{LocalLaw};
 ghost use Rattle.meson_layout.specs.Laws.{CodingLaw, FilesLaw, FirstLaw, InsertionLaw, RemovalLaw, ReplacementLaw, TextsLaw, WrapKeeps, WrapLaw};
 
-/// The first element of a list that has none.
+/// The first element of an empty list.
 pub fn first_element()
     ensures { FirstLaw }
 {}
 
-/// In each of its layouts an insertion gives the list with the new element behind a comma.
+/// In each of its layouts an insertion gives the list with the new element after a comma.
 pub fn insertions()
     ensures { InsertionLaw }
 {}
@@ -35,7 +35,7 @@ pub fn removed_statements()
     ensures { StatementRemovalLaw }
 {}
 
-/// An appended statement comes last, and the file stays as it is before it.
+/// An appended statement is last, and the file before it stays as it is.
 pub fn appended_statements()
     ensures { AppendLaw }
 {}
@@ -45,14 +45,14 @@ pub fn sets_of_files()
     ensures { FilesLaw }
 {}
 
-/// Where each item of a text is UTF-8, an edit makes a text in UTF-8.
+/// If each item of a text is UTF-8, an edit makes a text in UTF-8.
 pub fn coding()
     ensures whole { CodingLaw }
-    // So are the texts that its splices take away and put in.
+    // So are the texts that its splices remove and insert.
     ensures splices { TextsLaw }
 {}
 
-/// Where a list stands in a file changes nothing in how an edit of it is laid out.
+/// The place of a list in its file changes nothing in how an edit of it is laid out.
 pub fn lists_alone()
     ensures { LocalLaw }
 {}

@@ -26,7 +26,7 @@ impl<'a> Model for Lexeme<'a> {
     ghost view = { λ x. record { kind = x.kind; text = x.text.now } };
 }
 
-/// Few sources have fewer bytes for each item.
+/// Most sources have at least this many bytes for each item.
 const BYTES_PER_ITEM: usize = 3;
 
 /// The items of a source that begin before `end`, or those of them before its fault.

@@ -15,7 +15,7 @@ use meson_lex::{Kind, Span};
 use meson_splice::{Splice, SpliceFault};
 use std::alloc::Global;
 
-/// The items of the list at the span, behind one item that stands for all before the list: no look goes so far.
+/// The items of the list at the span, after one item that replaces all before the list: no look goes back so far.
 fn list_lexemes<'a>(
     alloc: Global,
     src: &'a [u8],
@@ -37,7 +37,7 @@ fn list_lexemes<'a>(
     Ok(all)
 }
 
-/// The splices of an edit of the list at the span: those that `layout` gives. Of the source only the list is looked at.
+/// The splices of an edit of the list at the span: those that `layout` gives. Of the source only the list is read.
 pub fn list_layout(
     alloc: Global,
     file: &str,

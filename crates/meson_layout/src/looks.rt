@@ -13,7 +13,7 @@ fn is_blank(kind: Kind) -> bool
     matches!(kind, Kind::Blank)
 }
 
-/// Whether it is a line end by itself: a continuation is none.
+/// Whether it is a line end by itself: a continuation is not.
 pub(crate) fn is_line_end(kind: Kind) -> bool
     ensures { result ≡ is_line_end kind }
 {
@@ -29,7 +29,7 @@ fn is_closing(kind: Kind) -> bool
     )
 }
 
-/// Whether it is no token inside brackets.
+/// Whether it is not a token inside brackets.
 fn is_gap(kind: Kind) -> bool
     ensures { result ≡ is_gap kind }
 {
@@ -57,7 +57,7 @@ pub(crate) fn begins_comma(items: &[Lexeme<'_>]) -> bool
     }
 }
 
-/// Whether a comma stands last.
+/// Whether the last item is a comma.
 pub(crate) fn ends_comma(items: &[Lexeme<'_>]) -> bool
     ensures { result ≡ first_is is_comma (reverse items.now) }
 {
@@ -76,7 +76,7 @@ fn begins_closing(items: &[Lexeme<'_>]) -> bool
     }
 }
 
-/// How many blanks stand first: one at most.
+/// The number of blanks at the front: one at most.
 pub(crate) fn blanks(items: &[Lexeme<'_>]) -> usize
     ensures value { result ≡ one_if is_blank_kind items.now }
     ensures within { result ≤ length items.now }
@@ -87,7 +87,7 @@ pub(crate) fn blanks(items: &[Lexeme<'_>]) -> usize
     }
 }
 
-/// How many comments stand first: one at most.
+/// The number of comments at the front: one at most.
 fn comments(items: &[Lexeme<'_>]) -> usize
     ensures value { result ≡ one_if is_comment items.now }
     ensures within { result ≤ length items.now }
@@ -98,7 +98,7 @@ fn comments(items: &[Lexeme<'_>]) -> usize
     }
 }
 
-/// How many blanks stand last: one at most.
+/// The number of blanks at the end: one at most.
 pub(crate) fn last_blanks(items: &[Lexeme<'_>]) -> usize
     ensures value { result ≡ one_if is_blank_kind (reverse items.now) }
     ensures within { result ≤ length items.now }
@@ -109,7 +109,7 @@ pub(crate) fn last_blanks(items: &[Lexeme<'_>]) -> usize
     }
 }
 
-/// Whether nothing stands there, or a line end last.
+/// Whether there are no items, or the last one is a line end.
 pub(crate) fn at_line_start(items: &[Lexeme<'_>]) -> bool
     ensures { result ≡ at_line_start (reverse items.now) }
 {
@@ -119,7 +119,7 @@ pub(crate) fn at_line_start(items: &[Lexeme<'_>]) -> bool
     }
 }
 
-/// How many items stand behind the line end before, where that is none or one blank.
+/// The number of items after the last line end, if these are none or one blank.
 pub(crate) fn line_before(items: &[Lexeme<'_>]) -> Option<usize>
     ensures value { result ≡ line_before items.now }
     ensures within { IfSome result (λ n. n + 1 ≤ length items.now) }
@@ -131,7 +131,7 @@ pub(crate) fn line_before(items: &[Lexeme<'_>]) -> Option<usize>
     }
 }
 
-/// How many items end a line: none or one blank, and a line end.
+/// The number of items at the front that end a line: at most one blank, and a line end.
 pub(crate) fn line_behind(items: &[Lexeme<'_>]) -> Option<usize>
     ensures value { result ≡ line_behind items.now }
     ensures within { IfSome result (λ n. n ≤ length items.now) }
@@ -144,7 +144,7 @@ pub(crate) fn line_behind(items: &[Lexeme<'_>]) -> Option<usize>
     }
 }
 
-/// How many items stand before the line end of this line, where these are at most a blank and a comment.
+/// The number of items before the line end of this line, if these are at most a blank and a comment.
 pub(crate) fn note_len(items: &[Lexeme<'_>]) -> Option<usize>
     ensures value { result ≡ note_len items.now }
     ensures within { IfSome result (λ n. n + 1 ≤ length items.now) }
@@ -159,7 +159,7 @@ pub(crate) fn note_len(items: &[Lexeme<'_>]) -> Option<usize>
     }
 }
 
-/// The same, where a comma stands before these, and at most a blank before it.
+/// The same, if a comma is before these, with at most a blank before it.
 pub(crate) fn comma_note_len(items: &[Lexeme<'_>]) -> Option<usize>
     ensures value { result ≡ comma_note_len items.now }
     ensures within { IfSome result (λ n. n + 1 ≤ length items.now) }
@@ -182,7 +182,7 @@ pub(crate) fn closes(items: &[Lexeme<'_>]) -> bool
     begins_closing(&items[blanks(items)..])
 }
 
-/// How many items stand first that are no tokens.
+/// The number of items at the front that are not tokens.
 pub(crate) fn gap_len(items: &[Lexeme<'_>]) -> usize
     ensures value { result ≡ gap_len items.now }
     ensures within { result ≤ length items.now }
@@ -190,7 +190,7 @@ pub(crate) fn gap_len(items: &[Lexeme<'_>]) -> usize
     items.iter().take_while(|x| is_gap(x.kind)).count()
 }
 
-/// How many items stand last that are no tokens.
+/// The number of items at the end that are not tokens.
 pub(crate) fn last_gap_len(items: &[Lexeme<'_>]) -> usize
     ensures value { result ≡ gap_len (reverse items.now) }
     ensures within { result ≤ length items.now }
@@ -207,7 +207,7 @@ pub(crate) fn all_white(items: &[Lexeme<'_>]) -> bool
         .all(|x| matches!(x.kind, Kind::Blank | Kind::LineEnd))
 }
 
-/// Whether nothing stands there, or one blank.
+/// Whether there are no items, or one blank.
 pub(crate) fn at_most_blank(items: &[Lexeme<'_>]) -> bool
     ensures { result ≡ at_most_blank items.now }
 {

@@ -10,7 +10,7 @@ use meson_splice::{Splice, SpliceFault};
 use meson_values::{Bytes, Text};
 use std::alloc::Global;
 
-/// How many bytes the items have.
+/// The number of bytes of the items.
 pub(crate) fn text_len(items: &[Lexeme<'_>]) -> usize
     requires { length (joined items.now) < 2 ^ 64 }
     ensures { result ≡ length (joined items.now) }
@@ -22,7 +22,7 @@ pub(crate) fn text_len(items: &[Lexeme<'_>]) -> usize
     n
 }
 
-/// Writes the texts of the items behind what is there.
+/// Appends the texts of the items.
 pub(crate) fn push_texts(to: &mut Vec<u8>, items: &[Lexeme<'_>]) -> Result<(), SpliceFault>
     ensures done { OnOk result (to.new.items ≡ to.old.items ++ joined items.now) }
     ensures refused { IfErr result (λ e. e ≡ OutOfMemory) }
@@ -33,7 +33,7 @@ pub(crate) fn push_texts(to: &mut Vec<u8>, items: &[Lexeme<'_>]) -> Result<(), S
     Ok(())
 }
 
-/// In the file of that name, bytes at the offset become other bytes.
+/// In the file of that name, bytes at the offset are replaced by other bytes.
 pub(crate) fn splice(
     alloc: Global,
     file: &str,
@@ -64,7 +64,7 @@ pub(crate) fn one_splice(alloc: Global, splice: Splice) -> Result<Vec<Splice>, S
     Ok(splices)
 }
 
-/// In the file of that name, bytes come in at the offset.
+/// Bytes are inserted at the offset, in the file of that name.
 pub(crate) fn addition(
     alloc: Global,
     file: &str,
@@ -77,7 +77,7 @@ pub(crate) fn addition(
     replacement(alloc, file, at, Vec::new(alloc), now)
 }
 
-/// In the file of that name, bytes at the offset become other bytes, by one splice.
+/// In the file of that name, bytes at the offset are replaced by other bytes, by one splice.
 pub(crate) fn replacement(
     alloc: Global,
     file: &str,
@@ -107,7 +107,7 @@ pub(crate) fn two_splices(
     Ok(splices)
 }
 
-/// An element or a statement of a file: the items before it, its own, and those behind it.
+/// An element or a statement of a file: the items before it, its own, and those after it.
 #[derive(Clone, Copy)]
 pub(crate) struct Place<'i, 'a> {
     pub alloc: Global,
@@ -118,7 +118,7 @@ pub(crate) struct Place<'i, 'a> {
 }
 
 impl<'i, 'a> Place<'i, 'a> {
-    /// The offset behind it.
+    /// The offset after it.
     pub(crate) fn end(self) -> usize
         requires { PlaceFits self }
         ensures { result ≡ length (joined self.entry.left.now) + length (joined self.entry.own.now) }

@@ -1,4 +1,4 @@
-//! The edits of which all changes are made.
+//! The edits from which all changes are made.
 
 use meson_lex::Span;
 use meson_values::Bytes;
@@ -6,17 +6,17 @@ use meson_values::Bytes;
 /// One edit of a build file. Spans and offsets are in bytes of the file.
 #[derive(Drop)]
 pub enum Primitive {
-    /// The first element of an empty list, whose opening bracket stands at this offset.
+    /// The first element of an empty list, whose opening bracket is at this offset.
     First { bracket: usize, new: Bytes },
-    /// An element behind the one that stands there.
+    /// An element after the one at this span.
     After { element: Span, new: Bytes },
-    /// The element that stands there goes.
+    /// The element at this span is removed.
     Remove { element: Span },
-    /// The value that stands there becomes another one.
+    /// The value at this span is replaced by another one.
     Replace { value: Span, new: Bytes },
-    /// The value that stands there becomes the array of it.
+    /// The value at this span is wrapped into an array.
     Wrap { value: Span },
-    /// The statement that stands there goes.
+    /// The statement at this span is removed.
     RemoveStatement { statement: Span },
     /// A statement at the end of the file.
     Append { new: Bytes },

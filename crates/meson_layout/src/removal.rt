@@ -1,4 +1,4 @@
-//! What goes with a removed element.
+//! What is removed along with an element.
 
 ghost use Rattle.std.specs.Prelude.{◌≡◌, ◌+◌, ◌<◌, ◌≤◌, ◌^◌, ◌++◌, IfErr, IfOk, length, reverse, take};
 ghost use Rattle.meson_layout.specs.Looks.{gap_len, last_few};
@@ -16,7 +16,7 @@ use crate::looks::{
 use crate::place::{Place, push_texts, replacement, splice, text_len, two_splices};
 use meson_splice::{Splice, SpliceFault};
 
-/// How many items a removed range takes along, so that whole lines go.
+/// The number of items that a removed range takes along, so that whole lines are removed.
 #[derive(Clone, Copy)]
 pub(crate) struct Growth {
     pub before: usize,
@@ -38,7 +38,7 @@ fn grown(left: &[Lexeme<'_>], right: &[Lexeme<'_>]) -> Growth
 }
 
 impl<'i, 'a> Place<'i, 'a> {
-    /// The text of this with what stands behind it and what it takes along.
+    /// The text of this place and the items after it, with the items that are removed along with them.
     fn range_text(
         self,
         growth: Growth,
@@ -60,7 +60,7 @@ impl<'i, 'a> Place<'i, 'a> {
         Ok(text)
     }
 
-    /// This goes, with what stands behind it: one range.
+    /// This is removed, with the items after it: one range.
     #[tactic(auto, using(crate::proofs::Texts::joined_take, crate::proofs::Texts::joined_five))]
     fn one_range(self, more: &[Lexeme<'a>], last: &[Lexeme<'a>]) -> Result<Vec<Splice>, SpliceFault>
         requires { length (joined self.left.now) < 2 ^ 64 }
@@ -74,7 +74,7 @@ impl<'i, 'a> Place<'i, 'a> {
         replacement(self.alloc, self.file, at, was, Vec::new(self.alloc))
     }
 
-    /// This goes at the offset, with what it takes along.
+    /// This is removed at the offset, with the items that are removed along with it.
     pub(crate) fn gone(self, at: usize, growth: Growth) -> Result<Splice, SpliceFault>
         requires before { growth.before ≤ length self.left.now }
         requires behind { growth.behind ≤ length self.right.now }
@@ -86,7 +86,7 @@ impl<'i, 'a> Place<'i, 'a> {
         splice(self.alloc, self.file, at, was, Vec::new(self.alloc))
     }
 
-    /// This and another range go. Between the two stands `mid`.
+    /// This and another range are removed. `mid` is between the two.
     #[tactic(auto, using(crate::proofs::Texts::joined_take, crate::proofs::Texts::joined_drop, crate::proofs::Ranges::two_ranges_splices))]
     fn two_ranges(
         self,
@@ -118,7 +118,7 @@ impl<'i, 'a> Place<'i, 'a> {
     }
 }
 
-/// How many items the comma is that stands first, with the blank behind it.
+/// The number of items of the comma at the front, with the blank after it.
 fn comma_len(items: &[Lexeme<'_>]) -> usize
     requires { 1 ≤ length items.now }
     ensures value { result ≡ comma_len items.now }
@@ -128,7 +128,7 @@ fn comma_len(items: &[Lexeme<'_>]) -> usize
 }
 
 impl<'i, 'a> Place<'i, 'a> {
-    /// This goes with the comma behind it, before which `mid` stands. That comma begins the items behind this place.
+    /// This is removed with the comma after it; `mid` is before that comma. The comma begins the items after this place.
     fn with_comma_behind(self, mid: &[Lexeme<'a>]) -> Result<Vec<Splice>, SpliceFault>
         requires fits { length (joined self.left.now) + length (joined mid.now) < 2 ^ 64 }
         requires comma { 1 ≤ length self.right.now }
@@ -144,7 +144,7 @@ impl<'i, 'a> Place<'i, 'a> {
         }
     }
 
-    /// This goes with the comma before it, behind which `mid` stands.
+    /// This is removed with the comma before it; `mid` is after that comma.
     fn with_comma_before(
         self,
         comma: &'i [Lexeme<'a>],
@@ -163,7 +163,7 @@ impl<'i, 'a> Place<'i, 'a> {
         }
     }
 
-    /// This goes, and no comma stands behind it.
+    /// This is removed, and no comma is after it.
     #[tactic(auto, using(crate::proofs::Texts::joined_take, crate::proofs::Texts::joined_split))]
     fn without_comma_behind(self) -> Result<Vec<Splice>, SpliceFault>
         requires { PlaceFits self }
@@ -180,7 +180,7 @@ impl<'i, 'a> Place<'i, 'a> {
         Place { left, ..self }.with_comma_before(comma, mid)
     }
 
-    /// This element goes.
+    /// This element is removed.
     #[tactic(auto, using(crate::proofs::Texts::joined_take), unfolding(crate::specs::Removal::removed))]
     pub(crate) fn removed(self) -> Result<Vec<Splice>, SpliceFault>
         requires { PlaceFits self }

@@ -1,4 +1,4 @@
-//! What goes with a removed statement, and where a new one goes.
+//! What is removed along with a statement, and where a new one is inserted.
 
 ghost use Rattle.std.specs.Prelude.{◌≡◌, ◌+◌, ◌<◌, ◌≤◌, ◌^◌, ◌++◌, IfErr, IfOk, length};
 ghost use Rattle.meson_lex.specs.Items.{joined};
@@ -15,7 +15,7 @@ use meson_splice::{Splice, SpliceFault};
 use std::alloc::Global;
 
 impl<'i, 'a> Place<'i, 'a> {
-    /// This goes with n items before it and m items behind it.
+    /// This is removed with n items before it and m items after it.
     #[tactic(auto, using(crate::proofs::Texts::joined_take, crate::proofs::Texts::joined_three))]
     fn statement_gone(self, n: usize, m: usize) -> Result<Vec<Splice>, SpliceFault>
         requires fits { PlaceFits self }
@@ -32,7 +32,7 @@ impl<'i, 'a> Place<'i, 'a> {
         one_splice(self.alloc, self.gone(at, growth)?)
     }
 
-    /// This statement goes.
+    /// This statement is removed.
     #[tactic(auto, unfolding(crate::specs::Statements::statement_removed))]
     pub(crate) fn statement_removed(self) -> Result<Vec<Splice>, SpliceFault>
         requires { PlaceFits self }

@@ -41,7 +41,7 @@ is_octal b = nat_le 48 b && nat_le b 55
 abbrev pub is_binary : ℕ → Bool
 is_binary b = nat_le 48 b && nat_le b 49
 
--- ---- what stands at the front
+-- ---- what is at the front
 
 -- the text has a first byte, and it passes
 abbrev pub begins : (ℕ → Bool) → List ℕ → Bool
@@ -63,7 +63,7 @@ abbrev pub begins_bare_return : List ℕ → Bool
 begins_bare_return [] = false
 begins_bare_return (b ∷ bs) = b == 13 && not (begins is_line_feed bs)
 
--- where the first CR stands that no LF follows
+-- the place of the first CR that no LF follows
 abbrev pub first_bare_return : List ℕ → Option ℕ
 first_bare_return [] = None
 first_bare_return (b ∷ bs) = if begins_bare_return (b ∷ bs) then Some 0 else option_map suc (first_bare_return bs)

@@ -15,7 +15,7 @@ abbrev pub joined : List Lexeme → List ℕ
 joined [] = []
 joined (x ∷ xs) = x.text ++ joined xs
 
--- the text is of its kind, has no CR without LF after it, and may stand before the rest
+-- the text is of its kind, has no CR without LF after it, and may be before the rest
 abbrev pub IsItem : Lexeme → List ℕ → Type 0
 IsItem x rest = OfKind x.kind x.text × (first_bare_return x.text ≡ None) × MayStand x.kind x.text rest
 
@@ -29,7 +29,7 @@ pub record IsItemList (bytes : List ℕ) (xs : List Lexeme) : Type 0 where
   pub joins : joined xs ≡ bytes
   pub each : AreItems xs []
 
--- the items but for CRs: each text is of its kind, and may stand before those that follow it and the rest
+-- the items but for CRs: each text is of its kind, and may be before those that follow it and the rest
 abbrev pub StandTogether : List Lexeme → List ℕ → Type 0
 StandTogether [] rest = Unit {0}
 StandTogether (x ∷ xs) rest = OfKind x.kind x.text × MayStand x.kind x.text (joined xs ++ rest) × StandTogether xs rest

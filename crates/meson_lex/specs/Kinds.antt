@@ -1,5 +1,5 @@
--- What text an item of each kind has. The kinds are those of the Meson manual's page Syntax; at each stands what that page says of it, and what
--- this project decided itself.
+-- The text that an item of each kind has. The kinds are those of the Meson manual's page Syntax; each has what that page says of it, and what this project
+-- decided itself.
 use Rattle.std.specs.Prelude.{◌≡◌, ◌≢◌, ℕ, ◌==◌, nat_le, Bool, true, false, not, ◌&&◌, ◌||◌, ◌⊎◌, List, [], ◌∷◌, ◌++◌, codes}
 use Rattle.std.specs.List.{list_all}
 use Rattle.meson_lex.specs.declared.kinds.Kind.{Kind}
@@ -17,7 +17,7 @@ IsRun test (b ∷ bs) = (test b ≡ true) × (list_all test bs ≡ true)
 abbrev pub IsLineEnd : List ℕ → Type 0
 IsLineEnd text = (text ≡ 10 ∷ []) ⊎ (text ≡ 13 ∷ 10 ∷ [])
 
--- `#`, and then no CR and no LF: a comment goes on to the end of its line
+-- `#`, and then no CR and no LF: a comment continues to the end of its line
 abbrev pub IsComment : List ℕ → Type 0
 IsComment [] = ⊥
 IsComment (b ∷ bs) = (b ≡ 35) × (list_all (λ c. not (is_line_byte c)) bs ≡ true)
@@ -59,13 +59,13 @@ is_integer (b ∷ bs) = b == 48 && is_after_zero bs || (nat_le 49 b && nat_le b 
 -- ---- strings
 
 -- what follows an opening quote, up to and with the closing one: bytes other than quote and backslash, and a backslash with any byte after it
--- (Strings; that a line end may stand inside: decided here)
+-- (Strings; that a line end may be inside: decided here)
 abbrev pub IsQuotedRest : List ℕ → Type 0
 IsQuotedRest [] = ⊥
 IsQuotedRest (b ∷ []) = b ≡ 39
 IsQuotedRest (b ∷ c ∷ bs) = ((b ≡ 92) × IsQuotedRest bs) ⊎ ((b ≢ 39) × (b ≢ 92) × IsQuotedRest (c ∷ bs))
 
--- what follows three opening quotes: any bytes, up to and with the first three quotes (Strings, multiline)
+-- what follows three opening quotes: any bytes, up to the first three quotes and with them (Strings, multiline)
 abbrev pub IsTripledRest : List ℕ → Type 0
 IsTripledRest [] = ⊥
 IsTripledRest (b ∷ bs) = (b ∷ bs ≡ codes "'''") ⊎ ((begins_three_quotes (b ∷ bs) ≡ false) × IsTripledRest bs)

@@ -17,7 +17,7 @@ pub data IsLexed (offset : ℕ) (bytes : List ℕ) (results : List (Result Item 
   faulty : (xs : List Lexeme) (rest : List ℕ) (fault : LexFault) → HasItemsThenFault offset bytes xs rest fault
       → results ≡ with_spans offset xs ++ Err fault ∷ [] → IsLexed offset bytes results
 
--- each item begins where the one before it ended, is not empty and lies before the end; without a fault they reach the end, and nothing comes after a fault
+-- Each item begins where the one before it ended, is not empty and is before the end. Without a fault they reach the end, and nothing is after a fault.
 abbrev pub Tiles : ℕ → ℕ → List (Result Item LexFault) → Type 0
 Tiles offset end [] = offset ≡ end
 Tiles offset end (Ok item ∷ results) = (item.span.from ≡ offset) × (offset < item.span.to) × (item.span.to ≤ end) × Tiles item.span.to end results

@@ -1,4 +1,4 @@
--- What the contracts of this crate cite.
+-- What the contracts of this crate use.
 pub mod Bytes
 pub mod Kinds
 pub mod Neighbours

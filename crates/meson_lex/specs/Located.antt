@@ -1,11 +1,11 @@
--- The significant tokens of a text with the places where they stand.
+-- The significant tokens of a text with their places.
 use Rattle.std.specs.Prelude.{ℕ, ◌+◌, Bool, true, false, List, [], ◌∷◌, ◌++◌, length, map}
 use Rattle.meson_lex.specs.declared.kinds.Kind.{Kind}
 use Rattle.meson_lex.specs.declared.kinds.Kind.TheVariants.{LineEnd}
 use Rattle.meson_lex.specs.Items.{Lexeme}
 use Rattle.meson_lex.specs.Significant.{Word, kept, Role, Gap, Ends, Opens, Closes, Other, role, State, start, step, after, ends_line, only_if}
 
--- a token, and the bytes from and to which it stands
+-- a token, and its span in bytes
 pub record Token : Type 0 where
   pub kind : Kind
   pub text : List ℕ

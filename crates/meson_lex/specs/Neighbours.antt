@@ -1,5 +1,5 @@
--- Which items may stand side by side. The Syntax page leaves it to the longest item from the left; here no longest item is named:
--- a text of a kind may stand before what follows it where that would neither lengthen it nor make it another item.
+-- Which items may be side by side. The Syntax page leaves it to the longest item from the left; here no longest item is named. A text of a kind may be before
+-- what follows it if that would neither lengthen it nor make it another item.
 use Rattle.std.specs.Prelude.{◌≡◌, ℕ, true, false, ◌⊎◌, List, [], codes}
 use Rattle.meson_lex.specs.declared.kinds.Kind.{Kind}
 use Rattle.meson_lex.specs.declared.kinds.Kind.TheVariants.{Blank, Comment, Identifier, WordTrue, WordFalse, WordIf, WordElif, WordElse, WordEndif, WordAnd, WordOr, WordNot, WordIn, WordForeach, WordEndforeach, WordBreak, WordContinue, Integer, PlainString, FormatString, Plus, Assign, Less, Greater}
@@ -18,7 +18,7 @@ pub data Shape : Type 0 where
   -- a string of one quote, and one with an `f` before it
   quoted : Shape
   format_quoted : Shape
-  -- a mark that a `=` after it makes another
+  -- a mark that becomes another one with a `=` after it
   extendable : Shape
   -- all else
   closed : Shape
@@ -50,7 +50,7 @@ shape Less = extendable
 shape Greater = extendable
 shape _ = closed
 
--- a text of the shape may stand before the rest
+-- a text of the shape may be before the rest
 abbrev pub StandsBefore : Shape → List ℕ → List ℕ → Type 0
 -- no blank follows blanks
 StandsBefore blanks text rest = begins is_blank rest ≡ false
@@ -66,6 +66,6 @@ StandsBefore format_quoted text rest = text ≡ codes "f''" → begins is_quote 
 StandsBefore extendable text rest = begins is_equals rest ≡ false
 StandsBefore closed text rest = Unit {0}
 
--- a text of the kind may stand before the rest
+-- a text of the kind may be before the rest
 abbrev pub MayStand : Kind → List ℕ → List ℕ → Type 0
 MayStand kind text rest = StandsBefore (shape kind) text rest

@@ -1,4 +1,4 @@
--- The items of a text as a function: what stands at the front, and then the rest. `Items` has what is said of it.
+-- The items of a text as a function: the item at the front, and then the rest. `Items` has what is said of it.
 use Rattle.std.specs.Prelude.{ℕ, zero, suc, ◌+◌, ◌==◌, not, List, [], ◌∷◌, length, take, drop, if◌then◌else◌, Option, Some, None, option_map, Result, Ok, Err, bytes_eq}
 use Rattle.std.specs.List.{prefix_len}
 use Rattle.meson_lex.specs.declared.kinds.Item.{Item}
@@ -14,14 +14,14 @@ use Rattle.meson_lex.specs.Faults.{opened_string}
 abbrev pub Front : Type 0
 Front = Result (Kind × ℕ) LexFault
 
--- how many bytes follow a quote, up to and with the one that closes
+-- the number of bytes after a quote, up to the closing one and with it
 abbrev pub quoted_len : List ℕ → Option ℕ
 quoted_len [] = None
 quoted_len (b ∷ []) = if b == 39 then Some 1 else None
 quoted_len (b ∷ c ∷ bs) = if b == 39 then Some 1 else (if b == 92 then option_map (λ n. n + 2) (quoted_len bs)
     else option_map (λ n. n + 1) (quoted_len (c ∷ bs)))
 
--- the first kind in the list that is spelled so
+-- the first kind in the list with this spelling
 abbrev pub kind_among : List Kind → List ℕ → Kind
 kind_among [] text = Identifier
 kind_among (k ∷ ks) text = if bytes_eq text (spelling k) then k else kind_among ks text
@@ -67,17 +67,17 @@ continuation_front at bs =
     let n = comment_len (drop m bs) in
     continuation_of at (1 + (m + n)) (drop n (drop m bs))
 
--- the fault of a bare CR, where there is one
+-- the fault of a bare CR, if there is one
 abbrev pub unless_bare : ℕ → Option ℕ → Front → Front
 unless_bare at None found = found
 unless_bare at (Some k) found = Err (BareCarriageReturn (at + k))
 
--- how many bytes follow three quotes, up to and with the first three quotes
+-- the number of bytes after three quotes, up to the first three quotes and with them
 abbrev pub tripled_len : List ℕ → Option ℕ
 tripled_len [] = None
 tripled_len (b ∷ bs) = if begins_three_quotes (b ∷ bs) then Some 3 else option_map (λ n. n + 1) (tripled_len bs)
 
--- how many bytes follow what opens a string
+-- the number of bytes after what opens a string
 abbrev pub rest_len : Kind → List ℕ → Option ℕ
 rest_len PlainString bytes = quoted_len bytes
 rest_len FormatString bytes = quoted_len bytes
@@ -139,7 +139,7 @@ line_front at b bs =
     if b == 10 then Ok (LineEnd, 1)
     else (if begins is_line_feed bs then Ok (LineEnd, 2) else Err (BareCarriageReturn at))
 
--- what is no string at the front
+-- what is not a string at the front
 unfoldable pub plain : ℕ → ℕ → List ℕ → Front
 plain at b bs =
     if is_blank b then Ok (Blank, prefix_len is_blank (b ∷ bs))
@@ -150,23 +150,23 @@ plain at b bs =
     else (if is_digit b then number_front at (b ∷ bs)
     else mark_front at b bs)))))
 
--- a string, where one is opened
+-- a string, if one is opened
 abbrev pub front_of : ℕ → ℕ → List ℕ → Option Kind → Front
 front_of at b bs None = plain at b bs
 front_of at b bs (Some k) = string_front at k (b ∷ bs)
 
--- what stands at the front of a text that is not empty and begins at place at
+-- the item at the front of a text that is not empty and begins at place at
 unfoldable pub front : ℕ → List ℕ → Front
 front at [] = Err (StrayByte at)
 front at (b ∷ bs) = front_of at b bs (opened_string (b ∷ bs))
 
--- what stands at the front, and then what follows it
+-- the item at the front, and then what follows it
 abbrev pub scan_after : (ℕ → List ℕ → List (Result Item LexFault)) → ℕ → List ℕ → Front → List (Result Item LexFault)
 scan_after follow at bytes (Ok found) = Ok (record { kind = found.0; span = record { from = at; to = at + found.1 } })
     ∷ follow (at + found.1) (drop found.1 bytes)
 scan_after follow at bytes (Err fault) = Err fault ∷ []
 
--- the items that follow one another from place at on, for at most so many
+-- the items that follow one another from place at on, for at most this number
 abbrev pub scan_within : ℕ → ℕ → List ℕ → List (Result Item LexFault)
 scan_within zero at bytes = []
 scan_within (suc fuel) at [] = []

@@ -1,11 +1,11 @@
 -- The significant tokens of a text: its items without blanks, comments, continuations and the line ends inside brackets.
--- A run of line ends counts as one; none stands at the start, and one is added at an end that has none.
+-- A run of line ends counts as one; none is at the start, and one is added at an end that has none.
 use Rattle.std.specs.Prelude.{ℕ, zero, suc, pred, Bool, true, false, List, [], ◌∷◌, ◌++◌}
 use Rattle.meson_lex.specs.declared.kinds.Kind.{Kind}
 use Rattle.meson_lex.specs.declared.kinds.Kind.TheVariants.{Blank, LineEnd, Comment, Continuation, Identifier, Integer, PlainString, MultilineString, FormatString, FormatMultilineString, OpenRound, CloseRound, OpenSquare, CloseSquare, OpenCurly, CloseCurly}
 use Rattle.meson_lex.specs.Items.{Lexeme}
 
--- a word is a token without its place: its kind, and its text where the kind leaves that open
+-- a word is a token without its place: its kind, and its text if the kind does not determine it
 abbrev pub Word : Type 0
 Word = Kind × List ℕ
 
@@ -22,7 +22,7 @@ kept _ text = []
 abbrev pub new_line : Word
 new_line = (LineEnd, [])
 
--- what an item is to the tokens
+-- the role of an item for the tokens
 pub data Role : Type 0 where
   -- a blank, a comment or a continuation
   Gap : Role
@@ -47,8 +47,8 @@ role CloseSquare = Closes
 role CloseCurly = Closes
 role _ = Other
 
--- how many brackets are open, and whether no token came yet or a line end came last.
--- A bracket that closes where none is open leaves none open: such a text is no file's.
+-- the number of open brackets, and whether there was no token yet or the last one was a line end. A bracket that closes when none is open leaves none open:
+-- such a text is not a file's.
 pub record State : Type 0 where
   pub depth : ℕ
   pub fresh : Bool

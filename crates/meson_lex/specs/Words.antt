@@ -1,4 +1,4 @@
--- The words of items inside brackets, where line ends are no tokens.
+-- The words of items inside brackets, where line ends are not tokens.
 use Rattle.std.specs.Prelude.{◌≡◌, Bool, true, false, List, [], ◌∷◌, ◌++◌}
 use Rattle.meson_lex.specs.Items.{Lexeme}
 use Rattle.meson_lex.specs.Significant.{Word, kept, Role, Gap, Ends, Opens, Closes, Other, role}
@@ -21,12 +21,12 @@ spoken_by Other w = w ∷ []
 abbrev pub word : Lexeme → Word
 word x = (x.kind, kept x.kind x.text)
 
--- the words of items, line ends left out: inside brackets these are all of their tokens
+-- the words of items, without line ends: inside brackets these are all of their tokens
 abbrev pub spoken : List Lexeme → List Word
 spoken [] = []
 spoken (x ∷ xs) = spoken_by (role x.kind) (word x) ++ spoken xs
 
--- the first and the last of the items are tokens by themselves: no blank, comment, continuation or line end stands at either end
+-- the first and the last of the items are tokens by themselves: no blank, comment, continuation or line end is at either end
 pub record IsTight (own : List Lexeme) : Type 0 where
   pub first : Lexeme
   pub more : List Lexeme

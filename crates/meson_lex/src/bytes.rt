@@ -29,7 +29,7 @@ pub fn is_digit(b: u8) -> bool
     b >= b'0' && b <= b'9'
 }
 
-/// For each byte itself, where it is a letter, a digit or `_`; else a dot.
+/// For each byte: itself, if it is a letter, a digit or `_`; else a dot.
 static WORD_BYTES: [u8; 256] = *b"\
     ................................\
     ................0123456789......\
@@ -85,7 +85,7 @@ pub fn begins_three_quotes(bytes: &[u8]) -> bool
     }
 }
 
-/// A CR stands at the front, and no LF after it.
+/// Whether a CR is at the front, with no LF after it.
 pub fn begins_bare_return(bytes: &[u8]) -> bool
     ensures { result ≡ begins_bare_return bytes.now }
 {
@@ -95,7 +95,7 @@ pub fn begins_bare_return(bytes: &[u8]) -> bool
     }
 }
 
-/// Where the first CR stands that no LF follows.
+/// The place of the first CR that no LF follows.
 pub fn first_bare_return(bytes: &[u8]) -> Option<usize>
     ensures value { result ≡ first_bare_return bytes.now }
     ensures within { IfSome result (λ place. place < length bytes.now) }

@@ -1,4 +1,4 @@
-//! Escapes: what a backslash and the bytes behind it stand for in a plain string.
+//! Escapes: what a backslash and the bytes after it mean in a plain string.
 ghost use Rattle.std.specs.Prelude.{◌≡◌, ◌≤◌, ◌<◌, take, length};
 ghost use Rattle.std.specs.Char.{digit_value};
 ghost use Rattle.std.specs.List.{take_while, prefix_len};
@@ -8,14 +8,14 @@ ghost use Rattle.meson_lex.specs.Literals.{letter_escape, character_of, octal_es
 
 use crate::bytes::{begins_byte, is_hexadecimal, is_octal};
 
-/// The character that a backslash and what follows it stand for, and how many bytes behind the backslash belong to it.
+/// The character that a backslash and the bytes after it mean, and how many bytes after the backslash belong to it.
 #[derive(Clone, Copy)]
 pub struct Escaped {
     pub character: char,
     pub taken: usize,
 }
 
-/// A backslash that stands for itself.
+/// A backslash that means itself.
 const KEPT: Escaped = Escaped {
     character: '\\',
     taken: 0,
@@ -76,7 +76,7 @@ fn first(bytes: &[u8], most: usize) -> &[u8]
     bytes.get(..most).unwrap_or(bytes)
 }
 
-/// How many octal digits stand at the front.
+/// The number of octal digits at the front.
 fn octal_len(bytes: &[u8]) -> usize
     ensures within { result ≤ length bytes.now }
     ensures value { result ≡ prefix_len is_octal bytes.now }
@@ -92,7 +92,7 @@ fn octal_digits(bytes: &[u8]) -> &[u8]
     &bytes[..octal_len(bytes)]
 }
 
-/// How many hexadecimal digits stand at the front.
+/// The number of hexadecimal digits at the front.
 fn hexadecimal_len(bytes: &[u8]) -> usize
     ensures within { result ≤ length bytes.now }
     ensures value { result ≡ prefix_len is_hexadecimal bytes.now }
@@ -108,7 +108,7 @@ fn hexadecimal_digits(bytes: &[u8]) -> &[u8]
     &bytes[..hexadecimal_len(bytes)]
 }
 
-/// The character of a number; none where it is no character's.
+/// The character of a number, if the number is that of a character.
 fn numbered(number: u32, taken: usize) -> Option<Escaped>
     ensures { result ≡ character_of number taken }
 {
@@ -136,7 +136,7 @@ fn hexadecimal_escape(wanted: usize, digits: &[u8]) -> Option<Escaped>
     }
 }
 
-/// What a backslash and the bytes after it stand for; none where that makes the literal opaque.
+/// What a backslash and the bytes after it mean; none if that makes the literal opaque.
 pub fn escape(after: &[u8]) -> Option<Escaped>
     ensures { result ≡ escape after.now }
 {

@@ -1,4 +1,4 @@
-//! What the calls of this crate answer where they have no result.
+//! The faults of this crate's calls.
 use std::alloc::AllocError;
 use std::fmt;
 use thiserror::Error;
@@ -10,9 +10,9 @@ pub enum LexFault {
     StrayByte(usize),
     /// The string that begins here has no end.
     OpenString(usize),
-    /// No integer begins with this digit: a letter, a digit or `_` follows, or there is no digit behind `0x`, `0o` or `0b`.
+    /// No integer begins with this digit: a letter, a digit or `_` follows, or there is no digit after `0x`, `0o` or `0b`.
     BadNumber(usize),
-    /// A CR stands here, and no LF after it.
+    /// A CR is here, and no LF after it.
     BareCarriageReturn(usize),
 }
 
@@ -37,7 +37,7 @@ impl std::error::Error for LexFault {}
 /// Why no literal could be read or written.
 #[derive(Clone, Copy, Debug, PartialEq, Eq, Error)]
 pub enum LiteralFault {
-    /// A growth was refused.
+    /// An allocation failed.
     #[error("out of memory")]
     OutOfMemory,
 }
@@ -53,7 +53,7 @@ impl From<AllocError> for LiteralFault {
     }
 }
 
-// A literal is refused where memory is, and for no other cause.
+// A literal is refused only when out of memory.
 impl From<LiteralFault> for AllocError {
     fn from(_: LiteralFault) -> AllocError {
         AllocError

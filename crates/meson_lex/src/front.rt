@@ -1,4 +1,4 @@
-//! What stands at the front of a text.
+//! The item at the front of a text.
 ghost use Rattle.std.specs.Prelude.{◌≡◌, ◌+◌, ◌<◌, ◌^◌, ◌∷◌, length};
 ghost use Rattle.meson_lex.specs.Scan.{plain, front};
 
@@ -11,7 +11,7 @@ use crate::numbers::number_front;
 use crate::strings::{opens, string_front};
 use crate::words::word_front;
 
-/// What stands at the front, where it is no string.
+/// The item at the front, if it is not a string.
 #[inline(always)]
 #[tactic(auto, unfolding(crate::specs::Scan::plain))]
 fn plain(b: u8, after: &[u8], bytes: &[u8], at: usize) -> Result<(Kind, usize), LexFault>
@@ -36,7 +36,7 @@ fn plain(b: u8, after: &[u8], bytes: &[u8], at: usize) -> Result<(Kind, usize), 
     }
 }
 
-/// The kind and the length of the item at the front, or the fault that stands there.
+/// The kind and the length of the item at the front, or the fault there.
 #[inline(always)]
 #[tactic(auto, unfolding(crate::specs::Scan::front))]
 pub fn front(bytes: &[u8], at: usize) -> Result<(Kind, usize), LexFault>
@@ -46,7 +46,7 @@ pub fn front(bytes: &[u8], at: usize) -> Result<(Kind, usize), LexFault>
     let [b, after @ ..] = bytes else {
         return Err(LexFault::StrayByte(at));
     };
-    // Brackets, commas and dots are nearly half of all items that are no blanks.
+    // Brackets, commas and dots are nearly half of all items that are not blanks.
     if let Some(kind) = lone_mark(*b) {
         return Ok((kind, 1));
     }

@@ -1,6 +1,6 @@
 //! What the items of a build file are.
 
-/// A range of bytes of a source, from the first to behind the last.
+/// A range of bytes of a source, from the first one to after the last one.
 #[derive(Clone, Copy, Debug, PartialEq, Eq)]
 pub struct Span {
     pub from: usize,
@@ -38,9 +38,9 @@ pub enum Kind {
     PlainString,
     /// A string between three quotes.
     MultilineString,
-    /// A string between single quotes behind an `f`.
+    /// A string between single quotes after an `f`.
     FormatString,
-    /// A string between three quotes behind an `f`.
+    /// A string between three quotes after an `f`.
     FormatMultilineString,
     OpenRound,
     CloseRound,

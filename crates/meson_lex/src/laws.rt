@@ -1,4 +1,4 @@
-//! Laws of item lists, as functions that do nothing and whose contracts say them.
+//! Laws of item lists, as functions that do nothing; the contract of each is a law.
 ghost use Rattle.std.specs.Prelude.{◌≡◌, ◌↔◌, ℕ, List, [], ◌++◌, Result, IfOk, Some, None, false, IsUtf8};
 ghost use Rattle.std.specs.List.{AllByRecursion};
 ghost use Rattle.meson_lex.specs.Bytes.{is_quote, begins, first_bare_return};
@@ -23,30 +23,30 @@ pub fn one_answer()
     ensures { (offset : ℕ) (bytes : List ℕ) (rs qs : List (Result Item LexFault)) → IsLexed offset bytes rs → IsLexed offset bytes qs → rs ≡ qs }
 {}
 
-/// The text of each item that an iterator gives is an item of the source, before what follows it there.
+/// The text of each item that an iterator gives is an item of the source, and may be before what follows it there.
 pub fn items_stand()
     ensures { (source : List ℕ) (results : List (Result Item LexFault)) → IsLexed 0 source results
         → AllByRecursion (λ result. IfOk result (StandsIn source)) results }
 {}
 
-/// An item list may be told by the whole text: the texts joined are the text, each is of its kind and may stand before what follows it, and the
-/// text has no CR without an LF after it.
+/// An item list may be described by the whole text. The texts joined are the text, and each is of its kind and may be before what follows it. The text has no
+/// CR without an LF after it.
 pub fn item_list_by_whole_text()
     ensures { (bytes : List ℕ) (xs : List Lexeme) → IsItemList bytes xs ↔ ((joined xs ≡ bytes) × StandTogether xs [] × (first_bare_return bytes ≡ None)) }
 {}
 
-/// Items may be joined where those of the first list may stand before the others, and may be split anywhere.
+/// Items may be joined if those of the first list may be before the others, and may be split anywhere.
 pub fn items_join()
     ensures join { (xs ys : List Lexeme) (rest : List ℕ) → AreItems xs (joined ys ++ rest) → AreItems ys rest → AreItems (xs ++ ys) rest }
     ensures split { (xs ys : List Lexeme) (rest : List ℕ) → AreItems (xs ++ ys) rest → AreItems xs (joined ys ++ rest) × AreItems ys rest }
 {}
 
-/// What is written for a text stands for that text.
+/// The literal that is written for a text means that text.
 pub fn literal_reads_back()
     ensures { (text : List ℕ) → IsUtf8 text → value PlainString (literal text) ≡ Some text }
 {}
 
-/// What is written for a text is one plain string without a CR, and UTF-8 where the text is. It may stand before all that begins with no quote.
+/// The literal that is written for a text is one plain string without a CR, and UTF-8 if the text is. It may be before all that does not begin with a quote.
 pub fn literal_is_plain_string()
     ensures string { (text : List ℕ) → IsString PlainString (literal text) }
     ensures no_return { (text : List ℕ) → first_bare_return (literal text) ≡ None }

@@ -1,4 +1,4 @@
-//! The lexer of Meson build files: what stands where in a text, its first fault, and the literals of strings.
+//! The lexer of Meson build files: the items of a text, its first fault, and the literals of strings.
 #![tactic(auto)]
 
 mod bytes;

@@ -16,7 +16,7 @@ pub fn blank_len(bytes: &[u8]) -> usize
     bytes.iter().take_while(|b| is_blank(**b)).count()
 }
 
-/// How many bytes stand before the first CR or LF.
+/// The number of bytes before the first CR or LF.
 fn line_len(bytes: &[u8]) -> usize
     ensures within { result ≤ length bytes.now }
     ensures value { result ≡ prefix_len (λ b. not (is_line_byte b)) bytes.now }
@@ -54,7 +54,7 @@ pub fn comment_front(bytes: &[u8], at: usize) -> Result<(Kind, usize), LexFault>
     Ok((Kind::Comment, len))
 }
 
-/// The length of a comment at the front; 0 where there is none.
+/// The length of a comment at the front; 0 if there is no comment.
 fn note_len(bytes: &[u8]) -> usize
     ensures within { result ≤ length bytes.now }
     ensures value { result ≡ comment_len bytes.now }
@@ -88,7 +88,7 @@ fn continuation_of(at: usize, len: usize, tail: &[u8]) -> Result<(Kind, usize), 
     }
 }
 
-/// The continuation whose backslash stands at `at`, before `after`.
+/// The continuation whose backslash is at `at`, before `after`.
 #[tactic(auto, unfolding(crate::specs::Scan::continuation_front))]
 pub fn continuation_front(after: &[u8], at: usize) -> Result<(Kind, usize), LexFault>
     requires { at + 1 + length after.now < 2 ^ 64 }

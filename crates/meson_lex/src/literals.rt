@@ -1,4 +1,4 @@
-//! Literals: the text that a string stands for, and the string that is written for a text.
+//! Literals: the text that a string means, and the string that is written for a text.
 ghost use Rattle.std.specs.Prelude.{◌≡◌, ◌<◌, ◌++◌, ◌≤◌, IfOk, OnOk, length, option_map};
 ghost use Rattle.std.specs.Char.{digit_char};
 ghost use Rattle.std.specs.Str.{chars, encode_utf8_all};
@@ -12,7 +12,7 @@ use crate::fault::LiteralFault;
 use crate::kinds::Kind;
 use std::alloc::{AllocError, Global};
 
-/// The text that stands between single quotes; none where it is opaque.
+/// The text between single quotes; none if it is opaque.
 fn unescaped(alloc: Global, inner: &str) -> Result<Option<String>, AllocError>
     ensures { IfOk result (λ text. option_map string_bytes text ≡ option_map encode_utf8_all (unescaped (chars inner.now))) }
 {
@@ -52,9 +52,9 @@ fn multiline_value(alloc: Global, token: &[u8]) -> Result<Option<String>, AllocE
     Ok(Some(text))
 }
 
-/// The text that a string stands for, from the string's bytes, quotes and all.
+/// The text that a string means, from the string's bytes with its quotes.
 ///
-/// It is none where the string is opaque: a format string, one with `\N{` or with the number of no character, and bytes that are not UTF-8.
+/// The answer is `None` if the string is opaque: a format string, one with `\N{` or with a number that is not a character's, or one that is not UTF-8.
 pub fn literal_value(
     alloc: Global,
     token: &[u8],
@@ -70,7 +70,7 @@ pub fn literal_value(
     }
 }
 
-/// A digit of base 16, where the number is below 16.
+/// A digit of base 16, if the number is below 16.
 fn hexadecimal_digit(n: u8) -> u8
     requires { n < 16 }
     ensures { result ≡ digit_char n }

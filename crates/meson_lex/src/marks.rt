@@ -6,7 +6,7 @@ use crate::bytes::begins_byte;
 use crate::fault::LexFault;
 use crate::kinds::Kind;
 
-/// The mark that a byte is whatever stands behind it.
+/// The mark that a byte is, whatever is after it.
 #[inline(always)]
 pub fn lone_mark(b: u8) -> Option<Kind>
     ensures { IfSome result (λ kind. (at : ℕ) → (after : List ℕ) → front at (b ∷ after) ≡ Ok (kind, 1)) }

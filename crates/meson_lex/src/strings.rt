@@ -1,4 +1,4 @@
-//! Strings: what opens one, and where it ends.
+//! Strings: what opens one, and its end.
 ghost use Rattle.std.specs.Prelude.{◌≡◌, ◌+◌, ◌<◌, ◌≤◌, ◌^◌, Some, None, length, take, IfSome};
 ghost use Rattle.meson_lex.specs.Bytes.{first_bare_return};
 ghost use Rattle.meson_lex.specs.Kinds.{opener};
@@ -43,7 +43,7 @@ pub fn opens(bytes: &[u8]) -> Option<Kind>
     }
 }
 
-/// How many bytes opened a string of the kind.
+/// The number of bytes that open a string of the kind.
 fn opener_len(kind: Kind) -> usize
     ensures value { result ≡ length (opener kind) }
     ensures small { result ≤ 4 }
@@ -57,7 +57,7 @@ fn opener_len(kind: Kind) -> usize
     }
 }
 
-/// How many bytes follow a quote, up to and with the one that closes.
+/// The number of bytes after a quote, up to the closing one and with it.
 fn quoted_len(bytes: &[u8]) -> Option<usize>
     ensures value { result ≡ quoted_len bytes.now }
     ensures within { IfSome result (λ len. len ≤ length bytes.now) }
@@ -77,7 +77,7 @@ fn quoted_len(bytes: &[u8]) -> Option<usize>
     None
 }
 
-/// How many bytes follow three quotes, up to and with the first three quotes.
+/// The number of bytes after three quotes, up to the first three quotes and with them.
 fn tripled_len(bytes: &[u8]) -> Option<usize>
     ensures value { result ≡ tripled_len bytes.now }
     ensures within { IfSome result (λ len. len ≤ length bytes.now) }
@@ -94,7 +94,7 @@ fn tripled_len(bytes: &[u8]) -> Option<usize>
     None
 }
 
-/// How many bytes follow what opens a string of the kind, up to its end.
+/// The number of bytes after what opens a string of the kind, up to its end.
 fn rest_len(kind: Kind, rest: &[u8]) -> Option<usize>
     ensures value { result ≡ rest_len kind rest.now }
     ensures within { IfSome result (λ len. len ≤ length rest.now) }
@@ -126,7 +126,7 @@ fn searched_front(bytes: &[u8], kind: Kind, at: usize) -> Result<(Kind, usize), 
     }
 }
 
-/// How many bytes follow a quote up to and with the one that closes, where no backslash and no CR stands before that.
+/// The number of bytes after a quote, up to the closing one and with it, if no backslash and no CR is before that.
 #[inline(always)]
 fn simple_len(bytes: &[u8]) -> Option<usize>
     ensures value { IfSome result (λ len. quoted_len bytes.now ≡ Some len) }

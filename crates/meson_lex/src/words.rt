@@ -9,7 +9,7 @@ use crate::bytes::{is_word_byte, is_word_start};
 use crate::fault::LexFault;
 use crate::kinds::Kind;
 
-/// How many letters, digits and `_` stand at the front.
+/// The number of letters, digits and `_` at the front.
 pub fn word_len(bytes: &[u8]) -> usize
     ensures within { result ≤ length bytes.now }
     ensures value { result ≡ prefix_len is_word_byte bytes.now }
@@ -35,7 +35,7 @@ const RESERVED: [(&str, Kind); 14] = [
     ("continue", Kind::WordContinue),
 ];
 
-/// The kind among these whose word it is, else `Identifier`.
+/// The kind among these with this word, else `Identifier`.
 fn kind_among(words: &[(&str, Kind)], word: &[u8]) -> Kind
     requires { All (λ w. w.0.now ≡ spelling w.1) words.now }
     ensures { result ≡ kind_among (map (λ w. w.1) words.now) word.now }
@@ -48,7 +48,7 @@ fn kind_among(words: &[(&str, Kind)], word: &[u8]) -> Kind
     Kind::Identifier
 }
 
-/// The reserved word that is spelled so, else `Identifier`.
+/// The reserved word with this spelling, else `Identifier`.
 fn word_kind(word: &[u8]) -> Kind
     ensures { result ≡ word_kind word.now }
 {
@@ -76,7 +76,7 @@ fn is_unreserved(word: &[u8]) -> bool
     matches!(word_kind(word), Kind::Identifier)
 }
 
-/// Whether the text is an identifier: a letter or `_`, then letters, digits and `_`, and no reserved word. No memory is taken.
+/// Whether the text is an identifier: a letter or `_`, then letters, digits and `_`, and not a reserved word. Does not allocate.
 pub fn is_identifier(name: &str) -> bool
     ensures { IsTrue result ↔ IsIdentifier name.now }
 {

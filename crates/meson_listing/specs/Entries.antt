@@ -46,7 +46,7 @@ shown_data (shown.Texts texts) = texts_data texts
 shown_data (shown.Ids names) = ids_data names
 shown_data (shown.Opaque text) = opaque_data text
 
--- each pair put at its name, where the order of the names gives it its place
+-- each pair is put at its name; the order of the names decides its place
 abbrev pub put_each : Members → List (List ℕ × Shown) → Members
 put_each ms [] = ms
 put_each ms (p ∷ more) = put_each (put p.0 (shown_data p.1) ms) more

@@ -1,4 +1,4 @@
--- The names of keyword arguments rise, and each has its value.
+-- The names of keyword arguments are in rising order, and each has its value.
 use Rattle.std.specs.Prelude.{◌≡◌, ◌≢◌, ℕ, List, [], ◌∷◌, Some, All}
 use Rattle.std.specs.List.{AllPairs}
 use Rattle.std.specs.List.Sorted.{IsStrictlySortedBy}

@@ -12,7 +12,7 @@ use meson_variables::SourceItem;
 use serde_json::{Map, Value, json, put};
 use std::alloc::{AllocError, Global};
 
-/// The name of the file of a number; none has the empty name.
+/// The name of the file of a number; the empty name if there is no such file.
 pub fn file_name(files: &FileSet, file: usize) -> &str
     ensures { result.now ≡ name_of_file file files.now }
 {
@@ -33,10 +33,10 @@ pub fn text_or_null(text: Option<Text>) -> Value
     }
 }
 
-/// Where a call, a source or an extra file stands: the offset in bytes and the name of the file.
+/// The place of a call, a source or an extra file: the offset in bytes and the name of the file.
 ///
 /// # Errors
-/// Memory is refused.
+/// Out of memory.
 pub fn spot_members(alloc: Global, at: usize, file: &str) -> Result<Map<String, Value>, AllocError>
     ensures { IfOk result (λ m. members_view m.entries ≡ member (codes "at") (number (unsigned at)) (member (codes "file") (string file.now) no_members)) }
 {

@@ -2,7 +2,7 @@
 
 ghost use Rattle.meson_listing.specs.Laws.{NamesRise};
 
-/// The names of the keyword arguments in a listing rise, and each has its value.
+/// The names of the keyword arguments in a listing are in rising order, and each has its value.
 pub fn names_rise()
     ensures { NamesRise }
 {}

@@ -1,4 +1,4 @@
-//! Listings: JSON of what is told of a call, of its sources and of its keyword arguments.
+//! Listings: JSON of what is reported of a call, of its sources and of its keyword arguments.
 #![tactic(auto)]
 
 pub mod entries;

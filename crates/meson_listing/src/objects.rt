@@ -12,7 +12,7 @@ use meson_variables::Sources;
 use serde_json::{Map, Value, put};
 use std::alloc::{AllocError, Global};
 
-/// What each listing begins with: where the call stands, its function, and whether arguments are hidden.
+/// The start of each listing: the place of the call, its function, and whether arguments are hidden.
 fn head_members(
     alloc: Global,
     at: usize,
@@ -44,7 +44,7 @@ fn typed_object(alloc: Global, members: Map<String, Value>, kind: &str) -> Resul
     Ok(Value::Object(members))
 }
 
-/// Puts sources or extra files at a name, and at another one how many expressions are not known.
+/// Puts sources or extra files at a name, and at another one the number of expressions that are not known.
 fn put_sources(
     alloc: Global,
     members: &mut Map<String, Value>,
@@ -61,10 +61,10 @@ fn put_sources(
     put(members, alloc, opaque_key, Value::from(sources.opaque))
 }
 
-/// The listing of a target, whose call stands in the file of this number.
+/// The listing of a target whose call is in the file of this number.
 ///
 /// # Errors
-/// Memory is refused.
+/// Out of memory.
 #[tactic(auto, unfolding(crate::specs::Entries::target_data))]
 pub fn target_object(
     alloc: Global,
@@ -98,10 +98,10 @@ pub fn target_object(
     typed_object(alloc, members, "target")
 }
 
-/// The listing of the keyword arguments of a call that stands in the file of this number.
+/// The listing of the keyword arguments of a call that is in the file of this number.
 ///
 /// # Errors
-/// Memory is refused.
+/// Out of memory.
 #[tactic(auto, unfolding(crate::specs::Entries::call_data))]
 pub fn call_object(
     alloc: Global,

@@ -1,7 +1,7 @@
-//! Tests of want of memory: each growth of a call is refused in turn, alone and with all after it.
+//! Tests of running out of memory: each allocation of a call fails in turn, alone and with all after it.
 //!
-//! A growth is refused by a heap that takes orders (`tests/refuse.c`, which `tests/memory` puts before the C library's). Without
-//! it none is refused: each call is then made with ample memory, and must not answer want of it.
+//! The failing heap (`tests/refuse.c`, which `tests/memory` puts before the C library's) takes orders. Without it no allocation fails: each call is then made
+//! with ample memory, and must not report that memory ran out.
 #![tactic(auto)]
 
 #[cfg(test)]

@@ -1,4 +1,4 @@
-//! Projects: loaded, copied, asked and changed.
+//! Projects: loaded, copied, queried and changed.
 
 use crate::rows::Row;
 use crate::trial::{Call, Fault, Wrong, each_growth_refused, grows_less};
@@ -214,10 +214,10 @@ impl Call for ListLines {
     }
 }
 
-/// So many assignments, and fewer growths of a command on a project that has them.
+/// The number of assignments. A command on a project that has them makes fewer allocations than that.
 const ASSIGNMENTS: u32 = 1_000;
 
-/// A root file with a target, and the assignments behind it.
+/// A root file with a target, and the assignments after it.
 fn with_assignments(alloc: Global) -> Result<String, AllocError> {
     let target = "src = ['a.cpp', 'b.cpp']\nexecutable('e', src)\n";
     let mut root = String::from_str(alloc, target)?;
@@ -227,7 +227,7 @@ fn with_assignments(alloc: Global) -> Result<String, AllocError> {
     Ok(root)
 }
 
-/// A command that took a growth for each assignment.
+/// A command that made an allocation for each assignment.
 #[derive(Debug, Drop)]
 struct TooManyGrowths;
 
@@ -288,7 +288,7 @@ fn performs_without_a_growth_for_each_assignment(rt: HostRuntime) -> Result<(), 
         script: "[{\"type\":\"target\",\"target\":\"e\",\"operation\":\"src_add\",\"sources\":[\"c.cpp\"]}]",
     };
     let is_few = grows_less::<Perform>(alloc, row, ASSIGNMENTS);
-    // With none at all it is refused, where growths can be: so the heap took the order.
+    // With no allocation it must fail, if allocations can fail: so the heap took the order.
     let _ = grows_less::<Perform>(alloc, row, 1);
     if is_few { Ok(()) } else { Err(TooManyGrowths) }
 }

@@ -5,7 +5,7 @@ use meson_script::{Script, Session};
 use meson_splice::{Change, FileSet, History};
 use std::alloc::Global;
 
-/// What the changes of sessions are for.
+/// The title of the sessions' changes.
 pub const TITLE: &str = "add the é of the row";
 
 /// A project, the id of a target in it, and a script.
@@ -13,14 +13,13 @@ pub const TITLE: &str = "add the é of the row";
 pub struct Row<'a> {
     /// The root file.
     pub root: &'a str,
-    /// The file of the folder `sub`; empty where there is none.
+    /// The file of the folder `sub`; empty if there is no such file.
     pub below: &'a str,
     pub target: &'a str,
     pub script: &'a str,
 }
 
-/// The root file, the file below it, the target and the script of each row, with a line `==` between two and `====` behind
-/// each row.
+/// The root file, the file below it, the target and the script of each row. A line `==` is between two of these, and `====` after each row.
 const ROWS: &str = "project('p', 'cpp')
 src = ['main.cpp', 'fileA.cpp']
 exe1 = executable('testExe', src)
@@ -199,7 +198,7 @@ impl Row<'_> {
         Script::from_json(alloc, self.script).ok()
     }
 
-    /// The session after the script with a title, where it is not refused.
+    /// The session after the script with a title, if it is not refused.
     pub fn session(&self, alloc: Global) -> Option<Session> {
         let mut session = Session::of(self.project(alloc)?, History::new(alloc));
         let _ = session.run_titled(alloc, &self.script(alloc)?, TITLE);

@@ -1,4 +1,4 @@
-//! Changes done, taken back and kept.
+//! Changes that are done, taken back and kept.
 
 use crate::rows::Row;
 use crate::trial::{Call, Fault, Wrong, each_growth_refused};

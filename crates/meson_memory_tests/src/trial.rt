@@ -1,11 +1,11 @@
-//! A call that is made again and again, with another growth refused each time.
+//! A call that is made again and again, with another failing allocation each time.
 
 use crate::refusing::{Refusal, refuse, was_refused};
 use crate::rows::{Row, rows};
 use std::alloc::Global;
 use std::fmt::Debug;
 
-/// More than any call here grows.
+/// More allocations than any call here makes.
 const MOST: u32 = 100_000;
 
 /// Why a call was refused.
@@ -14,7 +14,7 @@ pub trait Fault: Debug + Drop {
     fn is_want(&self) -> bool;
 }
 
-/// A call, and what it is given.
+/// A call, and its input.
 pub trait Call {
     /// All of it that the call can change is shown.
     type Given: Debug + Drop;
@@ -23,18 +23,18 @@ pub trait Call {
 
     type Fault: Fault;
 
-    /// What the call is given, made anew of a row.
+    /// What the call is given, made again from a row.
     fn given(alloc: Global, row: Row<'_>) -> Option<Self::Given>;
 
     fn make(alloc: Global, given: &mut Self::Given) -> Result<Self::Value, Self::Fault>;
 }
 
-/// A value as programmers see it.
+/// The debug form of a value.
 fn shown<T: Debug>(alloc: Global, value: &T) -> Option<String> {
     format!(in alloc; "{value:?}").ok()
 }
 
-/// What came of a call.
+/// The result of a call.
 #[derive(Debug, Drop)]
 struct Trial {
     refusal: Refusal,
@@ -47,7 +47,7 @@ struct Trial {
     was_refused: bool,
 }
 
-/// A call that was wrong, beside the same with ample memory; none where it could not be made.
+/// A call that was wrong, next to the same call with ample memory; none if that could not be made.
 #[derive(Debug, Drop)]
 pub struct Wrong {
     row: u32,
@@ -55,7 +55,7 @@ pub struct Wrong {
     trial: Option<Trial>,
 }
 
-/// Makes a call with this growth refused.
+/// Makes a call in which this allocation fails.
 fn tried<C: Call>(alloc: Global, row: Row<'_>, refusal: Refusal) -> Option<Trial> {
     let mut given = C::given(alloc, row)?;
     let before = shown(alloc, &given)?;
@@ -76,8 +76,7 @@ fn tried<C: Call>(alloc: Global, row: Row<'_>, refusal: Refusal) -> Option<Trial
     })
 }
 
-/// Whether a call was right: it came to what it comes to with ample memory, or it said that memory ran out where a growth was
-/// refused, and left all as it was.
+/// Whether a call was right. Either its result was that with ample memory. Or it said that memory ran out, when an allocation failed, and left all as it was.
 fn is_right(trial: &Trial, ample: &Trial) -> bool {
     if trial.is_want {
         trial.was_refused && trial.after.as_str() == trial.before.as_str()
@@ -87,8 +86,7 @@ fn is_right(trial: &Trial, ample: &Trial) -> bool {
     }
 }
 
-/// Makes the call of a row with each growth refused, alone and with all after it, until one meets none. Gives the first
-/// that is wrong.
+/// Makes the call of a row with each allocation failing, alone and with all after it, until no allocation fails. Gives the first call that is wrong.
 fn wrong_of_row<C: Call>(alloc: Global, row: Row<'_>, ample: &Trial) -> Option<Trial> {
     for number in 2..MOST {
         let refusal = Refusal {
@@ -106,7 +104,7 @@ fn wrong_of_row<C: Call>(alloc: Global, row: Row<'_>, ample: &Trial) -> Option<T
     None
 }
 
-/// Makes the call of each row with each growth refused in turn.
+/// Makes the call of each row with each allocation failing in turn.
 ///
 /// # Errors
 /// The first call that was wrong.
@@ -142,7 +140,7 @@ pub fn each_growth_refused<C: Call>(alloc: Global) -> Result<(), Wrong> {
     Ok(())
 }
 
-/// Whether the call of a row is done with fewer growths than so many.
+/// Whether the call of a row is done with fewer allocations than this number.
 pub fn grows_less<C: Call>(alloc: Global, row: Row<'_>, growths: u32) -> bool {
     let refusal = Refusal {
         first: growths,

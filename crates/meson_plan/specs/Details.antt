@@ -1,4 +1,4 @@
--- What an info command tells of a target. Meson manual, Rewriter.
+-- What an info command reports of a target. Meson manual, Rewriter.
 use Rattle.std.specs.Prelude.{◌≡◌, ℕ, List, Some, Result, Ok, Err}
 use Rattle.meson_lex.specs.declared.kinds.Span.{Span}
 use Rattle.meson_splice.specs.Patch.{then_ok}
@@ -22,7 +22,7 @@ place_found found = then_ok found (λ c. Ok c.place)
 abbrev pub target_place : Project Span → List ℕ → Result CallRef Refusal
 target_place p id = place_found (the_call p Target id)
 
--- what is told of the target at a place
+-- what is reported of the target at a place
 pub record AreDetails (p : Project Span) (place : CallRef) (told : TargetDetails) : Type 0 where
   pub is_place : told.place ≡ place
   pub is_head : head p place ≡ Some told.head
@@ -34,7 +34,7 @@ pub data NoDetails (p : Project Span) (place : CallRef) : Refusal → Type 0 whe
   no_sources : (refusal : Refusal) → sources p place ≡ Some (Err refusal) → NoDetails p place refusal
   no_extra : (found : Sources) (refusal : Refusal) → sources p place ≡ Some (Ok found) → extra_files p place ≡ Some (Err refusal) → NoDetails p place refusal
 
--- the id names no target, or more than one; or of the one that it names there are no details
+-- the id names no target, or more than one; or there are no details of the one that it names
 pub data NoTarget (p : Project Span) (id : List ℕ) : Refusal → Type 0 where
   not_found : (refusal : Refusal) → target_place p id ≡ Err refusal → NoTarget p id refusal
   untold : (place : CallRef) (refusal : Refusal) → target_place p id ≡ Ok place → NoDetails p place refusal → NoTarget p id refusal

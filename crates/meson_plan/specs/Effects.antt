@@ -1,5 +1,5 @@
--- What is there after a command, said of the arguments of the call that it changes, of the lists that get or lose sources or extra files,
--- and of the calls that a name names. Meson manual, Rewriter.
+-- What is there after a command: the arguments of the call that it changes, the lists that get or lose sources or extra files, and the calls that a name names.
+-- Meson manual, Rewriter.
 use Rattle.std.specs.Prelude.{◌≡◌, ℕ, List, ◌∷◌, All, codes, Ok}
 use Rattle.std.specs.Str.{IsUtf8}
 use Rattle.meson_lex.specs.declared.kinds.Span.{Span}
@@ -25,11 +25,12 @@ use Rattle.meson_targets.specs.Effects.{NamesTarget, TargetRemoved, call_with_te
 use Rattle.meson_targets.specs.TargetEdits.{number_in}
 use Rattle.meson_plan.specs.Performing.{Performs}
 
--- what the request leaves of its call, where its texts are UTF-8
+-- what the request leaves of its call, if its texts are UTF-8
 abbrev pub LeavesOf : Loaded → Role → List ℕ → Asked → Loaded → Type 0
 LeavesOf old r id asked new = AreAskedTexts asked → CallLeft old r id asked (plain_trees new)
 
--- The target is the only one that the id names, and where its further sources go is each new one once. All its sources are those that it had and these.
+-- The target is the only one that the id names. The list to which its further sources are added has each new one once. All its sources are those that it had
+-- and these.
 pub record SourcesCome (old : Loaded) (id : List ℕ) (names : List (List ℕ)) (new : Loaded) : Type 0 where
   pub call : Placed (Call Span)
   pub is_call : the_call (project old) role.Target id ≡ Ok call
@@ -37,7 +38,7 @@ pub record SourcesCome (old : Loaded) (id : List ℕ) (names : List (List ℕ)) 
       (plain_trees new)
   pub whole : All IsUtf8 names → SourcesGrow (new_names (source_marks (project old) call) names) id call (project old) (project new)
 
--- Of the sources those that are named are gone, and of all sources of the target no others.
+-- Of the sources those that are named are gone, and no others of the target.
 pub record SourcesGo (old : Loaded) (id : List ℕ) (names : List (List ℕ)) (new : Loaded) : Type 0 where
   pub call : Placed (Call Span)
   pub is_call : the_call (project old) role.Target id ≡ Ok call
@@ -51,7 +52,7 @@ pub record ExtrasCome (old : Loaded) (id : List ℕ) (names : List (List ℕ)) (
   pub come : ExtraComes call (extra_home (project old) call) (new_names (extra_marks (project old) call) names) (plain_trees old) (plain_trees new)
   pub whole : All IsUtf8 names → ExtrasGrow (new_names (extra_marks (project old) call) names) id call (project old) (project new)
 
--- Of the extra files those that are named are gone, and of all extra files of the target no others.
+-- Of the extra files those that are named are gone, and no others of the target.
 pub record ExtrasGo (old : Loaded) (id : List ℕ) (names : List (List ℕ)) (new : Loaded) : Type 0 where
   pub call : Placed (Call Span)
   pub is_call : the_call (project old) role.Target id ≡ Ok call

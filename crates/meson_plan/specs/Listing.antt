@@ -16,7 +16,7 @@ use Rattle.meson_sources.specs.Extras.{extra_files}
 use Rattle.meson_details.specs.Details.{head, keywords}
 use Rattle.meson_listing.specs.Entries.{target_data, call_data}
 
--- of the call at a place, if one stands there
+-- of the call at a place, if there is one
 abbrev pub target_at : Loaded → CallRef → Option (Result Data Refusal)
 target_at l c =
     option_and_then (λ h. option_and_then (λ s. option_map (λ x. then_ok s (λ is. then_ok x (λ xs. Ok (target_data l.files c.file h is xs))))
@@ -25,7 +25,7 @@ target_at l c =
 abbrev pub call_listing : Loaded → Role → CallRef → Option (Result Data Refusal)
 call_listing l r c = option_and_then (λ h. option_map (λ ks. then_ok ks (λ pairs. Ok (call_data l.files c.file h pairs))) (keywords l r c)) (head (project l) c)
 
--- one always stands where an id leads
+-- there always is one where an id leads
 abbrev pub or_not_found : Option (Result Data Refusal) → Result Data Refusal
 or_not_found None = Err NotFound
 or_not_found (Some listing) = listing
@@ -38,14 +38,14 @@ target_listing l id = then_ok (the_call (project l) role.Target id) (λ c. or_no
 abbrev pub kwargs_listing : Loaded → Role → List ℕ → Result Data Refusal
 kwargs_listing l r id = then_ok (the_call (project l) r id) (λ c. or_not_found (call_listing l r c.place))
 
--- ---- what a command tells of the files and trees as they stand: an info command its listing, the others nothing
+-- ---- what a command reports of the files and trees as they are: an info command its listing, the others nothing
 
 abbrev pub told : Loaded → Command → Result (List Data) Refusal
 told l (command.TargetInfo target) = then_ok (target_listing l target) (λ d. Ok (d ∷ []))
 told l (command.KwargsInfo role id) = then_ok (kwargs_listing l role id) (λ d. Ok (d ∷ []))
 told l _ = Ok []
 
--- whether a command asks, and changes nothing
+-- whether a command only reports, and changes nothing
 abbrev pub asks : Command → Bool
 asks (command.TargetInfo target) = true
 asks (command.KwargsInfo role id) = true

@@ -1,4 +1,4 @@
--- What the listings promise, in the words of the commands.
+-- What the listings promise, in terms of the commands.
 use Rattle.std.specs.Prelude.{◌≡◌, ℕ, List, [], Result, Ok, Err}
 use Rattle.serde_json.specs.Data.{Data}
 use Rattle.meson_splice.specs.Patch.{then_ok}
@@ -13,9 +13,9 @@ use Rattle.meson_plan.specs.Performing.{MayRefuse, Performs}
 use Rattle.meson_plan.specs.Planning.{planned}
 use Rattle.meson_plan.specs.Listing.{target_listing, kwargs_listing}
 
--- ---- A listing is made where its info command is planned, which has no steps, and refused as that is.
+-- ---- A listing is made exactly if its info command can be planned, which has no steps, and it is refused in the same way.
 
--- a listing that is made stands for no steps
+-- a listing that is made means no steps
 abbrev pub no_steps : Result Data Refusal → Result (List Step) Refusal
 no_steps listing = then_ok listing (λ d. Ok [])
 
@@ -25,7 +25,7 @@ TargetsAgree = (l : Loaded) (id : List ℕ) → no_steps (target_listing l id) �
 abbrev pub CallsAgree : Type 0
 CallsAgree = (l : Loaded) (r : Role) (id : List ℕ) → no_steps (kwargs_listing l r id) ≡ planned (project l) (command.KwargsInfo r id)
 
--- ---- And so where the command is done on a project, which it leaves as it is, or refused.
+-- ---- And so if the command is done on a project, which it leaves as it is, or refused.
 
 pub record DoesNothing (done : Done) : Type 0 where
   pub no_splices : done.change.splices ≡ []

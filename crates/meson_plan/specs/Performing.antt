@@ -37,7 +37,7 @@ pub record Performs (old : Loaded) (c : Command) (done : Done) (new : Loaded) : 
   pub are_files : new.files ≡ made.files
   pub are_trees : plain_trees new ≡ made.trees
 
--- Each step that the command means changes one file, and keeps in it all that the step's edit does not touch.
+-- Each step of the command changes one file, and keeps in it all that the step's edit does not touch.
 pub record KeepsUntouched (old : Loaded) (c : Command) (new : Loaded) : Type 0 where
   pub steps : List Step
   pub are_planned : planned (project old) c ≡ Ok steps

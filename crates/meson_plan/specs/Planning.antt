@@ -17,7 +17,7 @@ use Rattle.meson_keywords.specs.Tasks.{each_made, set_entry, delete_entry, add_e
 use Rattle.meson_keywords.specs.TaskSteps.{call_changed}
 use Rattle.meson_steps.specs.Steps.{Step}
 
--- ---- commands that change nothing: what they tell of may be there once only
+-- ---- commands that change nothing: what they report may be there once only
 
 abbrev pub target_told : {S : Type 0} → Call S → Result (List Step) Refusal
 target_told c = then_ok (only_once sources_key c) (λ _. then_ok (only_once extra_key c) (λ _. Ok []))

@@ -1,4 +1,4 @@
-//! What a command did, and what it told.
+//! What a command did, and what it reports.
 
 ghost use Rattle.std.specs.Prelude.{◌≡◌, ◌∷◌, [], IfOk, IsTrue, Ok, OnErr, map};
 ghost use Rattle.serde_json.specs.View.{view};
@@ -18,15 +18,15 @@ use meson_steps::command::{Command, Done};
 use serde_json::Value;
 use std::alloc::{AllocError, Global};
 
-/// What a command did, and what it told.
+/// What a command did, and what it reports.
 #[derive(Debug, Drop)]
 pub struct Answer {
     pub done: Done,
-    /// The listing of an info command; of the others none.
+    /// The listing of an info command; empty for the others.
     pub listings: Vec<Value>,
 }
 
-/// Whether a command asks, and changes nothing.
+/// Whether a command only reports, and changes nothing.
 pub fn asks(command: &Command) -> bool
     ensures { result ≡ asks command.now }
 {
@@ -52,10 +52,10 @@ fn listed(alloc: Global, listing: Value) -> Result<Answer, AllocError>
 }
 
 impl Project {
-    /// Does a command, or tells what one asks, which changes nothing.
+    /// Performs a command, or reports what an info command requests, which changes nothing.
     ///
     /// # Errors
-    /// The first refusal that holds, or want of memory.
+    /// The first refusal that holds, or out of memory.
     pub fn answer(&mut self, alloc: Global, command: &Command) -> Result<Answer, Refusal>
         ensures done { IfOk result (λ a. Performs self.old command.now a.done self.new) }
         ensures told { IfOk result (λ a. told self.old command.now ≡ Ok (map view a.listings.items)) }
@@ -88,10 +88,10 @@ impl Project {
         }
     }
 
-    /// Does a command, or nothing. What one tells that asks is let go.
+    /// Performs a command, or nothing. The listing of an info command is dropped.
     ///
     /// # Errors
-    /// The first refusal that holds, or want of memory.
+    /// The first refusal that holds, or out of memory.
     pub fn perform(&mut self, alloc: Global, command: &Command) -> Result<Done, Refusal>
         ensures done { IfOk result (λ done. Performs self.old command.now done self.new) }
         ensures untouched { IfOk result (λ done. KeepsUntouched self.old command.now self.new) }
@@ -99,7 +99,7 @@ impl Project {
         ensures texts { IfOk result (λ done. AreTexts done.change.splices) }
         ensures refused { IfRefused result (MayRefuse self.old command.now) }
         ensures kept { OnErr result (self.new ≡ self.old) }
-        // Each tree is that of its file, whatever came of the command.
+        // Each tree is that of its file, whatever the command's result.
         ensures project { IsProject self.new }
     {
         let Answer { done, listings: _ } = self.answer(alloc, command)?;

@@ -1,4 +1,4 @@
-//! What is told of a target.
+//! What is reported of a target.
 
 ghost use Rattle.std.specs.Prelude.{IfOk, IsTrue};
 ghost use Rattle.meson_calls.specs.Loading.{AreParsed};
@@ -16,20 +16,20 @@ use meson_variables::Sources;
 use meson_variables::target_sources::sources_at;
 use meson_variables::variables::Variables;
 
-/// A target: where its call stands, and what is told of it.
+/// A target: the place of its call, and what is reported of it.
 #[derive(Drop)]
 pub struct TargetDetails {
     pub place: CallRef,
     pub head: Head,
     pub sources: Sources,
-    /// Where none stands in a list, and no empty list is met, a further one would go into the call.
+    /// If none is in a list, and no empty list is met, a further one would be added to the call.
     pub extra_files: Sources,
 }
 
-/// What is told of the target at a place.
+/// What is reported of the target at a place.
 ///
 /// # Errors
-/// It has `sources:` or `extra_files:` twice, or memory is refused.
+/// It has `sources:` or `extra_files:` twice, or out of memory.
 pub(crate) fn details_at(
     variables: &Variables<'_>,
     place: CallRef,

@@ -1,4 +1,4 @@
-//! What is kept of a project's files for commands on targets, and what stays of it where a command changed some of them.
+//! What is kept of a project's files for commands on targets, and what stays of it after a command changed some of them.
 
 ghost use Rattle.std.specs.Prelude.{◌≡◌, ◌≢◌, ℕ, Some, IsTrue, get_or};
 ghost use Rattle.meson_calls.specs.declared.kept.Kept.TheVariants.{Unknown};
@@ -11,11 +11,11 @@ use meson_splice::{FileSet, Splice};
 use meson_syntax::Parsed;
 use std::alloc::{AllocError, Global};
 
-/// Keeps of each file what sets variables in it, from the second time on that this is asked for: for one command alone it takes
-/// more than it spares. An entry that says nothing tells of the first time. Of a project of one file all notes are taken anyhow.
+/// Keeps of each file what sets variables in it, from the second request on: for one command alone it costs more than it saves. An entry that says nothing
+/// marks the first request. For a project of one file all notes are taken anyway.
 ///
 /// # Errors
-/// Memory was refused.
+/// Out of memory.
 pub(crate) fn keep(
     alloc: Global,
     files: &FileSet,

@@ -1,34 +1,34 @@
-//! Laws of commands and of what they tell. The functions do nothing: what they ensure is the law.
+//! Laws of commands and of what they report. The functions do nothing: what they ensure is the law.
 
 ghost use Rattle.meson_plan.specs.Effects.{CommandsLeave};
 ghost use Rattle.meson_plan.specs.ListingLaws.{CallsAgree, CallsListed, TargetsAgree, TargetsListed};
 
-/// What is there after a command that is performed. Of the one call that it names a command on keyword arguments or options leaves what it says, and nothing
-/// else: a key that is set has the new value alone, one that is deleted has none, values that are added stand behind the old ones, and those that are removed
-/// are gone. The list where sources or extra files go has each new one once behind the old ones, and of those that are removed all are gone and no others. All
-/// sources and extra files of a target, wherever they stand, are after an addition those that it had and each new one once, as far as the command's texts
-/// are UTF-8, and after a removal those that it had without the ones that are named. A target that is added is the only one that its name names; one that is
-/// removed is gone with its statement, and no target has its name.
+/// What is there after a command that is performed. A command on keyword arguments or options names one call. Of that call it leaves what it says, and nothing
+/// else. A key that is set has the new value alone, and one that is deleted has none. Values that are added are after the old ones, and those that are removed
+/// are gone. The list to which sources or extra files are added has each new one once after the old ones. Of those that are removed all are gone and no others.
+/// All sources and extra files of a target count, in whatever list they are. After an addition they are those that it had and each new one once, as far as the
+/// command's texts are UTF-8. After a removal they are those that it had without the ones that are named. A target that is added is the only one with its name.
+/// One that is removed is gone with its statement, and no target has its name.
 pub fn commands_leave()
     ensures { CommandsLeave }
 {}
 
-/// The listing of a target is made where its info command is planned, and refused with the same refusal.
+/// The listing of a target is made exactly if its info command can be planned, and refused with the same refusal.
 pub fn targets_agree()
     ensures { TargetsAgree }
 {}
 
-/// The same of keyword arguments.
+/// The same for keyword arguments.
 pub fn calls_agree()
     ensures { CallsAgree }
 {}
 
-/// The listing of a target is made where its info command is performed, and refused with the same refusal.
+/// The listing of a target is made exactly if its info command can be performed, and refused with the same refusal.
 pub fn targets_listed()
     ensures { TargetsListed }
 {}
 
-/// The same of keyword arguments.
+/// The same for keyword arguments.
 pub fn calls_listed()
     ensures { CallsListed }
 {}

@@ -12,10 +12,10 @@ use meson_listing::{call_object, target_object};
 use serde_json::Value;
 use std::alloc::Global;
 
-/// What is told of a target: its head, its sources and its extra files.
+/// What is reported of a target: its head, its sources and its extra files.
 ///
 /// # Errors
-/// There is no such target or more than one, or it has `sources:` or `extra_files:` twice, or memory is refused.
+/// There is no such target or more than one, or it has `sources:` or `extra_files:` twice, or out of memory.
 pub fn info_target(alloc: Global, project: &Project, id: &str) -> Result<Value, Refusal>
     ensures listed { IfOk result (λ v. target_listing project.now id.now ≡ Ok (view v)) }
     ensures refused { RefusedAs result (target_listing project.now id.now) }
@@ -30,10 +30,10 @@ pub fn info_target(alloc: Global, project: &Project, id: &str) -> Result<Value, 
     Ok(target_object(alloc, files, place.file, head, sources, extra_files)?)
 }
 
-/// What is told of a call of a role: its head, and the values of its keyword arguments that commands change.
+/// What is reported of a call of a role: its head, and the values of its keyword arguments that commands change.
 ///
 /// # Errors
-/// There is no such call or more than one, or one of these arguments is there twice, the first such in the call's order, or memory is refused.
+/// There is no such call or more than one. Or one of these arguments is there twice, the first such in the call's order. Or out of memory.
 pub fn info_kwargs(alloc: Global, project: &Project, role: Role, id: &str) -> Result<Value, Refusal>
     ensures listed { IfOk result (λ v. kwargs_listing project.now role id.now ≡ Ok (view v)) }
     ensures refused { RefusedAs result (kwargs_listing project.now role id.now) }

@@ -1,4 +1,4 @@
-//! What a command orders: steps that are all known at once, or changes of one call, each made after the one before it.
+//! The order of a command: steps that are all known at once, or changes of one call, each made after the one before it.
 
 ghost use Rattle.std.specs.Prelude.{◌≡◌, codes, false};
 ghost use Rattle.meson_lex.specs.declared.kinds.Span as lex;
@@ -20,19 +20,19 @@ use meson_splice::{Many, Text};
 use meson_steps::command::Command;
 use meson_targets::target_adding::NewTarget;
 
-/// What is done in steps that are all known at once.
+/// What is done by steps that are all known at once.
 #[derive(Clone, Copy)]
 pub(crate) enum Plan<'c> {
-    /// Names are put into a target or taken out of it.
+    /// Names are added to a target or removed from it.
     OnTarget(&'c Text, TargetChange, &'c Many<Text>),
-    /// A target is put at the end of its file.
+    /// A target is added at the end of its file.
     AddTarget(NewTarget<'c>),
-    /// A target goes, with its statement.
+    /// A target is removed, with its statement.
     RemoveTarget(&'c str),
 }
 
 impl<'c> Plan<'c> {
-    /// The call that is looked for: its role, and what names it.
+    /// The call that is searched for: its role, and what names it.
     pub(crate) fn sought(self) -> (Role, &'c str)
         ensures { (result.0 ≡ (sought self.entry).0) × (result.1.now ≡ (sought self.entry).1) }
     {
@@ -44,7 +44,7 @@ impl<'c> Plan<'c> {
     }
 }
 
-/// What a command orders.
+/// The order of a command.
 #[derive(Clone, Copy)]
 pub(crate) enum Order<'c> {
     Planned(Plan<'c>),
@@ -80,7 +80,7 @@ fn on_project(words: AskedWords<'_>) -> Order<'_>
     })
 }
 
-/// What a command orders that does not ask: the steps that it means, or the reason why it is refused, are those of the order.
+/// The order of a command that changes something. The command's steps, or the reason why it is refused, are those of the order.
 pub(crate) fn order_of(command: &Command) -> Order<'_>
     requires { asks command.now ≡ false }
     ensures { (p : Project lex.Span) → order_steps p result ≡ planned p command.now }

@@ -1,4 +1,4 @@
-//! What steps that are all known at once are, or why there are none.
+//! The steps of a plan, which are all known at once, or why there are none.
 
 ghost use Rattle.std.specs.Prelude.{IfOk};
 ghost use Rattle.meson_calls.specs.Loading.{AreParsed, IsProject, loaded_from, project};
@@ -22,7 +22,7 @@ use meson_targets::target_adding::target_added;
 use meson_targets::target_removing::target_removed;
 use std::alloc::{AllocError, Global};
 
-/// Keeps of each file what sets variables in it, where the plan follows variables.
+/// Keeps of each file what sets variables in it, if the plan follows variables.
 fn keep_for(
     alloc: Global,
     files: &FileSet,
@@ -43,7 +43,7 @@ fn keep_for(
 /// The steps of a plan.
 ///
 /// # Errors
-/// Why it is refused, or want of memory.
+/// Why it is refused, or out of memory.
 pub(crate) fn planned(
     alloc: Global,
     files: &FileSet,
@@ -74,7 +74,7 @@ pub(crate) fn planned(
 /// The same for a project with the notes by which the call is found.
 ///
 /// # Errors
-/// Why it is refused, or want of memory.
+/// Why it is refused, or out of memory.
 fn steps_of(alloc: Global, noted: &Noted<'_>, plan: Plan<'_>) -> Result<Vec<ListStep>, Refusal>
     requires { IsNotedFor (sought plan).0 (sought plan).1 noted.now }
     ensures plan { IfOk result (λ steps. ArePlanned (loaded_in noted.now) (plan_steps (project_in noted.now) plan.entry) steps.items) }

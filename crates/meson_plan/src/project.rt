@@ -57,7 +57,7 @@ use std::{fmt, mem};
 pub struct Project {
     files: FileSet,
     trees: Vec<Parsed>,
-    /// Of each file what sets variables in it, as far as a command found that out.
+    /// Of each file what sets variables in it, as far as a command has found that.
     kept: Vec<Kept>,
 }
 
@@ -86,7 +86,7 @@ impl fmt::Debug for Project {
 }
 
 impl Project {
-    /// The project of these files, or the files handed back. The files may enter one another by `subdir`; a file that is entered need not be there.
+    /// The project of these files, or the files handed back. The files may enter one another by `subdir`; a file that is entered need not exist.
     pub fn load(alloc: Global, files: FileSet) -> Result<Project, Unloaded>
         ensures loaded { IfOk result (λ p. p.files ≡ files) }
         ensures project { IfOk result (λ p. IsProject p) }
@@ -104,7 +104,7 @@ impl Project {
         }
     }
 
-    /// The project of files of which each has its tree. Takes no memory.
+    /// The project of files, each with its tree. Does not allocate.
     pub fn of(alloc: Global, files: FileSet, trees: Vec<Parsed>) -> Project
         requires { IsProject (record { files = files; parsed = trees.items }) }
         ensures { result ≡ record { files = files; parsed = trees.items } }
@@ -130,7 +130,7 @@ impl Project {
         self.trees.as_slice()
     }
 
-    /// Does nothing. That the files read as the trees is true of every project, and this says so to callers.
+    /// Does nothing. That the files parse as the trees is true of every project; this tells it to callers.
     pub fn reads(&self)
         ensures { IsProject self.now }
     {
@@ -198,7 +198,7 @@ impl Project {
     /// The one call that an id names.
     ///
     /// # Errors
-    /// There is no project, no such call or more than one, or memory is refused.
+    /// There is no project, no such call or more than one, or out of memory.
     pub fn find_one(&self, alloc: Global, role: Role, id: &str) -> Result<CallRef, Refusal>
         ensures found { IfOk result (λ c. place_found (the_call (project self.now) role id.now) ≡ Ok c) }
         ensures refused { RefusedAs result (place_found (the_call (project self.now) role id.now)) }
@@ -209,7 +209,7 @@ impl Project {
         the_call(alloc, role, id, noted.notes)
     }
 
-    /// Whether the place is that of a call of a target. Takes no memory.
+    /// Whether the place is that of a call of a target. Does not allocate.
     pub fn is_target(&self, call: &CallRef) -> bool
         ensures { result ≡ is_target (project self.now) call.now }
     {
@@ -219,7 +219,7 @@ impl Project {
     /// The sources of a target.
     ///
     /// # Errors
-    /// `sources:` is there twice, or memory is refused.
+    /// `sources:` is there twice, or out of memory.
     pub fn sources(&self, alloc: Global, call: &CallRef) -> Result<Sources, Refusal>
         requires { IsTrue (is_target (project self.now) call.now) }
         ensures found { IfOk result (λ s. sources (project self.now) call.now ≡ Some (Ok s)) }
@@ -235,10 +235,10 @@ impl Project {
         sources_at(&variables, call)
     }
 
-    /// The extra files of a target. Where none stands in a list, and no empty list is met, a further one would go into the call.
+    /// The extra files of a target. If none is in a list, and no empty list is met, a further one would be added to the call.
     ///
     /// # Errors
-    /// `extra_files:` is there twice, or memory is refused.
+    /// `extra_files:` is there twice, or out of memory.
     pub fn extra_files(&self, alloc: Global, call: &CallRef) -> Result<Sources, Refusal>
         requires { IsTrue (is_target (project self.now) call.now) }
         ensures found { IfOk result (λ s. extra_files (project self.now) call.now ≡ Some (Ok s)) }
@@ -255,10 +255,10 @@ impl Project {
         extra_files_of(&variables, call, called.source, called.arguments)
     }
 
-    /// What is told of the one target that an id names.
+    /// What is reported of the one target that an id names.
     ///
     /// # Errors
-    /// There is no such target or more than one, or it has `sources:` or `extra_files:` twice, or memory is refused.
+    /// There is no such target or more than one, or it has `sources:` or `extra_files:` twice, or out of memory.
     pub fn target_details(&self, alloc: Global, id: &str) -> Result<TargetDetails, Refusal>
         ensures told { IfOk result (λ told. (target_place (project self.now) id.now ≡ Ok told.place) × AreDetails (project self.now) told.place told) }
         ensures refused { IfRefused result (NoTarget (project self.now) id.now) }
@@ -271,10 +271,10 @@ impl Project {
         details_at(&variables, place)
     }
 
-    /// What is told of a call before its arguments.
+    /// What is reported of a call before its arguments.
     ///
     /// # Errors
-    /// Memory is refused.
+    /// Out of memory.
     pub fn head(&self, alloc: Global, call: &CallRef) -> Result<Head, Refusal>
         requires { IsTrue (is_call (project self.now) call.now) }
         ensures told { IfOk result (λ h. head (project self.now) call.now ≡ Some h) }
@@ -284,7 +284,7 @@ impl Project {
         Ok(head)
     }
 
-    /// The same, whose one error is a growth that is refused.
+    /// The same, whose one error is a failed allocation.
     pub fn head_at(&self, alloc: Global, call: &CallRef) -> Result<Head, AllocError>
         requires { IsTrue (is_call (project self.now) call.now) }
         ensures { IfOk result (λ h. head (project self.now) call.now ≡ Some h) }
@@ -296,7 +296,7 @@ impl Project {
     /// The keyword arguments of a call that commands of that role change, in the call's order, with their values.
     ///
     /// # Errors
-    /// One of them is there twice, the first such in the call's order, or memory is refused.
+    /// One of them is there twice, the first such in the call's order, or out of memory.
     pub fn keywords(
         &self,
         alloc: Global,
@@ -311,20 +311,20 @@ impl Project {
         keywords_of(alloc, role, called.source, called.arguments)
     }
 
-    /// Keeps what commands on targets look at.
+    /// Keeps what commands on targets read.
     ///
     /// # Errors
-    /// Memory was refused.
+    /// Out of memory.
     pub(crate) fn keep(&mut self, alloc: Global) -> Result<(), AllocError>
         ensures { self.new ≡ self.old }
     {
         keep(alloc, &self.files, self.trees.as_slice(), &mut self.kept)
     }
 
-    /// Does a command that does not ask, or nothing.
+    /// Performs a command that changes something, or nothing.
     ///
     /// # Errors
-    /// The first refusal that holds, or want of memory.
+    /// The first refusal that holds, or out of memory.
     pub(crate) fn edit(&mut self, alloc: Global, command: &Command) -> Result<Done, Refusal>
         requires { asks command.now ≡ false }
         ensures done { IfOk result (λ done. Performs self.old command.now done self.new) }
@@ -368,10 +368,10 @@ impl Project {
     }
 }
 
-/// Does a command that does not ask. What is kept is said of the files and trees as they were before it.
+/// Performs a command that changes something. What is kept is about the files and trees as they were before it.
 ///
 /// # Errors
-/// The first refusal that holds, or want of memory.
+/// The first refusal that holds, or out of memory.
 fn performed(
     alloc: Global,
     work: &mut Work,

@@ -15,12 +15,12 @@ abbrev pub edited_files : List Splice → List (List ℕ)
 edited_files [] = []
 edited_files (s ∷ splices) = if is_edited s.file splices then edited_files splices else s.file ∷ edited_files splices
 
--- these are the files that the splices edit, and none twice
+-- these are the files that the splices edit, each once
 pub record AreEdited (splices : List Splice) (files : List (List ℕ)) : Type 0 where
   pub edited : (file : List ℕ) → list_any (λ f. bytes_eq f file) files ≡ is_edited file splices
   pub each_once : AllPairs (λ x y. x ≢ y) files
 
--- what a change is for, where it has a title
+-- what a change is for, if it has a title
 abbrev pub title_part : List ℕ → List ℕ
 title_part [] = []
 title_part (b ∷ title) = codes ", title: " ++ b ∷ title
@@ -38,6 +38,6 @@ abbrev pub change_lines : List ℕ → ℕ → List Change → List ℕ
 change_lines word number [] = []
 change_lines word number (c ∷ changes) = change_line word number c ++ change_lines word (number + 1) changes
 
--- what can be undone, the newest first, and behind it what can be done again, the next first
+-- what can be undone, the newest first, followed by what can be done again, the next first
 abbrev pub history_lines : History → List ℕ
 history_lines h = change_lines (codes "undo") 1 (reverse h.past) ++ change_lines (codes "redo") 1 (reverse h.future)

@@ -1,4 +1,4 @@
--- What a checked undo promises, and what is told of a file that could not be read.
+-- What a checked undo promises, and what is reported of a file that could not be read.
 use Rattle.std.specs.Prelude.{◌≡◌, ◌<◌, ◌-◌, ◌^◌, ◌⊎◌, ℕ, List, Some, Result, Ok}
 use Rattle.meson_command.specs.declared.asked.Asked.{Asked}
 use Rattle.meson_command.specs.declared.fault.UsageFault.{UsageFault}
@@ -17,21 +17,21 @@ use Rattle.meson_rewrite.specs.StoreReads.{MayRead}
 use Rattle.meson_rewrite.specs.declared.request.NamedFile.{NamedFile}
 use Rattle.meson_rewrite.specs.declared.request.Step.TheVariants.{UndoChecked}
 
--- The history and the files that were left stood for a stack, and the files now have the digests of those. Then so many undos are done on
--- the files now, and give those that stood before so many runs, to every byte; or two texts have one digest.
+-- The history and the files that were left meant a stack, and the files now have the digests of those. Then this number of undos is done on the files now. They
+-- give the files as they were before that number of runs, to every byte; or two texts have one digest.
 abbrev pub SameSumsUndo : Type 0
 SameSumsUndo = (count : ℕ) (h : History) (left : List File) (s t : Stack) (now : Loaded) → Stands h left s → IsProject now → sums now.files ≡ sums left
     → undos count s ≡ Some t
     → ((k : History) × (undone_times count h now.files ≡ Ok (k, t.present)) × Stands k t.present t) ⊎ Collision
 
--- The digests of the files that were left are kept. Then a checked undo that is done, whatever the files were then, gives those that stood
--- before so many runs, to every byte; or two texts have one digest.
+-- The digests of the files that were left are kept. Then a checked undo that is done gives the files as they were before that number of runs, to every byte.
+-- The files may have changed in between. Or two texts have one digest.
 abbrev pub CheckedUndosRestore : Type 0
 CheckedUndosRestore = (count : ℕ) (kept : NamedFile) (left : List File) (s : Stack) (old new : Session) (report : Report)
     → Stands old.history left s → kept.bytes ≡ sums left → IsProject old.project → Does (UndoChecked count kept) old report new
     → ((t : Stack) × (undos count s ≡ Some t) × (new.project.files ≡ t.present) × Stands new.history t.present t) ⊎ Collision
 
--- What the store holds, and how often it is read for these words, tells which file could not be read; but for a count that came to its end.
+-- What the store holds, and the number of its reads for these words, determine which file could not be read. A count that has reached its end is excepted.
 abbrev pub OneUnread : Type 0
 OneUnread = (asked : Result Asked UsageFault) (held : Content) (reads reads' : ℕ) (name other : List ℕ) → reads' < 2 ^ 64 - 1
     → MayRead asked (Some held) reads reads' (Some name) → MayRead asked (Some held) reads reads' (Some other) → name ≡ other

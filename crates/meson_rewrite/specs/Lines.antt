@@ -23,7 +23,7 @@ use Rattle.meson_rewrite.specs.declared.said.Said.{Said}
 abbrev pub line : List ℕ → List ℕ
 line text = text ++ 10 ∷ []
 
--- of the file with that name; of want of memory no file
+-- of the file with that name; of no file when out of memory
 abbrev pub file_text : List ℕ → ParseFault → List ℕ
 file_text name parse.OutOfMemory = parse_fault_text parse.OutOfMemory
 file_text name fault = name ++ (codes ": " ++ parse_fault_text fault)
@@ -54,7 +54,7 @@ left_by _ = []
 abbrev pub stop_lines : Stop → List ℕ
 stop_lines stop = line (codes "error: " ++ stop_text stop) ++ left_lines (left_by stop)
 
--- what a run that was done writes as output: how many files differ, and how many splices made them
+-- what a completed run writes as output: how many files differ, and how many splices were made
 abbrev pub done_line : ℕ → ℕ → List ℕ
 done_line files splices = line (codes "files: " ++ (decimal files ++ (codes ", splices: " ++ decimal splices)))
 
@@ -62,16 +62,16 @@ done_line files splices = line (codes "files: " ++ (decimal files ++ (codes ", s
 abbrev pub version_line : List ℕ
 version_line = line (codes "meson_rewrite 1.0.0")
 
--- what a change is for, where it has a title
+-- what a change is for, if it has a title
 abbrev pub title_line : List ℕ → List ℕ
 title_line [] = []
 title_line (b ∷ title) = line (codes "title: " ++ b ∷ title)
 
--- how many of the oldest changes of the log were let go, or that all were
+-- how many of the oldest changes of the log were dropped, or that all were
 abbrev pub forgot_line : List ℕ → List ℕ
 forgot_line which = line (codes "forgot: " ++ which)
 
--- ---- the status: 0 where a run was done, 1 where it is refused or memory ran out, 2 for words that ask for nothing, 3 where the store failed
+-- ---- the status: 0 if a run was done, 1 if it is refused or memory ran out, 2 for words without a request, 3 if the store failed
 
 abbrev pub store_fault_status : StoreFault → ℕ
 store_fault_status store.OutOfMemory = 1

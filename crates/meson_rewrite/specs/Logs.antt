@@ -12,7 +12,7 @@ log_name = codes "meson.rewrite-log"
 abbrev pub empty_log : List ℕ
 empty_log = codes "{\"future\":[],\"past\":[],\"version\":2}\n"
 
--- What the store holds as the log is this text, of this history; where it holds none, that is the log of no changes.
+-- What the store holds as the log is this text, of this history; if it holds none, that is the log of no changes.
 abbrev pub IsLog : Option (List ℕ) → List ℕ → History → Type 0
 IsLog None text history = (text ≡ empty_log) × (history ≡ record { past = []; future = [] })
 IsLog (Some bytes) text history = (text ≡ bytes) × (logged bytes ≡ Some history)
@@ -22,6 +22,6 @@ abbrev pub IsBadLog : Option (List ℕ) → Type 0
 IsBadLog None = ⊥
 IsBadLog (Some bytes) = logged bytes ≡ None
 
--- the files of a project, and the log behind them
+-- the files of a project, with the log after them
 abbrev pub with_log : List File → List ℕ → List File
 with_log files text = files ++ file_of log_name text ∷ []

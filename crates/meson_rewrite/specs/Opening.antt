@@ -22,12 +22,12 @@ module _ (before : Option Content) (dir : Option (List ℕ)) where
     pub is_log : Told before (λ content. IsLog (held_bytes content dir log_name) log session.history)
     pub text : is_text_history session.history ≡ true
 
-  -- why there is none, want of memory aside: the log is not read, or is none
+  -- why there is no log, except out of memory: the log is not read, or is not valid
   pub data IsNoLog (failed failed' : ℕ) : Stop → Type 0 where
     log_unread : Rose failed failed' → IsNoLog failed failed' (Store (ReadFailed log_name))
     bad_log : Told before (λ content. IsBadLog (held_bytes content dir log_name)) → IsNoLog failed failed' (Script BadLog)
 
-  -- the files are no project, or they are and have no log
+  -- the files are not a project, or they are and have no log
   pub data OpensNone (failed failed' : ℕ) : Stop → Type 0 where
     no_project : (fault : GatherFault) → StopsAt failed failed' (Finds before dir) fault → OpensNone failed failed' (gathering_stop fault)
     no_log : (files : List File) (why : Stop) → Finds before dir (whole files) → IsNoLog failed failed' why → OpensNone failed failed' why

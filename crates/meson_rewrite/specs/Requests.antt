@@ -1,4 +1,4 @@
--- What the words ask for, and the file that they name.
+-- The request of the words, and the file that they name.
 use Rattle.std.specs.Prelude.{◌≡◌, ◌⊎◌, Bool, true, false, ℕ, List, [], ◌∷◌, Option, Some, None, Result, Ok, Err, if◌then◌else◌}
 use Rattle.std.specs.FinMap.{get}
 use Rattle.std.specs.Str.{is_utf8}
@@ -22,7 +22,7 @@ use Rattle.meson_rewrite.specs.declared.request.Step.TheVariants.{Run, Tell, Und
 use Rattle.meson_rewrite.specs.declared.stop.Stop.{Stop}
 use Rattle.meson_rewrite.specs.declared.stop.Stop.TheVariants as stop
 
--- ---- a file that the words name, in a store that told this content
+-- ---- a file that the words name, in a store that reported this content
 
 abbrev pub HasBytes : Option Content → List ℕ → List ℕ → Type 0
 HasBytes held name bytes = Told held (λ content. get content name ≡ Some bytes)
@@ -31,7 +31,7 @@ HasBytes held name bytes = Told held (λ content. get content name ≡ Some byte
 abbrev pub IsFileOf : Option Content → List ℕ → NamedFile → Type 0
 IsFileOf held name file = (file.name ≡ name) × HasBytes held name file.bytes
 
--- it is not read, or there is none
+-- it is not read, or does not exist
 pub data IsNoFile (held : Option Content) (failed failed' : ℕ) (name : List ℕ) : Stop → Type 0 where
   unread : Rose failed failed' → IsNoFile held failed failed' name (stop.Store (store.ReadFailed name))
   absent : Told held (λ content. get content name ≡ None) → IsNoFile held failed failed' name (stop.Store (store.NoFile name))
@@ -41,11 +41,11 @@ pub data IsNoFile (held : Option Content) (failed failed' : ℕ) (name : List �
 abbrev pub script : List Command → Script
 script commands = record { commands = commands }
 
--- the commands of a script file; one that is no text is not JSON
+-- the commands of a script file; one that is not UTF-8 is not JSON
 abbrev pub script_in : List ℕ → Result (List Command) ScriptFault
 script_in bytes = if is_utf8 bytes then script_of (read bytes) else Err NotJson
 
--- it is the fault of what is no script
+-- it is the fault of what is not a valid script
 abbrev pub IsBad : Result (List Command) ScriptFault → Stop → Type 0
 IsBad script why = (fault : ScriptFault) × (script ≡ Err fault) × (why ≡ stop.Script fault)
 
@@ -53,20 +53,20 @@ IsBad script why = (fault : ScriptFault) × (script ≡ Err fault) × (why ≡ s
 abbrev pub IsScriptOf : Option Content → List ℕ → List Command → Type 0
 IsScriptOf held name commands = (bytes : List ℕ) × HasBytes held name bytes × (script_in bytes ≡ Ok commands)
 
--- the file of that name is not read, is not there, or is no script
+-- the file of that name is not read, is not there, or is not a valid script
 abbrev pub IsNoScript : Option Content → ℕ → ℕ → List ℕ → Stop → Type 0
 IsNoScript held failed failed' name why =
     IsNoFile held failed failed' name why ⊎ ((bytes : List ℕ) × HasBytes held name bytes × IsBad (script_in bytes) why)
 
 -- ---- what needs no step
 
--- help or the version: nothing is asked of the store
+-- help or the version: the store is not used
 abbrev pub only_shows : Action → Bool
 only_shows (action.Help text) = true
 only_shows action.Version = true
 only_shows _ = false
 
--- nothing is asked for but help, the version, a listing, or what an info command tells
+-- the request is only help, the version, a listing, or what an info command reports
 abbrev pub only_asks : Action → Bool
 only_asks (action.Info c) = true
 only_asks action.History = true
@@ -74,7 +74,7 @@ only_asks (action.List json) = true
 only_asks action.Sums = true
 only_asks a = only_shows a
 
--- ---- the step that an action asks for, a run with this title, and that it is one
+-- ---- the step that an action requests, a run with this title, and that it is one
 
 abbrev pub AsksFor : List ℕ → Action → Option Content → ProgramRequest → Type 0
 AsksFor title (action.Run s) held r = r ≡ request.Step (Run s title)
@@ -94,7 +94,7 @@ AsksFor title action.Sums held r = r ≡ request.List listing.Sums
 AsksFor title (action.Help text) held r = r ≡ request.Show text
 AsksFor title action.Version held r = r ≡ request.Show version_line
 
--- ---- why there is none, want of memory aside
+-- ---- why there is no request, except out of memory
 
 abbrev pub AsksForNone : Action → Option Content → ℕ → ℕ → Stop → Type 0
 AsksForNone (action.ScriptText text) held failed failed' why = IsBad (script_of (read text)) why

@@ -33,20 +33,20 @@ use Rattle.meson_rewrite.specs.declared.stop.Stop.TheVariants.{Usage, Store}
 
 -- ---- a step on the project of a folder
 
--- the session that the store has becomes another one, whose log is the last of the files
+-- the session of the store becomes another one, whose log is the last of the files
 pub record Edits (before : Option Content) (dir : Option (List ℕ)) (step : Step) : Type 0 where
   pub old : Session
   pub log : List ℕ
   pub opens : Opens before dir old log
   pub new : Session
-  -- its files read as its trees
+  -- its files parse as its trees
   pub is_project : IsProject new.project
   pub report : Report
   pub does : Does step old report new
   pub new_log : List ℕ
   pub is_log : log_of new.history ≡ Ok new_log
 
--- the files that get other bytes, each with them, and the log behind them
+-- the files that get other bytes, each with them, with the log after them
 abbrev pub written : {before : Option Content} {dir : Option (List ℕ)} {step : Step} → Edits before dir step → List Put
 written {dir = dir} e = puts dir (with_log e.old.project.files e.log) (with_log e.new.project.files e.new_log)
 
@@ -58,7 +58,7 @@ module _ (dir : Option (List ℕ)) (step : Step) (dry_run : Bool) (before after 
     -- the step is refused on it
     refused : (old : Session) (log : List ℕ) (stop : Stop) → Untouched before after → Opens before.content dir old log → MayRefuseStep step old stop
         → StepEnds (Err stop)
-    -- its listings are told, and nothing is written
+    -- its listings are reported, and nothing is written
     told : (old new : Session) (log : List ℕ) (report : Report) → Untouched before after → Opens before.content dir old log → Does step old report new
         → only_tells step ≡ true
         → StepEnds (Ok (said_of step report))
@@ -69,7 +69,7 @@ module _ (dir : Option (List ℕ)) (step : Step) (dry_run : Bool) (before after 
     -- each file that differs was replaced, then the log, and no other
     done : (edits : Edits before.content dir step) → only_tells step ≡ false → dry_run ≡ false → AreReplaced (written edits) before after
         → StepEnds (Ok (said_of step edits.report))
-    -- one could not be replaced, what was replaced got its old bytes again, and the fault tells of it
+    -- one could not be replaced, what was replaced got its old bytes again, and the fault reports it
     unwritten : (edits : Edits before.content dir step) (fault : StoreFault) → only_tells step ≡ false → dry_run ≡ false
         → TakenBack (written edits) before after fault
         → StepEnds (Err (Store fault))
@@ -85,7 +85,7 @@ pub data ListingEnds (dir : Option (List ℕ)) (listing : Listing) (before after
       → ListingEnds dir listing before after (Ok (record { out = listed_text listing session; err = [] }))
   wants_memory : (stop : Stop) → Untouched before after → WantsMemory stop → ListingEnds dir listing before after (Err stop)
 
--- ---- a whole run, by what the words ask for
+-- ---- a whole run, by the request of the words
 
 pub data Ends (asked : Result Asked UsageFault) (before after : Seen) : Result Said Stop → Type 0 where
   misused : (fault : UsageFault) → Untouched before after → asked ≡ Err fault → Ends asked before after (Err (Usage fault))
@@ -93,7 +93,7 @@ pub data Ends (asked : Result Asked UsageFault) (before after : Seen) : Result S
       → Ends asked before after (Ok (record { out = text; err = [] }))
   told_version : (a : Asked) → Untouched before after → asked ≡ Ok (without_text a) → a.action ≡ Version
       → Ends asked before after (Ok (record { out = version_line; err = [] }))
-  -- the words ask for a script that is none
+  -- the words request a script that is not valid
   asks_for_none : (a : Asked) (stop : Stop) → Untouched before after → asked ≡ Ok (without_text a)
       → AsksForNone a.action before.content before.failures after.failures stop → Ends asked before after (Err stop)
   steps : (a : Asked) (step : Step) (end : Result Said Stop) → asked ≡ Ok (without_text a) → AsksFor a.title a.action before.content (request.Step step)
@@ -103,7 +103,7 @@ pub data Ends (asked : Result Asked UsageFault) (before after : Seen) : Result S
       → ListingEnds a.dir listing before after end → Ends asked before after end
   memory_ran_out : (stop : Stop) → Untouched before after → WantsMemory stop → Ends asked before after (Err stop)
 
--- ---- what stays where nothing is done
+-- ---- what stays if nothing is done
 
 abbrev pub IsUnchanged : Seen → Seen → Type 0
 IsUnchanged before after = (after.content ≡ before.content) × (after.replaces ≡ before.replaces)
@@ -126,42 +126,42 @@ abbrev pub dir_of : Result Asked UsageFault → Option (List ℕ)
 dir_of (Err fault) = None
 dir_of (Ok a) = a.dir
 
--- at that path stands what stood there, or the log of no changes, where no log stood
+-- at that path is what was there, or the log of no changes, if there was no log
 abbrev pub IsKept : Option (List ℕ) → Content → Content → List ℕ → Type 0
 IsKept dir old new path = (get new path ≡ get old path) ⊎ ((path ≡ path_in dir log_name) × (get old path ≡ None) × (get new path ≡ Some empty_log))
 
--- Each file is as it was, but for those of which a run tells that was stopped.
+-- Each file is as it was, but for those that are reported by a run that was stopped.
 abbrev pub KeepsUntold : Option (List ℕ) → Option Content → Option Content → Stop → Type 0
 KeepsUntold dir before after stop = (old new : Content) → before ≡ Some old → after ≡ Some new → (path : List ℕ) →
     ((name : List ℕ) → Contains (left_by stop) name → path ≡ path_in dir name → ⊥) → IsKept dir old new path
 
--- nothing is asked of the store
+-- the store is not used
 abbrev pub NeedsNoStore : Result Asked UsageFault → Type 0
 NeedsNoStore (Err fault) = ⊤
 NeedsNoStore (Ok a) = IsTrue (only_shows a.action)
 
--- nothing is asked for but help, the version, a listing, what an info command tells, or what would change
+-- the request is only help, the version, a listing, what an info command reports, or what would change
 abbrev pub OnlyAsks : Result Asked UsageFault → Type 0
 OnlyAsks (Err fault) = ⊤
 OnlyAsks (Ok a) = IsTrue (only_asks a.action || a.dry_run)
 
 -- ---- what is written
 
--- what a run says goes to the writer of errors and to that of output; the lines that tell why it was stopped, to that of errors alone
+-- What a run says is written to the writer of errors and to that of output. The lines that say why it was stopped are written to that of errors alone.
 abbrev pub Says : Result Said Stop → Heard → Heard → Heard → Heard → Type 0
 Says (Ok said) out out' err err' = Gets out out' said.out × Gets err err' said.err
 Says (Err stop) out out' err err' = Gets err err' (stop_lines stop) × (out' ≡ out)
 
--- a writer failed that was to get something
+-- a writer failed to which something was to be written
 abbrev pub CannotGet : Heard → Heard → List ℕ → Type 0
 CannotGet old new bytes = (bytes ≢ []) × Fails old new
 
--- one of these writers failed, which was to get something
+-- one of these writers failed, to which something was to be written
 abbrev pub CannotSay : Result Said Stop → Heard → Heard → Heard → Heard → Type 0
 CannotSay (Ok said) out out' err err' = (CannotGet err err' said.err × (out' ≡ out)) ⊎ (Gets err err' said.err × CannotGet out out' said.out)
 CannotSay (Err stop) out out' err err' = Fails err err' × (out' ≡ out)
 
--- the status and the lines of the ending, or status 3 where a writer failed
+-- the status and the lines of the ending, or status 3 if a writer failed
 abbrev pub Tells : ℕ → Heard → Heard → Heard → Heard → Result Said Stop → Type 0
 Tells code out out' err err' end = ((code ≡ status end) × Says end out out' err err') ⊎ ((code ≡ 3) × CannotSay end out out' err err')
 
@@ -169,7 +169,7 @@ pub record Run (asked : Result Asked UsageFault) (before after : Seen) (reads re
   pub end : Result Said Stop
   pub ends : Ends asked before after end
   pub tells : Tells code out out' err err' end
-  -- where it was stopped
+  -- if it was stopped
   pub kept : IfErr end (KeepsUntold (dir_of asked) before.content after.content)
-  -- so often the store was read, the last time for the file of which it tells that it could not be read, if there is one
+  -- this is how often the store was read, the last time for the file that is reported as unreadable, if there is one
   pub may_read : MayRead asked before.content reads reads' (unread_in end)

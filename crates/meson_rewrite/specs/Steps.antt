@@ -30,7 +30,7 @@ use Rattle.meson_rewrite.specs.declared.stop.Stop.TheVariants.{Refused, Splice, 
 
 -- ---- what is done
 
--- the log loses changes: no file is another one, and nothing is listed
+-- the log loses changes: no file is changed, and nothing is listed
 pub record Stays (old : Session) (report : Report) (new : Session) : Type 0 where
   pub project : new.project ≡ old.project
   pub info : view report.info ≡ array no_items
@@ -58,11 +58,11 @@ StopsRun old commands _ = ⊥
 abbrev pub StopsStep : Session → Result (History × List File) SpliceFault → Stop → Type 0
 StopsStep old step why = (fault : UndoFault) × MayNotStep step fault × (why ≡ undo_stop old.project.files fault)
 
--- one of so many changes is not taken back
+-- one of this number of changes is not taken back
 abbrev pub StopsStepsBack : ℕ → Session → Stop → Type 0
 StopsStepsBack count old why = (fault : UndoFault) × (between : Session) × StopsBack count old fault between × (why ≡ undo_stop old.project.files fault)
 
--- the files have other digests; or they have these, and one of so many changes is not taken back
+-- the files have other digests; or they have these, and one of this number of changes is not taken back
 abbrev pub StopsChecked : ℕ → NamedFile → Session → Stop → Type 0
 StopsChecked count kept old why = ((HasSums old kept → ⊥) × (why ≡ OtherFiles kept.name)) ⊎ (HasSums old kept × StopsStepsBack count old why)
 
@@ -81,7 +81,7 @@ abbrev pub IsTitled : Step → Type 0
 IsTitled (Run script title) = is_title title ≡ true
 IsTitled _ = ⊤
 
--- it tells what its commands list, and changes nothing
+-- it prints what its commands list, and changes nothing
 abbrev pub only_tells : Step → Bool
 only_tells (Tell script) = true
 only_tells _ = false
@@ -93,15 +93,15 @@ abbrev pub is_empty_array : Option Items → Bool
 is_empty_array (Some no_items) = true
 is_empty_array _ = false
 
--- the listings of info commands as compact JSON, where there are any
+-- the listings of info commands as compact JSON, if there are any
 abbrev pub listing_line : Data → List ℕ
 listing_line listings = if is_empty_array (as_array listings) then [] else (compact_text listings ++ 10 ∷ [])
 
--- of changes that were taken back or done again: what was done, and what the last of them is for
+-- of changes that were taken back or done again: what was done, and the title of the last of them
 abbrev pub step_lines : Report → List ℕ
 step_lines report = done_line report.files report.splices ++ title_line report.title
 
--- what the step makes of the files as a unified diff, in place of how much it changes
+-- what the step makes of the files as a unified diff, instead of the number of changes
 pub record Shows (old : Session) (report : Report) (new : Session) (said : Said) : Type 0 where
   pub is_diff : IsDiff old.project.files new.project.files said.out
   pub is_listing : said.err ≡ listing_line (view report.info)

@@ -22,7 +22,7 @@ gathering_stop (gather.Parse name fault) = Parse name fault
 gathering_stop gather.TooManyFiles = TooManyFiles
 gathering_stop (gather.Store fault) = Store fault
 
--- the file of which it tells that it could not be read, if there is one
+-- the file that it reports as unreadable, if there is one
 abbrev pub unread_by : Stop → Option (List ℕ)
 unread_by (Store fault) = unread_name fault
 unread_by _ = None
@@ -35,7 +35,7 @@ undo_stop files (undo.Load (load.BadFileName place)) = BadFileName place
 undo_stop files (undo.Load (load.Parse place fault)) = Parse (name_of_file place files) fault
 undo_stop files (undo.Load load.OutOfMemory) = Store store.OutOfMemory
 
--- memory was refused, whichever step asked for it
+-- an allocation failed, whichever step made it
 abbrev pub WantsMemory : Stop → Type 0
 WantsMemory (Usage fault) = fault ≡ usage.OutOfMemory
 WantsMemory (Script fault) = fault ≡ script.OutOfMemory

@@ -1,5 +1,5 @@
--- How often a run reads the store: once for the file that the words name, where they name one, once for each file of the project that is
--- asked for, and once for the log. The file of which it tells that it could not be read is the last that the store was asked for.
+-- The number of reads of the store by a run: one for the file that the words name, if they name one, one for each queried file of the project, and one for the
+-- log. If it reports a file as unreadable, it is the last file that the store was queried for.
 use Rattle.std.specs.Prelude.{◌≡◌, ◌⊎◌, ℕ, List, Option, None, Result, Ok, Err}
 use Rattle.meson_command.specs.declared.asked.Action.{Action}
 use Rattle.meson_command.specs.declared.asked.Action.TheVariants as action
@@ -19,7 +19,7 @@ use Rattle.meson_rewrite.specs.declared.request.Step.{Step}
 use Rattle.meson_rewrite.specs.declared.said.Said.{Said}
 use Rattle.meson_rewrite.specs.declared.stop.Stop.{Stop}
 
--- the file of which a run tells that it could not be read, if there is one
+-- the file that a run reports as unreadable, if there is one
 abbrev pub unread_in : Result Said Stop → Option (List ℕ)
 unread_in (Ok said) = None
 unread_in (Err stop) = unread_by stop
@@ -30,13 +30,13 @@ file_read (action.ScriptFile name) reads = one_more reads
 file_read (action.UndoChecked count name) reads = one_more reads
 file_read _ reads = reads
 
--- it alone is asked for
+-- it alone is queried
 abbrev pub AsksNamed : Action → ℕ → ℕ → Option (List ℕ) → Type 0
 AsksNamed (action.ScriptFile name) reads reads' unread = Asks name reads reads' unread
 AsksNamed (action.UndoChecked count name) reads reads' unread = Asks name reads reads' unread
 AsksNamed _ reads reads' unread = ⊥
 
--- ---- the project of a folder, in a store that told this before
+-- ---- the project of a folder, in a store that reported this before
 
 module _ (before : Option Content) (dir : Option (List ℕ)) where
   -- these files, and then the log
@@ -52,14 +52,14 @@ module _ (before : Option Content) (dir : Option (List ℕ)) where
   ReadsAtMost reads reads' unread = StopsReading before dir reads reads' unread
       ⊎ ((files : List File) × (n : ℕ) × ReadsFiles before dir reads files n × MayAsk log_name n reads' unread)
 
--- ---- a whole run, by what the words ask for
+-- ---- a whole run, by the request of the words
 
--- a step on the project, or a listing of it, and no script that is none
+-- a step on the project, or a listing of it, and no script that is not valid
 abbrev pub AsksForProject : List ℕ → Action → Option Content → Type 0
 AsksForProject title a before =
     ((step : Step) × AsksFor title a before (request.Step step)) ⊎ ((listing : Listing) × AsksFor title a before (request.List listing))
 
--- nothing; the file that the words name; or, where they ask for something of the project, that and then its files and the log, or a part of them
+-- nothing; the file that the words name; or, if they request something of the project, that file and then its files and the log, or a part of them
 abbrev pub MayRead : Result Asked UsageFault → Option Content → ℕ → ℕ → Option (List ℕ) → Type 0
 MayRead (Err fault) before reads reads' unread = AsksNone reads reads' unread
 MayRead (Ok a) before reads reads' unread = AsksNone reads reads' unread ⊎ AsksNamed a.action reads reads' unread

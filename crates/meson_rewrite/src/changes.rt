@@ -7,7 +7,7 @@ use meson_splice::{Change, History, Splice};
 use std::alloc::{AllocError, Global};
 use std::collections::HashSet;
 
-/// How many files the splices edit.
+/// The number of files that the splices edit.
 fn count_files(alloc: Global, splices: &[Splice]) -> Result<usize, AllocError>
     ensures count { IfOk result (λ files. files ≡ length (edited_files splices.now)) }
     ensures edited { AreEdited splices.now (edited_files splices.now) }
@@ -23,7 +23,7 @@ fn count_files(alloc: Global, splices: &[Splice]) -> Result<usize, AllocError>
     Ok(files)
 }
 
-/// What a line says of a change that has a title; else nothing.
+/// The text of a line for the title of a change, if it has one; else nothing.
 fn title_part(alloc: Global, title: &str) -> Result<Vec<u8>, AllocError>
     ensures { IfOk result (λ text. text.items ≡ title_part title.now) }
 {

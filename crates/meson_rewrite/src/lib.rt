@@ -12,5 +12,8 @@ mod said;
 mod steps;
 mod stop;
 
-pub use meson_store::{Counted, Folder, Memory, Output, Store, StoreError, StoreFault, commit};
+pub use meson_command::{Action, Asked, UsageFault, command_of};
+pub use meson_store::{
+    Counted, Folder, Memory, Output, Store, StoreError, StoreFault, Writer, commit,
+};
 pub use program::rewrite;

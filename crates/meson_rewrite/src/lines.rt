@@ -60,7 +60,7 @@ pub(crate) fn version_text(alloc: Global) -> Result<Text, AllocError>
     Ok(Text::of(String::from_str(alloc, VERSION)?))
 }
 
-/// The line that says how many of the oldest changes were let go.
+/// The line that says how many of the oldest changes were dropped.
 pub(crate) fn forgotten_text(alloc: Global, count: usize) -> Result<Vec<u8>, AllocError>
     ensures { IfOk result (λ text. text.items ≡ forgot_line (decimal count)) }
 {
@@ -68,14 +68,14 @@ pub(crate) fn forgotten_text(alloc: Global, count: usize) -> Result<Vec<u8>, All
     Ok(line.into_bytes())
 }
 
-/// The line that says that all changes were let go.
+/// The line that says that all changes were dropped.
 pub(crate) fn all_forgotten_text(alloc: Global) -> Result<Vec<u8>, AllocError>
     ensures { IfOk result (λ text. text.items ≡ forgot_line (codes "all")) }
 {
     Ok(String::from_str(alloc, "forgot: all\n")?.into_bytes())
 }
 
-/// The line that says what a change is for; nothing where it has no title.
+/// The line that says what a change is for; nothing if it has no title.
 fn title_text(alloc: Global, title: &str) -> Result<Vec<u8>, AllocError>
     ensures { IfOk result (λ text. text.items ≡ title_line title.now) }
 {

@@ -28,7 +28,7 @@ fn holdings_text(alloc: Global, project: &Project, json: bool) -> Result<Vec<u8>
     Ok(lines.into_bytes())
 }
 
-/// What a listing of a session has.
+/// The content of a listing of a session.
 fn listing_of(alloc: Global, session: &Session, listing: Listing) -> Result<Vec<u8>, AllocError>
     ensures { IfOk result (λ text. text.items ≡ listed_text listing session.now) }
 {
@@ -39,7 +39,7 @@ fn listing_of(alloc: Global, session: &Session, listing: Listing) -> Result<Vec<
     }
 }
 
-/// What is to be told where this is listed of a session.
+/// What is printed when this is listed of a session.
 pub(crate) fn listed(alloc: Global, opened: StoredSession, listing: Listing) -> Result<Said, Stop>
     ensures told { IfOk result (λ said. said ≡ record { out = listed_text listing opened.session; err = [] }) }
     ensures none { IfErr result WantsMemory }

@@ -24,7 +24,7 @@ use std::mem;
 /// The undo log of a project, beside its root file.
 pub(crate) const LOG: &str = "meson.rewrite-log";
 
-/// A log, and the history that it is of.
+/// A log, and its history.
 #[derive(Drop)]
 struct Log {
     text: Vec<u8>,
@@ -43,7 +43,7 @@ fn log_in(alloc: Global, text: Vec<u8>) -> Result<Log, Stop>
     }
 }
 
-/// The log of the project in this folder; that of no changes where there is none.
+/// The log of the project in this folder; the log of no changes if the project has no log.
 fn read_history<S: Store>(alloc: Global, store: &mut S, dir: Option<&str>) -> Result<Log, Stop>
     ensures read { IfOk result (λ log. Told (S.content store.old)
         (λ content. IsLog (held_bytes content (named_folder dir.entry) log_name) log.text.items log.history)) }
@@ -86,7 +86,7 @@ pub(crate) struct StoredSession {
     pub log: Vec<u8>,
 }
 
-/// Lets nothing of it go: what comes is the end of the program, which lets all memory go at once.
+/// Drops nothing of it: the program ends next, which frees all memory at once.
 pub(crate) fn leave<T: Drop>(it: T) {
     mem::forget(it);
 }

@@ -31,8 +31,7 @@ fn only_tells(step: &Step) -> bool
     matches!(step, Step::Tell(_))
 }
 
-/// Does a step on the project of a folder, or shows in a dry run what it would change. What is said of it is made before
-/// anything is written.
+/// Does a step on the project of a folder, or in a dry run shows what it would change. The texts for it are made before anything is written.
 fn do_step<S: Store>(
     alloc: Global,
     store: &mut S,
@@ -88,7 +87,7 @@ fn folder(dir: &Option<Text>) -> Option<&str>
     }
 }
 
-/// Does what is asked for.
+/// Answers the request.
 fn answer<S: Store>(alloc: Global, store: &mut S, asked: Asked) -> Result<Said, Stop>
     requires { is_title asked.title ≡ true }
     ensures ends { Ends (Ok (without_text asked)) (seen_by S.content S.failures S.replaces store.old)
@@ -111,7 +110,7 @@ fn answer<S: Store>(alloc: Global, store: &mut S, asked: Asked) -> Result<Said, 
     }
 }
 
-/// Does what the words ask for.
+/// Answers the request of the words.
 fn run<S: Store>(alloc: Global, store: &mut S, words: &[String]) -> Result<Said, Stop>
     ensures ends { Ends (asked_by (map string_bytes words.now)) (seen_by S.content S.failures S.replaces store.old)
         (seen_by S.content S.failures S.replaces store.new) result }
@@ -171,7 +170,7 @@ fn status(end: &Result<Said, Stop>) -> u8
     }
 }
 
-/// Writes the lines of the ending. Gives its status, or 3 where a writer failed.
+/// Writes the lines of the ending. Returns its status, or 3 if a writer failed.
 fn ended<O: Output, E: Output>(
     alloc: Global,
     out: &mut O,
@@ -186,20 +185,16 @@ fn ended<O: Output, E: Output>(
     }
 }
 
-/// Runs the program on these words, of which the first is its name: reads the build files of a project in the store, does
-/// what the words ask for, replaces the files that changed and then the undo log, and tells what it did on `out`, and
-/// listings and faults on `err`. Answers the exit status.
+/// Runs the program on these words, of which the first is its name. It reads the build files of a project in the store and does what the words request. It
+/// replaces the files that changed and then the undo log. It writes what it did to `out`, and listings and faults to `err`. Returns the exit status.
 ///
-/// Where it is done, the store is read once for the file that the words name, if they name one (a script, or digests), once
-/// for the root file, once for each name that a `subdir` call enters and that no file has which was read before, and once for
-/// the log; help and the version read nothing.
-/// Where it ends early, the store is read as far as that, and no more; the file of which it tells that it can't be read is the
-/// last that the store was asked for.
+/// If it is done, the store is read once for the file that the words name, if they name one (a script, or digests). It is read once for the root file and once
+/// for the log. It is read once for each name that a `subdir` call enters and for which no file was read before. Help and the version read nothing. If it ends
+/// early, the store is read up to that point, and no more. The file that it reports as unreadable is the last that the store was queried for.
 ///
-/// The status is 0 where it was done, 1 where a file, a script or the log is none, a command is refused, files are not as
-/// digests have them or memory ran out, 2 where the words ask for nothing, and 3 where the store or a writer failed. Help, the
-/// version, the listings, a dry run, and what an info command of the command line tells, leave the store as it is, whatever the
-/// status.
+/// The status is 0 if it was done. It is 1 if a file, a script or the log is not valid, a command is refused, or memory ran out. It is also 1 if files do not
+/// have the digests that they should have. It is 2 if the words are not a request, and 3 if the store or a writer failed. Help, the version, the listings, a
+/// dry run, and an info command of the command line leave the store as it is, whatever the status.
 pub fn rewrite<S: Store, O: Output, E: Output>(
     alloc: Global,
     store: &mut S,

@@ -1,4 +1,4 @@
-//! What is asked of a project, by the words and the script file that they name.
+//! Requests to a project, by the words and the script file that they name.
 
 ghost use Rattle.std.specs.Prelude.{◌≡◌, ◌≤◌, ◌⊎◌, ◌∷◌, [], IfOk, IfErr, IsTrue, None, Ok, false, true, OnOk};
 ghost use Rattle.serde_json.specs.Read.{read};
@@ -23,7 +23,7 @@ use meson_store::{Store, StoreFault};
 use std::alloc::Global;
 use std::str::from_utf8;
 
-/// What is asked for.
+/// A request.
 #[derive(Drop)]
 pub(crate) enum ProgramRequest {
     /// To show this text.
@@ -55,21 +55,21 @@ pub(crate) struct NamedFile {
 /// A step on a session.
 #[derive(Drop)]
 pub(crate) enum Step {
-    /// Do the commands, and keep what they did as a change of this title.
+    /// Run the commands, and keep what they did as a change of this title.
     Run { script: Script, title: Text },
-    /// Tell what the commands list, and write nothing.
+    /// Print what the commands list, and write nothing.
     Tell(Script),
     /// Take back the newest change.
     Undo,
-    /// Take back the newest changes, so many.
+    /// Take back this number of the newest changes.
     UndoTo(usize),
-    /// The same, where the files of the project have the digests that this file holds.
+    /// The same, if the files of the project have the digests that this file holds.
     UndoChecked { count: usize, kept: NamedFile },
-    /// Do the change again that was taken back last.
+    /// Do again the change that was taken back last.
     Redo,
-    /// Let the oldest changes that can be taken back go, so many.
+    /// Drop this number of the oldest changes that can be taken back.
     ForgetOldest(usize),
-    /// Let all changes go, those that can be done again too.
+    /// Drop all changes, also those that can be done again.
     ForgetAll,
 }
 
@@ -140,7 +140,7 @@ fn script_of_one(alloc: Global, command: Command) -> Result<Script, Stop>
     }
 }
 
-/// What an info command of the command line asks for.
+/// The request of an info command of the command line.
 fn told_of(alloc: Global, command: Command) -> Result<ProgramRequest, Stop>
     ensures asks { IfOk result (λ r. r ≡ ProgramRequest.Step (Step.Tell (script (command ∷ [])))) }
     ensures none { IfErr result WantsMemory }
@@ -149,7 +149,7 @@ fn told_of(alloc: Global, command: Command) -> Result<ProgramRequest, Stop>
     Ok(ProgramRequest::Step(Step::Tell(script)))
 }
 
-/// What is asked for where the version is.
+/// The request for the version.
 fn version_asked(alloc: Global) -> Result<ProgramRequest, Stop>
     ensures asks { IfOk result (λ r. r ≡ ProgramRequest.Show version_line) }
     ensures none { IfErr result WantsMemory }
@@ -157,7 +157,7 @@ fn version_asked(alloc: Global) -> Result<ProgramRequest, Stop>
     Ok(ProgramRequest::Show(version_text(alloc)?))
 }
 
-/// What an action asks for that names no file; a run keeps its change under the title.
+/// The request of an action that names no file; a run keeps its change under the title.
 fn asked_for(alloc: Global, action: Action, title: Text) -> Result<ProgramRequest, Stop>
     requires title { is_title title ≡ true }
     requires no_file { names_file action ≡ false }
@@ -187,7 +187,7 @@ fn asked_for(alloc: Global, action: Action, title: Text) -> Result<ProgramReques
     }
 }
 
-/// What an action asks for; a run keeps its change under the title.
+/// The request of an action; a run keeps its change under the title.
 pub(crate) fn request_of<S: Store>(
     alloc: Global,
     store: &mut S,

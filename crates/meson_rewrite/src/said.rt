@@ -1,4 +1,4 @@
-//! What a run says that was done.
+//! What a completed run says.
 
 ghost use Rattle.std.specs.Prelude.{◌≡◌, [], IfOk, MatchResult, Ok, false};
 ghost use Rattle.serde_json.specs.Find.{as_array};
@@ -18,7 +18,7 @@ use serde_json::Value;
 use std::alloc::{AllocError, Global};
 use std::io;
 
-/// What a run that was done has for its two writers.
+/// What a completed run has for its two writers.
 #[derive(Drop)]
 pub(crate) struct Said {
     pub out: Bytes,
@@ -45,7 +45,7 @@ pub(crate) fn json_line(alloc: Global, value: &Value) -> Result<Vec<u8>, AllocEr
     Ok(text)
 }
 
-/// The listings as a line of compact JSON; nothing where there are none.
+/// The listings as a line of compact JSON; nothing if there are none.
 fn listing_text(alloc: Global, listings: &Value) -> Result<Vec<u8>, AllocError>
     requires { has_float (view listings.now) ≡ false }
     ensures { IfOk result (λ text. text.items ≡ listing_line (view listings.now)) }
@@ -104,7 +104,7 @@ impl Said {
         })
     }
 
-    /// Writes what is for errors, then what is for output, each by one write.
+    /// Writes the text for errors, then the text for output, each by one write.
     pub(crate) fn tell<O: Output, E: Output>(&self, out: &mut O, err: &mut E) -> io::Result<()>
         ensures { MatchResult result (λ _. Says (Ok self.now) (O.heard out.old) (O.heard out.new) (E.heard err.old) (E.heard err.new))
             (λ _. CannotSay (Ok self.now) (O.heard out.old) (O.heard out.new) (E.heard err.old) (E.heard err.new)) }

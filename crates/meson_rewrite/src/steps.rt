@@ -24,7 +24,7 @@ use meson_syntax::ParseFault;
 use serde_json::Value;
 use std::alloc::{AllocError, Global};
 
-/// The file of this number would be none.
+/// The file of this number would not be valid.
 fn unparsed(alloc: Global, files: &FileSet, place: usize, fault: ParseFault) -> Stop
     requires { place < length files.now }
     ensures { (result ≡ Stop.Parse (name_of_file place files.now) fault) ⊎ (result ≡ Stop.Splice SpliceFault.OutOfMemory) }
@@ -52,7 +52,7 @@ fn undo_stop(alloc: Global, files: &FileSet, fault: UndoFault) -> Stop
     }
 }
 
-/// Takes back the newest changes of a session, so many.
+/// Takes back this number of the newest changes of a session.
 fn back_to(alloc: Global, session: &mut Session, count: usize) -> Result<Report, Stop>
     ensures does { IfOk result (λ report. Does (Step.UndoTo count) session.old report session.new) }
     ensures refused { IfErr result (MayRefuseStep (Step.UndoTo count) session.old) }
@@ -65,7 +65,7 @@ fn back_to(alloc: Global, session: &mut Session, count: usize) -> Result<Report,
     }
 }
 
-/// Takes the newest changes of a session back, so many, where its files have the digests that were kept of them.
+/// Takes back this number of the newest changes of a session, if its files have the digests that were kept of them.
 fn checked_back(
     alloc: Global,
     session: &mut Session,
@@ -85,7 +85,7 @@ fn checked_back(
     back_to(alloc, session, count)
 }
 
-/// What is reported where no file changes and nothing is listed.
+/// What is reported if no file changes and nothing is listed.
 fn nothing_done(alloc: Global) -> Report
     ensures { view result.info ≡ array no_items }
 {
@@ -98,7 +98,7 @@ fn nothing_done(alloc: Global) -> Report
     }
 }
 
-/// Lets the oldest changes of a session go, so many.
+/// Drops this number of the oldest changes of a session.
 fn oldest_forgotten(alloc: Global, session: &mut Session, count: usize) -> Result<Report, Stop>
     ensures does { IfOk result (λ report. Does (Step.ForgetOldest count) session.old report session.new) }
     ensures refused { IfErr result (MayRefuseStep (Step.ForgetOldest count) session.old) }
@@ -112,7 +112,7 @@ fn oldest_forgotten(alloc: Global, session: &mut Session, count: usize) -> Resul
     }
 }
 
-/// Lets all changes of a session go.
+/// Drops all changes of a session.
 fn all_forgotten(alloc: Global, session: &mut Session) -> Report
     ensures does { Does Step.ForgetAll session.old result session.new }
     ensures text { is_text_history session.new.history ≡ true }
@@ -167,7 +167,7 @@ fn new_log(alloc: Global, session: &Session) -> Result<Vec<u8>, Stop>
     }
 }
 
-/// The files of a project, none of which is named as the log, and the log behind them.
+/// The files of a project, none of which has the log's name, with the log after them.
 fn with_log(alloc: Global, project: &Project, text: Vec<u8>) -> Result<FileSet, AllocError>
     ensures { IfOk result (λ all. all ≡ with_log project.now.files text.items) }
 {
@@ -178,7 +178,7 @@ fn with_log(alloc: Global, project: &Project, text: Vec<u8>) -> Result<FileSet, 
     Ok(all)
 }
 
-/// The files of a session whose history is text, and its log behind them.
+/// The files of a session whose history is text, with its log after them.
 fn logged(alloc: Global, session: &Session) -> Result<FileSet, Stop>
     requires { is_text_history session.now.history ≡ true }
     ensures files { IfOk result (λ all. (text : List ℕ) × (log_of session.now.history ≡ Ok text) × (all ≡ with_log session.now.project.files text)) }
@@ -198,7 +198,7 @@ pub(crate) struct Edit {
     pub said: Said,
 }
 
-/// Does a step on a session whose history is text and is logged in this text, and gives what is to be written.
+/// Does a step on a session whose history is text, with this text as its log, and gives what is to be written.
 fn edit_of(alloc: Global, session: &mut Session, log: Vec<u8>, step: &Step) -> Result<Edit, Stop>
     requires text { is_text_history session.old.history ≡ true }
     requires title { IsTitled step.now }
@@ -231,7 +231,7 @@ pub(crate) fn edited(alloc: Global, opened: StoredSession, step: &Step) -> Resul
     edit
 }
 
-/// What is to be told of a step on a session that is lent.
+/// What is to be written and said for a step on a borrowed session.
 fn told_of(alloc: Global, session: &mut Session, step: &Step) -> Result<Said, Stop>
     requires { IsTitled step.now }
     ensures told { IfOk result (OnlyTells session.old step.now) }
@@ -241,7 +241,7 @@ fn told_of(alloc: Global, session: &mut Session, step: &Step) -> Result<Said, St
     Ok(Said::of(alloc, step, &report)?)
 }
 
-/// What is to be told of a step on a session.
+/// What is to be written and said for a step on a session.
 pub(crate) fn told(alloc: Global, opened: StoredSession, step: &Step) -> Result<Said, Stop>
     requires { IsTitled step.now }
     ensures told { IfOk result (OnlyTells opened.session step.now) }
@@ -256,7 +256,7 @@ pub(crate) fn told(alloc: Global, opened: StoredSession, step: &Step) -> Result<
     said
 }
 
-/// What is to be told of a step on a session that is lent, and where it is shown and not done.
+/// What is to be said for a step on a borrowed session, if it is shown and not done.
 fn shown_of(alloc: Global, session: &mut Session, step: &Step) -> Result<Said, Stop>
     requires { IsTitled step.now }
     ensures shown { IfOk result (IsShown session.old step.now) }
@@ -268,7 +268,7 @@ fn shown_of(alloc: Global, session: &mut Session, step: &Step) -> Result<Said, S
     Ok(Said::shown(alloc, changes, &report)?)
 }
 
-/// What is to be told of a step on a session that is shown, and not done.
+/// What is to be said for a step on a session that is shown, and not done.
 pub(crate) fn shown(alloc: Global, opened: StoredSession, step: &Step) -> Result<Said, Stop>
     requires { IsTitled step.now }
     ensures shown { IfOk result (IsShown opened.session step.now) }

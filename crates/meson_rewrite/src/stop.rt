@@ -14,11 +14,11 @@ use std::fmt;
 /// Why a run was stopped.
 #[derive(Drop)]
 pub(crate) enum Stop {
-    /// The words ask for nothing that the program does.
+    /// The words are not a request that the program knows.
     Usage(UsageFault),
-    /// The script or the log is none.
+    /// The script or the log is not valid.
     Script(ScriptFault),
-    /// The file of this name is no build file, or would be none.
+    /// The file of this name is not a valid build file, or would not be one.
     Parse { name: Text, fault: ParseFault },
     /// The project has more files than it may have.
     TooManyFiles,

@@ -11,3 +11,4 @@ pub mod Outcomes
 pub mod SameTrees
 pub mod Scripts
 pub mod Undos
+pub mod Untouched

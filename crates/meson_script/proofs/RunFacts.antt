@@ -1,7 +1,7 @@
 -- The files and names after commands.
-use Rattle.std.proofs.Common.{◌≡◌, ℕ, suc, ◌+◌, ◌<◌, ◌≤◌, subst, length-take, take, drop, length, get_or, arith, List, [], ◌∷◌, ◌++◌, Bool, true, false, map, Result, Ok, Err, refl, sym, ap, ◌∙◌}
+use Rattle.std.proofs.Common.{◌≡◌, ℕ, suc, ◌+◌, ◌<◌, ◌≤◌, subst, length-take, take, drop, length, get_or, arith, List, [], ◌∷◌, ◌++◌, Bool, true, false, map, Result, Ok, Err, refl, sym, ap, ◌∙◌, inr}
 use Rattle.std.specs.Prelude.{bytes_eq, if◌then◌else◌}
-use Rattle.std.proofs.lemmas.List.{map-append, take_all, take_more}
+use Rattle.std.proofs.lemmas.List.{map-append, take_more}
 use Rattle.std.proofs.Math.Seq.{split_at}
 use Rattle.serde_json.specs.Data.{Data}
 use Rattle.serde_json.specs.View.{view}
@@ -18,7 +18,7 @@ use Rattle.meson_calls.specs.declared.refusal.Refusal.{Refusal}
 use Rattle.meson_plan.specs.Performing.{MayRefuse, Performs}
 use Rattle.meson_plan.proofs.SplicesDone.{joined, performs-patch, performs-text, texts-append}
 use Rattle.meson_plan.specs.Listing.{told}
-use Rattle.meson_script.specs.Running.{MayStop, Reaches, Runs, nothing_ran, ran_more}
+use Rattle.meson_script.specs.Running.{MayStop, Reaches, Runs, StopsDuring, nothing_ran, ran_more}
 use Rattle.meson_script.specs.Laws.{RunsPatch, RunsText}
 
 pub runs-patch : RunsPatch
@@ -111,15 +111,22 @@ stops-there old between commands i here read lists c e ran reads within is refus
 
 -- ---- how far commands came
 
-pub reaches : (old between : Loaded) (commands : List Command) (i : ℕ) (here : List Splice) (read : ℕ) (lists : List Data) → Runs old (take i commands) here read lists between → i ≤ length commands → Reaches old commands i
-reaches old between commands i here read lists ran within = record { within = within; splices = here; relexed = read; listings = lists; between = between; runs = ran }
+pub reaches : (old between : Loaded) (commands : List Command) (i : ℕ) (here : List Splice) (read : ℕ) (lists : List Data) → Runs old (take i commands) here read lists between → i ≤ length commands → (0 < length commands → i < length commands) → Reaches old commands i
+reaches old between commands i here read lists ran within is_command = record { within = within; is_command = is_command; splices = here; relexed = read; listings = lists; between = between; runs = ran }
 
 pub reaches-none : (old : Loaded) (commands : List Command) (i : ℕ) → i ≡ 0 → Reaches old commands i
-reaches-none old commands i is = subst (Reaches old commands) (sym is) (reaches old old commands 0 [] 0 [] nothing_ran (omega arith))
+reaches-none old commands i is = subst (Reaches old commands) (sym is) (reaches old old commands 0 [] 0 [] nothing_ran (omega arith) (λ some. some))
 
-pub reaches-all : (old between : Loaded) (commands : List Command) (here : List Splice) (read : ℕ) (lists : List Data) → Runs old commands here read lists between → Reaches old commands (length commands)
-reaches-all old between commands here read lists ran =
-    reaches old between commands (length commands) here read lists (subst (λ cs. Runs old cs here read lists between) (sym (take_all (length commands) commands (omega arith))) ran) (omega arith)
+-- commands that end when one of them is done
+stops-behind : (old new : Loaded) (commands : List Command) (i : ℕ) (here : List Splice) (read : ℕ) (lists : List Data) → Runs old (take (i + 1) commands) here read lists new → i < length commands → StopsDuring old commands i new
+stops-behind old new commands i here read lists ran within = record { within = within; done = i + 1; is_done = inr refl; splices = here; relexed = read; listings = lists; runs = ran }
+
+pub stops-after : (old between new : Loaded) (commands : List Command) (i : ℕ) (here : List Splice) (read : ℕ) (lists more : List Value) (c : Command) (done : Done)
+    → Runs old (take i commands) here read (map view lists) between → IsProject between → i < length commands → c ≡ get_or commands i c → told between c ≡ Ok (map view more) → Performs between c done new
+    → StopsDuring old commands i new
+stops-after old between new commands i here read lists more c done ran reads within is tells performs =
+    let all = one-more old between new commands i here (here ++ done.change.splices) read (saturated (read + done.relexed)) lists (lists ++ more) more c done ran reads within is tells performs refl refl refl in
+    stops-behind old new commands i (here ++ done.change.splices) (saturated (read + done.relexed)) (map view (lists ++ more)) all within
 
 -- ---- one command alone
 

@@ -20,7 +20,7 @@ use Rattle.meson_script.specs.Stack.{KeptSet, Loads, Stack, Stands, ran, ran_all
 abbrev pub RunsThenUndosRestore : Type 0
 RunsThenUndosRestore = (s : Stack) (sets : List KeptSet) → option_map (λ t. t.present) (undos (length sets) (ran_all s sets)) ≡ Some s.present
 
--- a project with an empty history stands for a stack without past and future
+-- a project with an empty history means a stack without past and future
 abbrev pub BeginsAStack : Type 0
 BeginsAStack = (p : Loaded) → IsProject p → Stands (record { past = []; future = [] }) p.files (record { past = []; present = p.files; future = [] })
 
@@ -36,7 +36,7 @@ UndoIsAStep = (h : History) (files : List File) (s t : Stack) → Stands h files
 abbrev pub NothingIsUndone : Type 0
 NothingIsUndone = (h : History) (files : List File) (s : Stack) → Stands h files s → taken_back s ≡ None → undone h files ≡ Err NothingToUndo
 
--- so many undos of a history that fits are as many undos of the stack
+-- a number of undos of a history that fits is the same number of undos of the stack
 abbrev pub UndosAreSteps : Type 0
 UndosAreSteps = (count : ℕ) (h : History) (files : List File) (s t : Stack) → Stands h files s → undos count s ≡ Some t
     → (k : History) × (undone_times count h files ≡ Ok (k, t.present)) × Stands k t.present t
@@ -53,11 +53,11 @@ abbrev pub RunsPatch : Type 0
 RunsPatch = (old new : Loaded) (commands : List Command) (splices : List Splice) (relexed : ℕ) (listings : List Data)
     → Runs old commands splices relexed listings new → patched_all old.files splices ≡ Ok new.files
 
--- files that load get no fault but want of memory
+-- files that load get no fault but out of memory
 abbrev pub LoadsOrWantsMemory : Type 0
 LoadsOrWantsMemory = (files : List File) (fault : LoadFault) → Loads files → MayNotLoad files fault → fault ≢ load.OutOfMemory → ⊥
 
--- what the splices of commands take away and put in is text
+-- what the splices of commands remove and insert is text
 abbrev pub RunsText : Type 0
 RunsText = (old new : Loaded) (commands : List Command) (splices : List Splice) (relexed : ℕ) (listings : List Data)
     → Runs old commands splices relexed listings new → AreTexts splices

@@ -5,3 +5,4 @@ pub mod Undoing
 pub mod Messages
 pub mod Laws
 pub mod Outcomes
+pub mod Untouched

@@ -17,11 +17,11 @@ one_file text = record { name = codes "meson.build"; bytes = text } ∷ []
 abbrev as_text : Result Data Refusal → Result (List ℕ) Refusal
 as_text listing = then_ok listing (λ d. Ok (compact_text d))
 
--- what is listed of each project that has this build file alone
+-- the listing of each project that has this build file alone
 abbrev of_file : List ℕ → (Loaded → Result Data Refusal) → Result (List ℕ) Refusal → Type 0
 of_file text listing is = (l : Loaded) → IsProject l → l.files ≡ one_file text → as_text (listing l) ≡ is
 
--- sources behind a variable, each with the place where it stands
+-- sources that a variable holds, each with its place
 abbrev pub TargetRow : Type 0
 TargetRow =
     of_file (codes "project('p', 'cpp')\nsrc = ['main.cpp', 'fileA.cpp']\nexe1 = executable('testExe', src)\n") (λ l. target_listing l (codes "testExe"))
@@ -32,7 +32,7 @@ ProjectRow =
     of_file (codes "project('p', 'c', version: '0.9') # v\n") (λ l. kwargs_listing l role.Project (codes "/"))
     (Ok (double_quoted (codes "{'at':0,'file':'meson.build','function':'project','hidden':false,'kwargs':{'version':'0.9'},'type':'kwargs'}")))
 
--- a variable, what is no literal, and a list, in the order of the keys
+-- a variable, what is not a literal, and a list, in the order of the keys
 abbrev pub DependencyRow : Type 0
 DependencyRow =
     of_file (codes "d = dependency('z', version: ['>1', '<2'], native: f(1), method: m)\n") (λ l. kwargs_listing l role.Dependency (codes "d"))

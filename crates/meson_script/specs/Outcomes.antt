@@ -27,7 +27,7 @@ OneRefusal = (old : Loaded) (c : Command) (e f : Refusal) → MayRefuse old c e 
 
 -- ---- a whole script
 
--- What commands do to a project is one list of splices, with one count and one list of listings; the files and trees are then those alone.
+-- What commands do to a project is one list of splices, with one count and one list of listings. The files and trees are then those alone.
 abbrev pub OneResult : Type 0
 OneResult = (old : Loaded) (commands : List Command) (splices others : List Splice) (relexed read : ℕ) (listings lists : List Data) (new next : Loaded)
     → Runs old commands splices relexed listings new → Runs old commands others read lists next

@@ -1,5 +1,5 @@
 -- The commands of a script, one after another.
-use Rattle.std.specs.Prelude.{◌≡◌, ◌≤◌, ℕ, ◌+◌, List, [], ◌∷◌, ◌++◌, length, take, Ok}
+use Rattle.std.specs.Prelude.{◌≡◌, ◌<◌, ◌≤◌, ◌⊎◌, ℕ, ◌+◌, List, [], ◌∷◌, ◌++◌, length, take, Ok}
 use Rattle.serde_json.specs.Data.{Data, array}
 use Rattle.serde_json.specs.View.{items_of, view}
 use Rattle.meson_splice.specs.declared.splice.Splice.{Splice}
@@ -14,8 +14,8 @@ use Rattle.meson_steps.specs.ResultLimits.{saturated}
 use Rattle.meson_plan.specs.Performing.{MayRefuse, Performs}
 use Rattle.meson_plan.specs.Listing.{told}
 
--- Each command is performed on what the ones before it left, a project whose trees are those of its files, and tells of that; the splices and
--- listings are those of all, in order.
+-- Each command is performed on what the ones before it left, a project whose trees are those of its files, and reports on that. The splices and listings are
+-- those of all, in order.
 pub data Runs (old : Loaded) : List Command → List Splice → ℕ → List Data → Loaded → Type 0 where
   nothing_ran : Runs old [] [] 0 [] old
   ran_more : (commands : List Command) (splices : List Splice) (relexed : ℕ) (listings : List Data) (between : Loaded)
@@ -23,16 +23,27 @@ pub data Runs (old : Loaded) : List Command → List Splice → ℕ → List Dat
       → (c : Command) (done : Done) (more : List Data) (new : Loaded) → told between c ≡ Ok more → Performs between c done new
       → Runs old (commands ++ c ∷ []) (splices ++ done.change.splices) (saturated (relexed + done.relexed)) (listings ++ more) new
 
--- The commands before this number are performed: that of the command where a script ends, or of all of them.
+-- The commands before this number are performed. It is the number of a command, if there are any, and else 0.
 pub record Reaches (old : Loaded) (commands : List Command) (index : ℕ) : Type 0 where
   pub within : index ≤ length commands
+  pub is_command : 0 < length commands → index < length commands
   pub splices : List Splice
   pub relexed : ℕ
   pub listings : List Data
   pub between : Loaded
   pub runs : Runs old (take index commands) splices relexed listings between
 
--- The command of this number may be refused so, and those before it are performed.
+-- Commands end while the one of this number is done: the project is as those before it leave it, or as this one does.
+pub record StopsDuring (old : Loaded) (commands : List Command) (index : ℕ) (new : Loaded) : Type 0 where
+  pub within : index < length commands
+  pub done : ℕ
+  pub is_done : (done ≡ index) ⊎ (done ≡ index + 1)
+  pub splices : List Splice
+  pub relexed : ℕ
+  pub listings : List Data
+  pub runs : Runs old (take done commands) splices relexed listings new
+
+-- The command of this number may be refused for this reason, and those before it are performed.
 pub record MayStop (old : Loaded) (commands : List Command) (index : ℕ) (refusal : Refusal) : Type 0 where
   pub before : List Command
   pub command : Command
@@ -47,8 +58,7 @@ pub record MayStop (old : Loaded) (commands : List Command) (index : ℕ) (refus
   pub reads : IsProject between
   pub refuses : MayRefuse between command refusal
 
--- An accepted script: its commands run, and their splices are kept as one change of this title, also where there are none. It tells
--- the listings.
+-- An accepted script: its commands run, and their splices are kept as one change of this title, even if there are none. It reports the listings.
 pub record KeepsChange (old : Session) (commands : List Command) (title : List ℕ) (report : Report) (new : Session) : Type 0 where
   pub splices : List Splice
   pub listings : List Data

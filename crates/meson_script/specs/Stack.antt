@@ -1,4 +1,4 @@
--- The undo stack: whole file sets, and which history and files stand for one.
+-- The undo stack: whole file sets, and which history and files mean one.
 use Rattle.std.specs.Prelude.{◌≡◌, ◌≢◌, ◌<◌, ◌≤◌, ℕ, zero, suc, All, List, [], ◌∷◌, length, reverse, Option, Some, None, option_map, option_and_then, Result, Ok, Err}
 use Rattle.meson_splice.specs.declared.change.Change.{Change}
 use Rattle.meson_splice.specs.declared.fault.SpliceFault.{SpliceFault}
@@ -19,7 +19,7 @@ pub record KeptSet : Type 0 where
 abbrev pub kept_set : List File → List ℕ → KeptSet
 kept_set files title = record { files = files; title = title }
 
--- the sets before, newest first; the set that stands; the sets to redo, next first
+-- the sets before, newest first; the present set; the sets to redo, next first
 pub record Stack : Type 0 where
   pub past : List KeptSet
   pub present : List File
@@ -53,7 +53,7 @@ abbrev pub undos : ℕ → Stack → Option Stack
 undos zero s = Some s
 undos (suc n) s = option_and_then taken_back (undos n s)
 
--- ---- what a history and files stand for
+-- ---- what a history and files mean
 
 abbrev pub on_ok : {A E B : Type 0} → Result A E → (A → Option B) → Option B
 on_ok (Ok x) f = f x
@@ -70,7 +70,7 @@ abbrev pub later : List Change → List File → Option (List KeptSet)
 later [] files = Some []
 later (c ∷ changes) files = on_ok (patched_all files c.splices) (λ after. option_map (λ sets. kept_set after c.title ∷ sets) (later changes after))
 
--- files that load as a project, want of memory aside
+-- files that load as a project, unless out of memory
 pub record Loads (files : List File) : Type 0 where
   pub few : length files ≤ max_files
   pub named : All HasFileName files
@@ -79,7 +79,7 @@ pub record Loads (files : List File) : Type 0 where
 abbrev pub KeptLoads : KeptSet → Type 0
 KeptLoads k = Loads k.files
 
--- The history fits the files, and both stand for the stack: each set that is met loads.
+-- The history fits the files, and both mean the stack: each set that is met loads.
 pub record Stands (h : History) (files : List File) (s : Stack) : Type 0 where
   pub present : s.present ≡ files
   pub past : earlier (reverse h.past) files ≡ Some s.past
@@ -88,9 +88,9 @@ pub record Stands (h : History) (files : List File) (s : Stack) : Type 0 where
   pub past_loads : All KeptLoads s.past
   pub future_loads : All KeptLoads s.future
 
--- ---- what is refused where they stand for a stack
+-- ---- what is refused when they mean a stack
 
--- nothing is there for the step, which is this fault, or memory is refused
+-- nothing is there for the step, which is this fault, or out of memory
 abbrev pub RefusesStep : SpliceFault → Type 0 → UndoFault → Type 0
 RefusesStep nothing is_none (Splice e) = e ≢ splice.OutOfMemory → (e ≡ nothing) × is_none
 RefusesStep nothing is_none (Load e) = e ≡ load.OutOfMemory
@@ -98,7 +98,7 @@ RefusesStep nothing is_none (Load e) = e ≡ load.OutOfMemory
 abbrev pub RefusesUndo : Stack → UndoFault → Type 0
 RefusesUndo s = RefusesStep splice.NothingToUndo (s.past ≡ [])
 
--- the same of one among so many undos, on what those before it left
+-- the same for one of this number of undos, on what those before it left
 abbrev pub RefusesUndos : ℕ → Stack → UndoFault → Type 0
 RefusesUndos count s fault = (done : ℕ) × (t : Stack) × (fault ≢ Splice splice.OutOfMemory → done < count) × (undos done s ≡ Some t) × RefusesUndo t fault
 

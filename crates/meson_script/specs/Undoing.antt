@@ -22,13 +22,12 @@ abbrev pub MayNotChange : Result (List File) SpliceFault → UndoFault → Type 
 MayNotChange r (Splice e) = e ≢ OutOfMemory → r ≡ Err e
 MayNotChange r (Load f) = (files : List File) × (r ≡ Ok files) × MayNotLoad files f
 
--- the same of a step of the history
+-- the same for a step of the history
 abbrev pub MayNotStep : Result (History × List File) SpliceFault → UndoFault → Type 0
 MayNotStep r (Splice e) = e ≢ OutOfMemory → r ≡ Err e
 MayNotStep r (Load f) = (h : History) × (files : List File) × (r ≡ Ok (h, files)) × MayNotLoad files f
 
--- A step that moves the last change of `from`: the history and files are those of the step, and the report counts, has
--- the change's title and lists nothing.
+-- A step that moves the last change of `from`. The history and files are those of the step. The report counts, has the change's title and lists nothing.
 pub record Steps (old : Session) (from : List Change) (step : Result (History × List File) SpliceFault) (report : Report) (new : Session) : Type 0 where
   pub before : List Change
   pub change : Change
@@ -40,15 +39,15 @@ pub record Steps (old : Session) (from : List Change) (step : Result (History ×
   pub relexed : report.relexed ≡ 0
   pub info : view report.info ≡ array no_items
 
--- ---- so many undos, one after another
+-- ---- a number of undos, one after another
 
--- of changes that are taken back, the oldest first, the title of the one that goes last
+-- of changes that are taken back, the oldest first, the title of the one that is taken back last
 abbrev pub oldest_title : List Change → List ℕ
 oldest_title [] = []
 oldest_title (c ∷ newer) = c.title
 
--- The newest changes are taken back, so many: the history and files are those of as many undos. The report counts the files that
--- differ and the splices of these changes, has the title of the oldest of them, and lists nothing.
+-- This number of the newest changes is taken back: the history and files are those of as many undos. The report counts the files that differ and the splices of
+-- these changes, has the title of the oldest of them, and lists nothing.
 pub record StepsBack (count : ℕ) (old : Session) (report : Report) (new : Session) : Type 0 where
   pub taken : List Change
   pub are_last : old.history.past ≡ new.history.past ++ taken
@@ -60,7 +59,7 @@ pub record StepsBack (count : ℕ) (old : Session) (report : Report) (new : Sess
   pub relexed : report.relexed ≡ 0
   pub info : view report.info ≡ array no_items
 
--- An undo among them is refused so, and those before it are done.
+-- An undo among them is refused in this way, and those before it are done.
 pub record StopsBack (count : ℕ) (old : Session) (fault : UndoFault) (new : Session) : Type 0 where
   pub done : ℕ
   pub fewer : fault ≢ Splice OutOfMemory → done < count

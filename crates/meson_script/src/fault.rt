@@ -6,7 +6,7 @@ use std::alloc::AllocError;
 use std::fmt;
 use thiserror::Error;
 
-/// Files and a history of which no session was made, with the reason.
+/// Files and a history from which no session was made, with the reason.
 #[derive(Debug, Drop)]
 pub struct Unstarted {
     pub files: FileSet,
@@ -17,8 +17,8 @@ pub struct Unstarted {
 /// Why a script is refused. Nothing was changed then.
 #[derive(Debug, Drop, PartialEq)]
 pub struct RunFault {
-    /// The command that is refused, counted from 0, or the number of commands where memory was refused behind the last one. Those before it were
-    /// performed; where memory was refused before any was, it is 0.
+    /// The command that is refused, counted from 0. Those before it were performed. If memory ran out before any command was performed, it is 0; nothing is
+    /// allocated after the last one.
     pub index: usize,
     pub refusal: Refusal,
 }
@@ -27,7 +27,7 @@ impl RunFault {
     ghost use Rattle.std.specs.Prelude.{◌≡◌};
     ghost use Rattle.meson_calls.specs.declared.refusal.Refusal.TheVariants.{OutOfMemory};
 
-    /// Want of memory before any command was done.
+    /// Out of memory before any command was performed.
     pub(crate) fn unmade(refused: AllocError) -> RunFault
         ensures { result ≡ record { index = 0; refusal = OutOfMemory } }
     {
@@ -61,7 +61,7 @@ pub enum UndoFault {
     /// There is no such change, or the files are not as it left them.
     #[error("{0}")]
     Splice(SpliceFault),
-    /// The files would be no project then.
+    /// The files would not be a project then.
     #[error("{0}")]
     Load(LoadFault),
 }

@@ -3,8 +3,9 @@
 ghost use Rattle.meson_script.specs.Laws.{BeginsAStack, LoadsOrWantsMemory, NothingIsRedone, NothingIsUndone, RedoIsAStep, RunIsAStep, RunsPatch, RunsText, RunsThenUndosRestore, UndoIsAStep, UndosAreSteps};
 ghost use Rattle.meson_script.specs.ListingRows.{DependencyRow, ProjectRow, RefusedRows, TargetRow};
 ghost use Rattle.meson_script.specs.Outcomes.{NotRefused, NotStopped, OneOutcome, OneProject, OneRefusal, OneResult, OneStop};
+ghost use Rattle.meson_script.specs.Untouched.{ScriptsKeep};
 
-/// What is listed of some build files.
+/// What is listed for some build files.
 pub fn rows()
     ensures target { TargetRow }
     ensures project { ProjectRow }
@@ -17,7 +18,7 @@ pub fn runs_then_undos_restore()
     ensures { RunsThenUndosRestore }
 {}
 
-/// A project without history stands for a stack without past and future.
+/// A project without history means a stack without past and future.
 pub fn begins_a_stack()
     ensures { BeginsAStack }
 {}
@@ -27,18 +28,18 @@ pub fn run_is_a_step()
     ensures { RunIsAStep }
 {}
 
-/// Undoing a history that fits is an undo of the stack, and nothing is refused where the stack has a past.
+/// Undoing a history that fits is an undo of the stack, and nothing is refused if the stack has a past.
 pub fn undo_is_a_step()
     ensures step { UndoIsAStep }
     ensures none { NothingIsUndone }
 {}
 
-/// So many undos of a history that fits are as many undos of the stack.
+/// A number of undos of a history that fits is the same number of undos of the stack.
 pub fn undos_are_steps()
     ensures { UndosAreSteps }
 {}
 
-/// Redoing a history that fits is a redo of the stack, and nothing is refused where the stack has a future.
+/// Redoing a history that fits is a redo of the stack, and nothing is refused if the stack has a future.
 pub fn redo_is_a_step()
     ensures step { RedoIsAStep }
     ensures none { NothingIsRedone }
@@ -49,12 +50,17 @@ pub fn runs_patch()
     ensures { RunsPatch }
 {}
 
-/// What the splices of commands take away and put in is text.
+/// In all scripts that are run, one after another, each command keeps every byte outside the lists and statements that its edits touch.
+pub fn scripts_keep()
+    ensures { ScriptsKeep }
+{}
+
+/// What the splices of commands remove and insert is text.
 pub fn runs_text()
     ensures { RunsText }
 {}
 
-/// Files that load get no fault but want of memory.
+/// Files that load get no fault but out of memory.
 pub fn loads_or_wants_memory()
     ensures { LoadsOrWantsMemory }
 {}

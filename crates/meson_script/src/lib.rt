@@ -1,4 +1,4 @@
-//! Scripts done on a project, undone and redone, and what their info commands tell.
+//! Scripts performed on a project, undone and redone, and what their info commands report.
 #![tactic(auto)]
 
 mod fault;
@@ -13,4 +13,5 @@ pub use fault::{RunFault, UndoFault, Unstarted};
 pub use log::log_text;
 pub use meson_json::{Script, ScriptFault, empty_log, is_title, read_log};
 pub use meson_plan::{info_kwargs, info_target};
+pub use performing::{Ran, perform_all};
 pub use session::{Report, Session};

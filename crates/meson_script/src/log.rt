@@ -8,10 +8,10 @@ use crate::session::Session;
 use meson_json::{ScriptFault, history_text};
 use std::alloc::Global;
 
-/// The log of a session's history. It is read back as that history.
+/// The log of a session's history. Reading it gives that history.
 ///
 /// # Errors
-/// The bytes of a splice are no text, or want of memory.
+/// The bytes of a splice are not UTF-8, or out of memory.
 pub fn log_text(alloc: Global, session: &Session) -> Result<Vec<u8>, ScriptFault>
     ensures text { IfOk result (λ b. log_of session.now.history ≡ Ok b.items) }
     ensures refused { IfErr result (λ e. e ≢ OutOfMemory → log_of session.now.history ≡ Err e) }

@@ -8,7 +8,7 @@ ghost use Rattle.meson_calls.specs.Refusals.{IfRefused};
 ghost use Rattle.meson_plan.specs.Listing.{told};
 ghost use Rattle.meson_plan.specs.Performing.{MayRefuse, Performs};
 ghost use Rattle.meson_splice.specs.Files.{differing};
-ghost use Rattle.meson_script.specs.Running.{MayStop, Reaches, Runs};
+ghost use Rattle.meson_script.specs.Running.{MayStop, Reaches, Runs, StopsDuring};
 
 use crate::fault::RunFault;
 use meson_plan::answer::asks;
@@ -19,18 +19,18 @@ use std::alloc::Global;
 
 /// What commands did.
 #[derive(Debug, Drop)]
-pub(crate) struct Ran {
+pub struct Ran {
     pub splices: Vec<Splice>,
-    /// How many bytes were lexed again. The count stops at the greatest number.
+    /// The number of bytes that were lexed again. The count stops at the greatest number.
     pub relexed: u64,
-    /// What the info commands told, in order.
+    /// What the info commands reported, in order.
     pub listings: Vec<Value>,
 }
 
-/// Does a command, and counts the files that have other bytes then. For one that asks no file is copied, since none changes.
+/// Performs a command, and counts the files whose bytes are different then. For an info command no file is copied, since none changes.
 ///
 /// # Errors
-/// The first refusal that holds, or want of memory.
+/// The first refusal that holds, or out of memory.
 pub(crate) fn counted(
     alloc: Global,
     project: &mut Project,
@@ -55,11 +55,11 @@ pub(crate) fn counted(
     Ok((answer, files))
 }
 
-/// Does the commands in order. Where one is refused, those before it are done.
+/// Performs the commands in order, without a history. If one is refused, those before it are done.
 ///
 /// # Errors
-/// The first refusal, with the number of its command, or want of memory.
-pub(crate) fn perform_all(
+/// The first refusal, with the number of its command, or out of memory.
+pub fn perform_all(
     alloc: Global,
     project: &mut Project,
     commands: &[Command],
@@ -67,6 +67,8 @@ pub(crate) fn perform_all(
     ensures done { IfOk result (λ ran. Runs project.old commands.now ran.splices.items ran.relexed (map view ran.listings.items) project.new) }
     ensures refused { IfErr result (λ f. f.refusal ≢ OutOfMemory → MayStop project.old commands.now f.index f.refusal) }
     ensures index { IfErr result (λ f. Reaches project.old commands.now f.index) }
+    // Also where memory is refused, that was while the command of this number was done.
+    ensures during { IfErr result (λ f. StopsDuring project.old commands.now f.index project.new) }
 {
     let mut ran = Ran {
         splices: Vec::new(alloc),

@@ -1,6 +1,6 @@
 //! A project with the history of what was done to it.
 
-ghost use Rattle.std.specs.Prelude.{◌≡◌, ◌≢◌, ◌∷◌, [], IfErr, IfOk, OnErr, OnOk, Some, length, true};
+ghost use Rattle.std.specs.Prelude.{◌≡◌, ◌≢◌, ◌<◌, ◌∷◌, [], IfErr, IfOk, OnErr, OnOk, Some, length, true, vec_capacity, vec_len};
 ghost use Rattle.serde_json.specs.Data.{array, no_items};
 ghost use Rattle.serde_json.specs.View.{view};
 ghost use Rattle.meson_calls.specs.Loading.{IsProject, MayNotLoad};
@@ -9,6 +9,7 @@ ghost use Rattle.meson_json.specs.Log.{is_text_history};
 ghost use Rattle.meson_json.specs.Titles.{is_title};
 ghost use Rattle.meson_script.specs.Running.{KeepsChange, MayStop, Reaches};
 ghost use Rattle.meson_script.specs.Stack.{RefusesRedo, RefusesUndo, RefusesUndos, Stack, Stands, ran, done_again, taken_back, undos};
+ghost use Rattle.meson_script.specs.Untouched.{CommandsKeep};
 ghost use Rattle.meson_script.specs.Undoing.{MayNotStep, Steps, StepsBack, StopsBack};
 ghost use Rattle.meson_splice.specs.Past.{redone, undone};
 
@@ -17,7 +18,7 @@ use crate::performing::{counted, perform_all};
 use crate::stepping::{files_after, files_before, loaded};
 use crate::titles::{titled, titles};
 use meson_json::Script;
-use meson_plan::{Answer, Command, Done, Project, Refusal};
+use meson_plan::{Answer, Command, Done, Project};
 use meson_splice::{Change, FileSet, History, Many, SpliceFault, Text};
 use serde_json::Value;
 use std::alloc::{AllocError, Global};
@@ -33,15 +34,15 @@ pub struct Session {
 /// What was done.
 #[derive(Debug, Drop)]
 pub struct Report {
-    /// How many files have other bytes than before.
+    /// The number of files whose bytes are different now.
     pub files: usize,
-    /// How many splices were done.
+    /// The number of splices that were done.
     pub splices: usize,
-    /// How many bytes were lexed again. The count stops at the greatest number.
+    /// The number of bytes that were lexed again. The count stops at the greatest number.
     pub relexed: u64,
     /// An array of the listings of the info commands, in order.
     pub info: Value,
-    /// What the change is for that was made, taken back or done again.
+    /// The title of the change that was made, taken back or done again.
     pub title: Text,
 }
 
@@ -60,7 +61,25 @@ fn stepped(alloc: Global, files: usize, splices: usize, title: Text) -> Report
     }
 }
 
-/// How many splices were done, and what the change is for.
+/// Takes the past out of a history, with room for one more change.
+///
+/// # Errors
+/// Out of memory. Then the history has its past.
+fn past_with_room(alloc: Global, history: &mut History) -> Result<Vec<Change>, AllocError>
+    ensures past { IfOk result (λ past. past.items ≡ history.old.past) }
+    ensures room { IfOk result (λ past. vec_len past < vec_capacity past) }
+    ensures taken { OnOk result (history.new ≡ record history.old { past = [] }) }
+    ensures kept { OnErr result (history.new ≡ history.old) }
+{
+    let mut past = mem::replace(&mut history.past, Many::new(alloc)).take();
+    if let Err(refused) = past.reserve(1) {
+        history.past = Many::of(past);
+        return Err(refused);
+    }
+    Ok(past)
+}
+
+/// The number of splices that were done, and the change's title.
 fn splices_and_title(report: Report) -> (usize, Text)
     ensures { result ≡ (report.splices, report.title) }
 {
@@ -69,7 +88,7 @@ fn splices_and_title(report: Report) -> (usize, Text)
 }
 
 impl Session {
-    /// A session on these files, or both handed back where the files are no project.
+    /// A session on these files; or both handed back if the files are not a project.
     pub fn start(alloc: Global, files: FileSet, history: History) -> Result<Session, Unstarted>
         ensures started { IfOk result (λ s. (s.project.files ≡ files) × (s.history ≡ history)) }
         ensures refused { IfErr result (λ u. MayNotLoad files u.fault) }
@@ -85,50 +104,52 @@ impl Session {
         }
     }
 
-    /// A session on a project that is loaded. Takes no memory.
+    /// A session on a project that is loaded. Does not allocate.
     pub fn of(project: Project, history: History) -> Session
         ensures { result ≡ record { project = project; history = history } }
     {
         Session { project, history }
     }
 
-    /// The files as they stand.
+    /// The files as they are now.
     pub fn files(&self) -> &FileSet
         ensures { result.now ≡ self.now.project.files }
     {
         self.project.files()
     }
 
-    /// The project as it stands.
+    /// The project as it is now.
     pub fn project(&self) -> &Project
         ensures { result.now ≡ self.now.project }
     {
         &self.project
     }
 
-    /// How many changes can be undone and redone.
+    /// The number of changes that can be undone, and of those that can be redone.
     pub fn depths(&self) -> (usize, usize)
         ensures { result ≡ (length self.now.history.past, length self.now.history.future) }
     {
         self.history.depths()
     }
 
-    /// Does the commands of a script in order, or nothing. What they did is kept as one change without a title, an empty one too.
+    /// Performs the commands of a script in order, or nothing. What they did is kept as one change without a title, even if it is empty.
     ///
     /// # Errors
-    /// The first refusal with the number of its command, or want of memory.
+    /// The first refusal with the number of its command, or out of memory.
     pub fn run(&mut self, alloc: Global, script: &Script) -> Result<Report, RunFault>
         ensures done { IfOk result (λ r. KeepsChange self.old script.now.commands [] r self.new) }
         ensures refused { IfErr result (λ f. f.refusal ≢ OutOfMemory → MayStop self.old.project script.now.commands f.index f.refusal) }
-        // Also where memory is refused, the commands before that number were performed.
+        // Also when out of memory, it is the number of a command, and those before it were performed.
         ensures index { IfErr result (λ f. Reaches self.old.project script.now.commands f.index) }
         ensures kept { OnErr result (self.new ≡ self.old) }
-        // Of a history that fits, this is a step of the stack.
+        // Each command keeps every byte outside the lists and statements that its edits touch.
+        ensures untouched { OnOk result (CommandsKeep self.old.project script.now.commands self.new.project) }
+        // For a history that fits, this is a step of the stack.
         ensures step { OnOk result ((s : Stack) → Stands self.old.history self.old.project.files s
             → Stands self.new.history self.new.project.files (ran s [] self.new.project.files)) }
-        // A history that has a log has one then.
+        // If the history had a log, it has one now.
         ensures text { OnOk result (is_text_history self.old.history ≡ true → is_text_history self.new.history ≡ true) }
-        // The new files read as the new trees.
+        // The new files parse as the new trees.
         ensures project { OnOk result (IsProject self.new.project) }
     {
         match script.commands.get() {
@@ -137,10 +158,10 @@ impl Session {
         }
     }
 
-    /// The same, with a title for the change: `is_title` says which texts are one.
+    /// The same, with a title for the change: `is_title` says which texts are titles.
     ///
     /// # Errors
-    /// The first refusal with the number of its command, or want of memory.
+    /// The first refusal with the number of its command, or out of memory.
     pub fn run_titled(
         &mut self,
         alloc: Global,
@@ -152,6 +173,7 @@ impl Session {
         ensures refused { IfErr result (λ f. f.refusal ≢ OutOfMemory → MayStop self.old.project script.now.commands f.index f.refusal) }
         ensures index { IfErr result (λ f. Reaches self.old.project script.now.commands f.index) }
         ensures kept { OnErr result (self.new ≡ self.old) }
+        ensures untouched { OnOk result (CommandsKeep self.old.project script.now.commands self.new.project) }
         ensures step { OnOk result ((s : Stack) → Stands self.old.history self.old.project.files s
             → Stands self.new.history self.new.project.files (ran s title.now self.new.project.files)) }
         ensures text { OnOk result (is_text_history self.old.history ≡ true → is_text_history self.new.history ≡ true) }
@@ -163,7 +185,7 @@ impl Session {
         }
     }
 
-    /// Does a command and keeps what it did. A refused command changes nothing, so it needs no copy of the project.
+    /// Performs a command and keeps what it did. A refused command changes nothing, so it needs no copy of the project.
     fn run_one(&mut self, alloc: Global, command: &Command, title: &str) -> Result<Report, RunFault>
         ensures done { IfOk result (λ r. KeepsChange self.old (command.now ∷ []) title.now r self.new) }
         ensures refused { IfErr result (λ f. f.refusal ≢ OutOfMemory → MayStop self.old.project (command.now ∷ []) f.index f.refusal) }
@@ -175,11 +197,10 @@ impl Session {
             Ok(both) => both,
             Err(refused) => return Err(RunFault::unmade(refused)),
         };
-        let mut past = mem::replace(&mut self.history.past, Many::new(alloc)).take();
-        if let Err(refused) = past.reserve(1) {
-            self.history.past = Many::of(past);
-            return Err(RunFault::unmade(refused));
-        }
+        let mut past = match past_with_room(alloc, &mut self.history) {
+            Ok(past) => past,
+            Err(refused) => return Err(RunFault::unmade(refused)),
+        };
         match counted(alloc, &mut self.project, command) {
             Ok((answer, files)) => {
                 let Answer { done, listings } = answer;
@@ -203,7 +224,7 @@ impl Session {
         }
     }
 
-    /// Does commands on a copy of the project, which takes its place when all are done and kept.
+    /// Performs commands on a copy of the project. The copy takes its place when all are done and kept.
     fn run_all(
         &mut self,
         alloc: Global,
@@ -224,7 +245,17 @@ impl Session {
             Ok(both) => both,
             Err(refused) => return Err(RunFault::unmade(refused)),
         };
-        let performed = perform_all(alloc, &mut project, commands)?;
+        let mut past = match past_with_room(alloc, &mut self.history) {
+            Ok(past) => past,
+            Err(refused) => return Err(RunFault::unmade(refused)),
+        };
+        let performed = match perform_all(alloc, &mut project, commands) {
+            Ok(performed) => performed,
+            Err(fault) => {
+                self.history.past = Many::of(past);
+                return Err(fault);
+            }
+        };
         let report = Report {
             files: self.project.files().count_differing(project.files()),
             splices: performed.splices.len(),
@@ -232,16 +263,11 @@ impl Session {
             info: Value::Array(performed.listings),
             title: told,
         };
-        let change = Change {
+        past.push_reserved(Change {
             splices: Many::of(performed.splices),
             title: kept,
-        };
-        if let Err(refused) = self.history.past.push(change) {
-            return Err(RunFault {
-                index: commands.len(),
-                refusal: Refusal::from(AllocError::from(refused)),
-            });
-        }
+        });
+        self.history.past = Many::of(past);
         self.history.future.clear();
         self.project = project;
         Ok(report)
@@ -250,17 +276,17 @@ impl Session {
     /// Takes the newest change back.
     ///
     /// # Errors
-    /// There is none, the files are not as it left them, they would be no project then, or want of memory.
+    /// There is no change to undo, the files are not as it left them, they would not be a project then, or out of memory.
     pub fn undo(&mut self, alloc: Global) -> Result<Report, UndoFault>
         ensures done { IfOk result (λ r. Steps self.old self.old.history.past (undone self.old.history self.old.project.files) r self.new) }
         ensures refused { IfErr result (λ f. MayNotStep (undone self.old.history self.old.project.files) f) }
         ensures kept { OnErr result (self.new ≡ self.old) }
-        // Of a history that fits, this is a step of the stack, and only an empty past is refused.
+        // For a history that fits, this is a step of the stack, and only an empty past is refused.
         ensures step { OnOk result ((s : Stack) → Stands self.old.history self.old.project.files s
             → (t : Stack) × (taken_back s ≡ Some t) × Stands self.new.history self.new.project.files t) }
         ensures fits { IfErr result (λ f. (s : Stack) → Stands self.old.history self.old.project.files s → RefusesUndo s f) }
         ensures text { OnOk result (is_text_history self.old.history ≡ true → is_text_history self.new.history ≡ true) }
-        // The new files read as the new trees.
+        // The new files parse as the new trees.
         ensures project { OnOk result (IsProject self.new.project) }
     {
         let Some(change) = self.history.past.last() else {
@@ -275,20 +301,20 @@ impl Session {
         Ok(stepped(alloc, files, splices, title))
     }
 
-    /// Takes the newest changes back, so many, one after another as that many undos do. The report counts the splices of all of them,
-    /// up to the greatest number, and has the title of the change that was taken back last; where none is, it counts nothing and has no title.
+    /// Takes back this number of the newest changes, one after another, as that many undos do. The report counts the splices of all of them, up to the greatest
+    /// number. It has the title of the change that was taken back last. Without any change, it counts nothing and has no title.
     ///
     /// # Errors
     /// An undo among them is refused. Those before it are done then.
     pub fn undo_to(&mut self, alloc: Global, count: usize) -> Result<Report, UndoFault>
         ensures done { IfOk result (λ r. StepsBack count self.old r self.new) }
         ensures refused { IfErr result (λ f. StopsBack count self.old f self.new) }
-        // Of a history that fits, these are undos of the stack, and only an empty past is refused.
+        // For a history that fits, these are undos of the stack, and only an empty past is refused.
         ensures step { OnOk result ((s : Stack) → Stands self.old.history self.old.project.files s
             → (t : Stack) × (undos count s ≡ Some t) × Stands self.new.history self.new.project.files t) }
         ensures fits { IfErr result (λ f. (s : Stack) → Stands self.old.history self.old.project.files s → RefusesUndos count s f) }
         ensures text { OnOk result (is_text_history self.old.history ≡ true → is_text_history self.new.history ≡ true) }
-        // The new files read as the new trees.
+        // The new files parse as the new trees.
         ensures project { OnOk result (IsProject self.new.project) }
     {
         let first = self.project.files().clone()?;
@@ -304,20 +330,20 @@ impl Session {
         Ok(stepped(alloc, files, splices, title))
     }
 
-    /// Does the change that was undone last again.
+    /// Does again the change that was undone last.
     ///
     /// # Errors
-    /// There is none, the files are not as they were before it, they would be no project then, or want of memory.
+    /// There is no change to redo, the files are not as they were before it, or they would not be a project then. Or out of memory.
     pub fn redo(&mut self, alloc: Global) -> Result<Report, UndoFault>
         ensures done { IfOk result (λ r. Steps self.old self.old.history.future (redone self.old.history self.old.project.files) r self.new) }
         ensures refused { IfErr result (λ f. MayNotStep (redone self.old.history self.old.project.files) f) }
         ensures kept { OnErr result (self.new ≡ self.old) }
-        // Of a history that fits, this is a step of the stack, and only an empty future is refused.
+        // For a history that fits, this is a step of the stack, and only an empty future is refused.
         ensures step { OnOk result ((s : Stack) → Stands self.old.history self.old.project.files s
             → (t : Stack) × (done_again s ≡ Some t) × Stands self.new.history self.new.project.files t) }
         ensures fits { IfErr result (λ f. (s : Stack) → Stands self.old.history self.old.project.files s → RefusesRedo s f) }
         ensures text { OnOk result (is_text_history self.old.history ≡ true → is_text_history self.new.history ≡ true) }
-        // The new files read as the new trees.
+        // The new files parse as the new trees.
         ensures project { OnOk result (IsProject self.new.project) }
     {
         let Some(change) = self.history.future.last() else {

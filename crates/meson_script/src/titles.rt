@@ -1,4 +1,4 @@
-//! What changes are for.
+//! The titles of changes.
 
 ghost use Rattle.std.specs.Prelude.{◌≡◌, IfOk};
 

@@ -1,4 +1,4 @@
--- What is there after sources or extra files are added or removed, said of the lists that get or lose them.
+-- What is there after sources or extra files are added or removed, as to the lists that get or lose them.
 use Rattle.std.specs.Prelude.{◌≡◌, ℕ, Bool, true, false, not, ◌&&◌, nat_eq, List, [], ◌∷◌, ◌++◌, length, map, Option, Some, None, Ok, option_and_then, option_map}
 use Rattle.std.specs.List.{AllByRecursion, filter, list_any}
 use Rattle.meson_lex.specs.declared.kinds.Span.{Span}
@@ -30,7 +30,7 @@ strings names = map (λ name. plain (string_of name)) names
 abbrev pub not_plain : Argument Nowhere → Bool
 not_plain x = not (is_plain x)
 
--- Of the file of the place nothing but the list there has become another one, and every other file's tree is as it was.
+-- In the file of the place nothing but the list there has changed, and every other file's tree is as it was.
 pub record OnlyList (c : CallRef) (before after : List Plain) : Type 0 where
   pub tree : Plain
   pub was : nth before c.file ≡ Some tree
@@ -40,14 +40,14 @@ pub record OnlyList (c : CallRef) (before after : List Plain) : Type 0 where
   pub now : nth after c.file ≡ Some (place.back other)
   pub others : (i : ℕ) → (c.file ≡ i → ⊥) → nth after i ≡ nth before i
 
--- The list has its elements in their order, and behind those without a name these strings; and all else is as it was.
+-- The list has its elements in their order, with these strings after those without a name; and all else is as it was.
 pub record ListGets (list : CallRef) (names : List (List ℕ)) (before after : List Plain) : Type 0 where
   pub elements : List (Argument Nowhere)
   pub had : elements_found list before ≡ Some elements
   pub has : elements_found list after ≡ Some (filter is_plain elements ++ (strings names ++ filter not_plain elements))
   pub only : OnlyList list before after
 
--- the law: the list where further sources of the target go gets those that are no sources of it yet, each once
+-- the law: the list to which further sources of the target are added gets those that are not sources of it yet, each once
 abbrev pub SourcesAreAdded : Type 0
 SourcesAreAdded = (old : Loaded) → IsProject old → (id : List ℕ) (c : Placed (Call Span)) → the_call (project old) role.Target id ≡ Ok c
     → (names : List (List ℕ)) (steps : List Step) (after : List Plain)
@@ -63,14 +63,14 @@ array_holding xs = array (listing tt false (arguments_of xs))
 abbrev pub extra_argument : List (List ℕ) → Argument Nowhere
 extra_argument names = named tt (bare_name extra_key) (array_holding (strings names))
 
--- The call has its arguments in their order, and this one behind them; and all else is as it was.
+-- The call has its arguments in their order, with this one after them; and all else is as it was.
 pub record ArgumentComes (c : CallRef) (new : Argument Nowhere) (before after : List Plain) : Type 0 where
   pub arguments : List (Argument Nowhere)
   pub had : elements_found c before ≡ Some arguments
   pub has : elements_found c after ≡ Some (arguments ++ new ∷ [])
   pub only : OnlyList c before after
 
--- The argument of this number has the array of its value and these strings behind it, and the call's other arguments stay; and all else is as it was.
+-- The argument of this number has the array of its value with these strings after it. The call's other arguments stay, and all else is as it was.
 pub record ArgumentGrows (c : CallRef) (number : ℕ) (names : List (List ℕ)) (before after : List Plain) : Type 0 where
   pub front : List (Argument Nowhere)
   pub it : Argument Nowhere
@@ -82,22 +82,22 @@ pub record ArgumentGrows (c : CallRef) (number : ℕ) (names : List (List ℕ)) 
   pub has : elements_found c after ≡ Some (front ++ with_value (array_holding (plain value ∷ strings names)) it ∷ back)
   pub only : OnlyList c before after
 
--- by the values of `extra_files:`, of which there is one or none
+-- by the values of `extra_files:`, of which there is at most one
 abbrev pub ArgumentHolds : CallRef → List (Numbered (Expression Span)) → List (List ℕ) → (before after : List Plain) → Type 0
 ArgumentHolds c [] names before after = ArgumentComes c (extra_argument names) before after
 ArgumentHolds c (v ∷ more) names before after = ArgumentGrows c v.number names before after
 
--- The list of the extra files gets those that are none yet, or, where no list is met, the argument does.
+-- The list of the extra files gets those that are not there yet, or, if no list is met, the argument does.
 abbrev pub ExtraComes : Placed (Call Span) → Option CallRef → List (List ℕ) → (before after : List Plain) → Type 0
 ExtraComes c list [] before after = after ≡ before
 ExtraComes c None (name ∷ more) before after = ArgumentHolds c.place (keyword extra_key c.it) (name ∷ more) before after
 ExtraComes c (Some list) (name ∷ more) before after = ListGets list (name ∷ more) before after
 
--- where further extra files go, if a list is met
+-- where further extra files are added, if a list is met
 abbrev pub extra_home : Project Span → Placed (Call Span) → Option CallRef
 extra_home p c = or_option (first_list (extra_marks p c)) (first_empty (extra_marks p c))
 
--- the law: of extra files that are added those come that are none of the target yet, each once
+-- the law: of extra files that are added, those are inserted that the target does not have yet, each once
 abbrev pub ExtraIsAdded : Type 0
 ExtraIsAdded = (old : Loaded) → IsProject old → (id : List ℕ) (c : Placed (Call Span)) → the_call (project old) role.Target id ≡ Ok c
     → (names : List (List ℕ)) (steps : List Step) (after : List Plain)
@@ -113,7 +113,7 @@ element_spot list n = record { list = list; number = n }
 abbrev pub same_spot : Spot → Spot → Bool
 same_spot s t = nat_eq s.list.file t.list.file && (is_path s.list.path.steps t.list.path.steps && nat_eq s.number t.number)
 
--- whether the element of this number of the list at a place is one of those that go
+-- whether the element of this number of the list at a place is one of those that are removed
 abbrev pub goes : List Spot → CallRef → ℕ → Bool
 goes spots list n = list_any (λ s. same_spot s (element_spot list n)) spots
 
@@ -124,12 +124,12 @@ trees_without spots trees = each_without (λ file path n. goes spots (place file
 abbrev pub has_one_of : List (List ℕ) → Item Span → Bool
 has_one_of names i = list_any (λ name. has_text name i) names
 
--- whether what has the slot stands at the spot
+-- whether what has the slot is at the spot
 abbrev pub is_at : Spot → Slot → Bool
 is_at s (in_list c n) = same_spot s (element_spot c n)
 is_at s fixed = false
 
--- Each of the items that has one of these names stands at one of the spots, and at each spot stands such an item.
+-- Each of the items that has one of these names is at one of the spots, and such an item is at each spot.
 pub record AreSpotsOf (is : List (Item Span)) (names : List (List ℕ)) (spots : List Spot) : Type 0 where
   pub each : AllByRecursion (λ i. has_one_of names i ≡ true → list_any (λ s. is_at s i.slot) spots ≡ true) is
   pub only : AllByRecursion (λ s. list_any (λ i. has_one_of names i && is_at s i.slot) is ≡ true) spots
@@ -141,7 +141,7 @@ pub record NamesGo (marks : List (Mark Span)) (names : List (List ℕ)) (before 
   pub of_names : AreSpotsOf (items marks) (distinct names) spots
   pub left : after ≡ trees_without spots before
 
--- the laws: of the target's sources, or of its extra files, those that are named are gone from all lists that held them, and nothing else is
+-- The laws: of the target's sources, or of its extra files, those that are named are gone from all lists that held them, and nothing else is.
 abbrev pub SourcesAreRemoved : Type 0
 SourcesAreRemoved = (old : Loaded) → IsProject old → (id : List ℕ) (c : Placed (Call Span)) → the_call (project old) role.Target id ≡ Ok c
     → (names : List (List ℕ)) (steps : List Step) (after : List Plain)

@@ -11,7 +11,7 @@ use Rattle.meson_variables.specs.TargetSources.{sources_of_marks}
 use Rattle.meson_calls.specs.NamedArguments.{once}
 use Rattle.meson_sources.specs.SourceEdits.{extra_key, extra_marks}
 
--- A call with the keyword twice is refused. Where no list is met, a further file goes into the call.
+-- A call with the keyword twice is refused. If no list is met, a further file is added to the call.
 abbrev pub extra_of_call : Project Span → Placed (Call Span) → Result Sources Refusal
 extra_of_call p c = once extra_key (keyword extra_key c.it) (sources_of_marks c.place (extra_marks p c))
 

@@ -13,11 +13,11 @@ use Rattle.meson_steps.specs.Steps.{Step, all_stepped}
 use Rattle.meson_sources.specs.SourceEdits.{extra_removed, sources_removed}
 use Rattle.meson_sources.specs.WholeSources.{file_names}
 
--- the steps by which these names go from the call of a target
+-- the steps that remove these names from the call of a target
 abbrev pub Removes : Type 0
 Removes = Project Span → Placed (Call Span) → List (List ℕ) → Result (List Step) Refusal
 
--- Names go by the steps by which the first goes, and then by those by which the others go from the project that this leaves.
+-- Names are removed by the steps that remove the first, and then by those that remove the others from the project that this leaves.
 abbrev pub GoInTurn : Removes → Type 0
 GoInTurn removed = (old mid : Loaded) → IsProject old → IsProject mid → file_names mid ≡ file_names old → (id : List ℕ) (c d : Placed (Call Span))
     → the_call (project old) role.Target id ≡ Ok c → the_call (project mid) role.Target id ≡ Ok d
@@ -26,7 +26,7 @@ GoInTurn removed = (old mid : Loaded) → IsProject old → IsProject mid → fi
     → removed (project old) c (name ∷ more) ≡ Ok all
     → (rest : List Step) × (removed (project mid) d more ≡ Ok rest) × (all ≡ first ++ rest)
 
--- the laws: of sources, and of extra files
+-- the laws: for sources, and for extra files
 abbrev pub SourcesGoInTurn : Type 0
 SourcesGoInTurn = GoInTurn (λ p c names. sources_removed p c names)
 

@@ -10,7 +10,7 @@ use Rattle.meson_variables.specs.Expansion.{Item}
 use Rattle.meson_variables.specs.TargetSources.{items, source_marks}
 use Rattle.meson_sources.specs.SourceEdits.{extra_marks}
 
--- no two stand at one place
+-- no two are at one place
 abbrev pub StandApart : List (Item Span) → Type 0
 StandApart is = AllPairs (λ i j. i.place ≢ j.place) is
 

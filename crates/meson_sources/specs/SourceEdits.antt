@@ -1,4 +1,4 @@
--- Sources put into a target and taken out of it, and the same for its extra files. Meson manual, Rewriter: `target add`, `target rm`, `target add_extra_files`,
+-- Sources added to a target and removed from it, and the same for its extra files. Meson manual, Rewriter: `target add`, `target rm`, `target add_extra_files`,
 -- `target rm_extra_files`.
 use Rattle.std.specs.Prelude.{ℕ, zero, suc, ◌-◌, Bool, true, false, not, ◌&&◌, nat_eq, nat_lt, List, [], ◌∷◌, ◌++◌, length, codes, bytes_eq, Option, Some, None, ok_or, option_map, option_and_then, Result, Ok, Err}
 use Rattle.std.specs.List.{count_by, filter, list_any}
@@ -35,7 +35,7 @@ items_of name marks = filter (has_text name) (items marks)
 abbrev pub is_known : {S : Type 0} → List (Mark S) → List ℕ → Bool
 is_known marks name = list_any (has_text name) (items marks)
 
--- those that are no items yet
+-- those that are not items yet
 abbrev pub new_names : {S : Type 0} → List (Mark S) → List (List ℕ) → List (List ℕ)
 new_names marks names = filter (λ name. not (is_known marks name)) (distinct names)
 
@@ -44,7 +44,7 @@ new_names marks names = filter (λ name. not (is_known marks name)) (distinct na
 abbrev pub written_source : List ℕ → Written (Argument Nowhere)
 written_source name = record { bytes = literal name; node = plain (string_of name) }
 
--- one behind the other, into a list with so many elements without a name, behind the last of these
+-- in order, into a list with this number of elements without a name, after the last of these
 abbrev pub insertion_steps : CallRef → ℕ → List (List ℕ) → List Step
 insertion_steps list n [] = []
 insertion_steps list zero (name ∷ more) = step_in list (First list.path.steps (written_source name)) ∷ insertion_steps list 1 more
@@ -75,7 +75,7 @@ abbrev pub spot_of : Slot → Option Spot
 spot_of (in_list p n) = Some (record { list = p; number = n })
 spot_of fixed = None
 
--- all stand in lists
+-- all are in lists
 abbrev pub spots_of : {S : Type 0} → List (Item S) → Option (List Spot)
 spots_of [] = Some []
 spots_of (i ∷ more) = option_and_then (λ spot. option_map (λ spots. spot ∷ spots) (spots_of more)) (spot_of i.slot)
@@ -84,7 +84,7 @@ abbrev pub none_found : ℕ → Refusal
 none_found zero = SourceNotFound
 none_found (suc n) = Unresolved
 
--- the places of all items of a name, of which there has to be one
+-- the places of all items of a name; there must be at least one
 abbrev pub spots_by : {S : Type 0} → ℕ → List (Item S) → Result (List Spot) Refusal
 spots_by unknown [] = Err (none_found unknown)
 spots_by unknown (i ∷ more) = ok_or (spots_of (i ∷ more)) NotRemovable
@@ -103,16 +103,16 @@ is_path _ _ = false
 abbrev pub is_before : CallRef → ℕ → Spot → Bool
 is_before list n s = nat_eq s.list.file list.file && (is_path s.list.path.steps list.path.steps && nat_lt s.number n)
 
--- the number of an element of the list, once these elements have gone
+-- the number of an element of the list, once these elements are removed
 abbrev pub number_without : List Spot → CallRef → ℕ → ℕ
 number_without gone list n = n - count_by (is_before list n) gone
 
--- the path of what stands here, or under it, once they have gone
+-- the path of what is here, or under it, once they are removed
 abbrev pub path_without : List Spot → CallRef → List ℕ → List ℕ
 path_without gone here [] = []
 path_without gone here (n ∷ path) = number_without gone here n ∷ path_without gone (child here n) path
 
--- where an element stands then
+-- the place of an element then
 abbrev pub spot_without : List Spot → Spot → Spot
 spot_without gone s =
     record { list = place s.list.file (path_without gone (place s.list.file []) s.list.path.steps); number = number_without gone s.list s.number }
@@ -120,7 +120,7 @@ spot_without gone s =
 abbrev pub removal : Spot → Step
 removal s = step_in s.list (Remove s.list.path.steps s.number)
 
--- one after the other, each from where it stands once those before it have gone
+-- one after the other, each from its place once those before it are removed
 abbrev pub removals_after : List Spot → List Spot → List Step
 removals_after gone [] = []
 removals_after gone (s ∷ more) = removal (spot_without gone s) ∷ removals_after (s ∷ gone) more
@@ -128,7 +128,7 @@ removals_after gone (s ∷ more) = removal (spot_without gone s) ∷ removals_af
 abbrev pub removal_steps : List Spot → List Step
 removal_steps spots = removals_after [] spots
 
--- the steps by which what stands at spots goes
+-- the steps that remove what is at spots
 abbrev pub removed_at : Result (List Spot) Refusal → Result (List Step) Refusal
 removed_at found = then_ok found (λ spots. Ok (removal_steps spots))
 
@@ -157,7 +157,7 @@ array_with name = array (listing tt false (arguments_of (plain (string_of name) 
 abbrev pub written_keyword : List ℕ → Written (Argument Nowhere)
 written_keyword name = record { bytes = extra_key ++ (codes ": [" ++ (literal name ++ 93 ∷ [])); node = named tt (bare_name extra_key) (array_with name) }
 
--- the first into a new list, and the others behind it
+-- the first into a new list, and the others after it
 abbrev pub into_new_list : {S : Type 0} → Project S → CallRef → List (List ℕ) → List Step
 into_new_list p c [] = []
 into_new_list p c (name ∷ more) =
@@ -172,7 +172,7 @@ abbrev pub without_home : {S : Type 0} → Project S → CallRef → List (Numbe
 without_home p c [] names = Ok (into_new_list p c names)
 without_home p c (v ∷ more) names = behind_value c v.number (calls.literal_of v.value) names
 
--- into the list of the first item that stands in one, or the first list that holds nothing
+-- into the list of the first item that is in one, or the first empty list
 abbrev pub extra_inserted : {S : Type 0} → Project S → Placed (Call S) → Option CallRef → List (List ℕ) → Result (List Step) Refusal
 extra_inserted p c list [] = Ok []
 extra_inserted p c None (name ∷ more) = without_home p c.place (keyword extra_key c.it) (name ∷ more)

@@ -27,7 +27,7 @@ AllExtrasShrink = (old new : Loaded) → IsProject old → file_names new ≡ fi
 abbrev pub ExtrasGrow : List (List ℕ) → List ℕ → Placed (Call Span) → Project Span → Project Span → Type 0
 ExtrasGrow = FilesGrow extra_files
 
--- the law: after an addition a target has the extra files that it had and those that are added and were none of it, each once
+-- the law: after an addition a target has the extra files that it had and those that are added and were not there, each once
 abbrev pub AllExtrasGrow : Type 0
 AllExtrasGrow = (old new : Loaded) → IsProject old → file_names new ≡ file_names old → (id : List ℕ) (c : Placed (Call Span))
     → the_call (project old) role.Target id ≡ Ok c

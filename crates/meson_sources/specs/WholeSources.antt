@@ -1,4 +1,4 @@
--- All sources of a target after an addition and after a removal, by `sources`; what is said of them is said of its extra files too.
+-- All sources of a target after an addition and after a removal, by `sources`. What is said of them is said of its extra files too.
 use Rattle.std.specs.Prelude.{◌≡◌, ℕ, not, List, ◌++◌, map, All, Option, Some, Result, Ok}
 use Rattle.std.specs.List.{filter}
 use Rattle.std.specs.Str.{IsUtf8}
@@ -18,7 +18,7 @@ use Rattle.meson_steps.specs.ResultLimits.{plain_trees}
 use Rattle.meson_steps.specs.Steps.{Step, all_stepped}
 use Rattle.meson_sources.specs.SourceEdits.{new_names, sources_added, sources_removed}
 
--- These texts stand in one place among the others, which stay in their order.
+-- These texts are in one place among the others, which stay in their order.
 pub record TextsCome (new before after : List (List ℕ)) : Type 0 where
   pub front : List (List ℕ)
   pub back : List (List ℕ)
@@ -33,15 +33,15 @@ source_texts s = map (λ i. i.value) s.items
 abbrev pub Reading : Type 0
 Reading = Project Span → CallRef → Option (Result found.Sources Refusal)
 
--- The id names one target, by a call of the function that it had, with the first argument that it had if that is a literal.
+-- The id names one target, by a call of the function that it had. The call has the first argument that it had, if that is a literal.
 pub record StillNamed (id : List ℕ) (c : Placed (Call Span)) (q : Project Span) : Type 0 where
   pub call : Placed (Call Span)
   pub is_call : the_call q role.Target id ≡ Ok call
   pub function : call.it.function ≡ c.it.function
   pub first : first_literal call.it ≡ first_literal c.it
 
--- The one target that the id names stands where it stood. Its files are those that it had and, in one place among them, these.
--- As many as before are not known.
+-- The one target that the id names is where it was. Its files are those that it had and, in one place among them, these. The number of unknown expressions is
+-- as before.
 pub record FilesGrow (read : Reading) (new : List (List ℕ)) (id : List ℕ) (c : Placed (Call Span)) (p q : Project Span) : Type 0 where
   pub named : StillNamed id c q
   pub stays : named.call.place ≡ c.place
@@ -58,7 +58,7 @@ SourcesGrow = FilesGrow sources
 abbrev pub file_names : Loaded → List (List ℕ)
 file_names l = map (λ (f : File). f.name) l.files
 
--- the law: after an addition a target has the sources that it had and those that are added and were none of it, each once
+-- the law: after an addition a target has the sources that it had and those that are added and were not there, each once
 abbrev pub AllSourcesGrow : Type 0
 AllSourcesGrow = (old new : Loaded) → IsProject old → file_names new ≡ file_names old
     → (id : List ℕ) (c : Placed (Call Span)) → the_call (project old) role.Target id ≡ Ok c
@@ -66,7 +66,8 @@ AllSourcesGrow = (old new : Loaded) → IsProject old → file_names new ≡ fil
     → all_stepped steps (plain_trees old) ≡ Some (plain_trees new)
     → SourcesGrow (new_names (source_marks (project old) c) names) id c (project old) (project new)
 
--- The files of the one target that the id names are those that it had without the ones that are gone, in their order; and as many as before are not known.
+-- The files of the one target that the id names are those that it had without the ones that are removed, in their order. The number of unknown expressions is
+-- as before.
 pub record FilesShrink (read : Reading) (gone : List (List ℕ)) (id : List ℕ) (c : Placed (Call Span)) (p q : Project Span) : Type 0 where
   pub named : StillNamed id c q
   pub before : found.Sources

@@ -1,14 +1,14 @@
--- Trees without some of the elements of their lists. Every place and every number is one of the trees as they were.
+-- Trees without some of the elements of their lists. Every place and every number counts in the trees as they were.
 use Rattle.std.specs.Prelude.{ℕ, suc, ◌+◌, Bool, List, [], ◌∷◌, length, if◌then◌else◌}
 use Rattle.meson_syntax.specs.Children.{branches_parts, tail_parts}
 use Rattle.meson_syntax.specs.Tree.{Nowhere, Plain, Expression, paren, array, dictionary, call, unary, row, postfix, conditional, Operands, no_operands, operand, Tail, method, index, Tails, no_tails, tail, Listing, listing, Argument, plain, named, pair, Arguments, no_arguments, argument, arguments_of, Statement, evaluate, assign, selection, iteration, Branches, no_branches, branch, Otherwise, nothing_else, otherwise, Statements, no_statements, statement, Block, block, file}
 use Rattle.meson_edit.specs.Edits.{with_elements}
 
--- which elements go, by the path that leads to their list from here, and their number in it
+-- which elements are removed, by the path that leads to their list from here, and their number in it
 abbrev pub Gone : Type 0
 Gone = List ℕ → ℕ → Bool
 
--- the same from the n-th child of what stands here
+-- the same from the n-th child of what is here
 abbrev pub from_child : ℕ → Gone → Gone
 from_child n gone path k = gone (n ∷ path) k
 
@@ -17,7 +17,7 @@ abbrev pub but : {X : Type 0} → (ℕ → Bool) → List X → List X
 but gone [] = []
 but gone (x ∷ xs) = if gone 0 then but (λ n. gone (suc n)) xs else x ∷ but (λ n. gone (suc n)) xs
 
--- Every node is as it was, and so are its children, without what goes from the lists in them.
+-- Every node is as it was, and so are its children, without what is removed from the lists in them.
 abbrev mutual
   pub expression_without : Gone → Expression Nowhere → Expression Nowhere
   expression_without g (paren s e) = paren s (expression_without (from_child 0 g) e)
@@ -31,11 +31,11 @@ abbrev mutual
       conditional s (expression_without (from_child 0 g) c) (expression_without (from_child 1 g) y) (expression_without (from_child 2 g) n)
   expression_without g e = e
 
-  -- The list of an array, a dictionary or a call has its other elements, in their order; without any it has no comma.
+  -- The list of an array, a dictionary or a call has its other elements, in their order; if none is left it has no comma.
   pub listing_without : Gone → Listing Nowhere → Listing Nowhere
   listing_without g (listing s trailing list) = with_elements (listing s trailing list) (but (g []) (arguments_without g 0 list))
 
-  -- here and below: n is the number of the first child that stands in these parts of a node
+  -- here and below: n is the number of the first child in these parts of a node
   pub arguments_without : Gone → ℕ → Arguments Nowhere → List (Argument Nowhere)
   arguments_without g n no_arguments = []
   arguments_without g n (argument (plain e) more) = plain (expression_without (from_child n g) e) ∷ arguments_without g (suc n) more

@@ -24,7 +24,7 @@ use meson_syntax::{Arg, List, Parsed};
 use meson_variables::call_sources::{MAX_FOLLOWED, home_of, met};
 use meson_variables::variables::Variables;
 
-/// How many arguments have no name.
+/// The number of arguments without a name.
 fn count_plain(args: &[Arg]) -> usize
     ensures small { result < 2 ^ 63 }
     ensures counted { (source : Source) → result ≡ length (filter is_plain (args_view source args.now)) }
@@ -38,7 +38,7 @@ fn count_plain(args: &[Arg]) -> usize
     count
 }
 
-/// How many elements without a name the list at a place has.
+/// The number of elements without a name in the list at a place.
 pub(crate) fn plain_len(variables: &Variables<'_>, list: &CallRef) -> usize
     requires { AreParsed variables.now.files.now variables.now.trees.now }
     ensures small { result < 2 ^ 63 }
@@ -54,10 +54,10 @@ pub(crate) fn plain_len(variables: &Variables<'_>, list: &CallRef) -> usize
     }
 }
 
-/// The steps by which names are put into a list, behind its elements without a name.
+/// The steps that add names to a list, after its elements without a name.
 ///
 /// # Errors
-/// Memory is refused.
+/// Out of memory.
 pub(crate) fn insertions(
     variables: &Variables<'_>,
     list: &CallRef,
@@ -74,10 +74,10 @@ pub(crate) fn insertions(
     Ok(steps)
 }
 
-/// The steps by which sources are added: into the list of the first of its sources that stands in one.
+/// The steps that add sources: to the list of the first of its sources that is in one.
 ///
 /// # Errors
-/// A name is empty, `sources:` is there twice, or memory is refused.
+/// A name is empty, `sources:` is there twice, or out of memory.
 pub(crate) fn sources_added<'t>(
     variables: &Variables<'t>,
     call: &CallRef,
@@ -105,10 +105,10 @@ pub(crate) fn sources_added<'t>(
     Ok(steps)
 }
 
-/// The steps by which sources are removed, wherever they stand.
+/// The steps that remove sources, in whatever list they are.
 ///
 /// # Errors
-/// A name is empty, `sources:` is there twice, a name is none of the sources or one that stands in no list, or memory is refused.
+/// A name is empty, `sources:` is there twice, or out of memory. Or a name is not one of the sources, or is one that is in no list.
 pub(crate) fn sources_removed<'t>(
     variables: &Variables<'t>,
     call: &CallRef,

@@ -68,10 +68,10 @@ pub(crate) fn extra_met<'t>(
     Ok(marks)
 }
 
-/// What `extra_files:` holds, where it may be changed.
+/// What `extra_files:` holds, if it may be changed.
 ///
 /// # Errors
-/// A name is empty, the call may have hidden arguments or has `extra_files:` twice, or memory is refused.
+/// A name is empty, the call may have hidden arguments or has `extra_files:` twice, or out of memory.
 fn checked_extra<'t>(
     variables: &Variables<'t>,
     call: &CallRef,
@@ -117,7 +117,7 @@ fn written_keyword(alloc: Global, name: &Text) -> Result<Bytes, Refusal>
     Ok(Bytes::of(out))
 }
 
-/// Puts the first name into a new list, behind the last of so many arguments, and the others behind it.
+/// Puts the first name into a new list, after the last of `arguments` arguments, and the others after it.
 fn into_new_list(
     alloc: Global,
     call: &CallRef,
@@ -138,10 +138,10 @@ fn into_new_list(
     insert(alloc, &list, 1, &names[1..], steps)
 }
 
-/// Wraps the value of an argument, which has to be a literal, and puts the names behind it.
+/// Wraps the value of an argument, which has to be a literal, and adds the names after it.
 ///
 /// # Errors
-/// It is no literal, or memory is refused.
+/// It is not a literal, or out of memory.
 fn behind_value(
     alloc: Global,
     source: &[u8],
@@ -169,10 +169,10 @@ fn behind_value(
     insert(alloc, &list, 1, names, steps)
 }
 
-/// Puts names into the call where no list is met.
+/// Adds names to the call if no list is met.
 ///
 /// # Errors
-/// `extra_files:` is no literal, or memory is refused.
+/// `extra_files:` is not a literal, or out of memory.
 fn without_home(
     alloc: Global,
     source: &[u8],
@@ -207,7 +207,7 @@ fn without_home(
     }
 }
 
-/// The first place that is there.
+/// The first place, if there is one.
 fn first_of(list: Option<CallRef>, vacant: Option<CallRef>) -> Option<CallRef>
     ensures { result ≡ or_option list vacant }
 {
@@ -217,10 +217,10 @@ fn first_of(list: Option<CallRef>, vacant: Option<CallRef>) -> Option<CallRef>
     }
 }
 
-/// The steps by which extra files are added.
+/// The steps that add extra files.
 ///
 /// # Errors
-/// A name is empty, the call may have hidden arguments, its extra files are there twice or can't be changed, or memory is refused.
+/// A name is empty, the call may have hidden arguments, its extra files are there twice or can't be changed, or out of memory.
 pub(crate) fn extra_added<'t>(
     variables: &Variables<'t>,
     call: &CallRef,
@@ -256,11 +256,11 @@ pub(crate) fn extra_added<'t>(
     }
 }
 
-/// The steps by which extra files are removed, wherever they stand.
+/// The steps that remove extra files, in whatever list they are.
 ///
 /// # Errors
-/// A name is empty, the call may have hidden arguments or has `extra_files:` twice, a name is none of the extra files or one that stands in no list, or
-/// memory is refused.
+/// A name is empty, the call may have hidden arguments or has `extra_files:` twice, or out of memory. Or a name is not one of the extra files, or is one that
+/// is in no list.
 pub(crate) fn extra_removed<'t>(
     variables: &Variables<'t>,
     call: &CallRef,

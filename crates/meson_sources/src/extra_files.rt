@@ -21,7 +21,7 @@ use meson_variables::variables::Variables;
 /// The extra files of the call at a place.
 ///
 /// # Errors
-/// `extra_files:` is there twice, or memory is refused.
+/// `extra_files:` is there twice, or out of memory.
 pub fn extra_files_of<'t>(
     variables: &Variables<'t>,
     call: &CallRef,

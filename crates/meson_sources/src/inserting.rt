@@ -1,4 +1,4 @@
-//! Names put into a list.
+//! Names added to a list.
 
 ghost use Rattle.std.specs.Prelude.{◌≡◌, ◌<◌, ◌^◌, ◌++◌, IfErr, IfOk, OnOk, Some, map};
 ghost use Rattle.std.specs.List.{list_any};
@@ -29,7 +29,7 @@ pub(crate) fn is_known(items: &[SourceItem], name: &Text) -> bool
     false
 }
 
-/// The names that are no items yet, each once.
+/// The names that are not items yet, each once.
 pub(crate) fn new_names<'n>(
     alloc: Global,
     items: &[SourceItem],
@@ -42,7 +42,7 @@ pub(crate) fn new_names<'n>(
     Ok(new)
 }
 
-/// The list of the first item that stands in one, and the first list that holds nothing.
+/// The list of the first item that is in one, and the first empty list.
 pub(crate) fn places_of(marks: Marks<'_>) -> (Option<CallRef>, Option<CallRef>)
     ensures list { result.0 ≡ marks.entry.list }
     ensures vacant { result.1 ≡ marks.entry.vacant }
@@ -58,10 +58,10 @@ pub(crate) fn places_of(marks: Marks<'_>) -> (Option<CallRef>, Option<CallRef>)
     (list, vacant)
 }
 
-/// Puts names into a list, one behind the other, where so many elements are to stand before them.
+/// Adds names to a list, in order, after this number of elements.
 ///
 /// # Errors
-/// Memory is refused.
+/// Out of memory.
 pub(crate) fn insert(
     alloc: Global,
     list: &CallRef,

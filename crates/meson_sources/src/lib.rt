@@ -1,4 +1,4 @@
-//! Sources and extra files put into a target and taken out of it.
+//! Sources and extra files added to a target and removed from it.
 #![tactic(auto)]
 
 mod editing;

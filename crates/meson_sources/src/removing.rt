@@ -1,4 +1,4 @@
-//! Items taken out of their lists.
+//! Items removed from their lists.
 
 ghost use Rattle.std.specs.Prelude.{◌≡◌, ◌++◌, ◌∷◌, [], IfOk, None, Ok, OnOk, Some, true, length, map, option_map};
 ghost use Rattle.meson_calls.specs.Refusals.{IfRefused, RefusedAs};
@@ -34,7 +34,7 @@ fn is_before(spot: &ElementSpot, list: BorrowedPlace<'_>, number: usize) -> bool
     spot.file == list.file && (spot.list.as_slice() == list.path && spot.number < number)
 }
 
-/// The number of an element of a list, once others have gone.
+/// The number of an element of a list, once other elements are removed.
 fn number_without(gone: &[ElementSpot], list: BorrowedPlace<'_>, number: usize) -> usize
     ensures { result ≡ number_without (map spot_view gone.now) (place_at list.entry) number }
 {
@@ -47,7 +47,7 @@ fn number_without(gone: &[ElementSpot], list: BorrowedPlace<'_>, number: usize) 
     number.saturating_sub(before)
 }
 
-/// The path of a list, once elements have gone.
+/// The path of a list, once elements are removed.
 fn path_without(
     alloc: Global,
     gone: &[ElementSpot],
@@ -66,7 +66,7 @@ fn path_without(
     Ok(path)
 }
 
-/// Where a spot stands, once others have gone.
+/// The place of a spot, once others are removed.
 fn spot_without(
     alloc: Global,
     gone: &[ElementSpot],
@@ -85,7 +85,7 @@ fn spot_without(
     })
 }
 
-/// The steps by which elements go one after the other, each from where it stands then.
+/// The steps that remove elements one after the other, each from its place at that time.
 fn removals(alloc: Global, spots: &[ElementSpot]) -> Result<Vec<ListStep>, AllocError>
     ensures { IfOk result (λ steps. map Some steps.items ≡ map bare (removal_steps (map spot_view spots.now))) }
 {
@@ -98,7 +98,7 @@ fn removals(alloc: Global, spots: &[ElementSpot]) -> Result<Vec<ListStep>, Alloc
     Ok(steps)
 }
 
-/// Where an item stands, if it stands in a list.
+/// The spot of an item, if it is in a list.
 fn spot_of(
     alloc: Global,
     list: &Option<CallRef>,
@@ -126,10 +126,10 @@ fn push_spot(spots: &mut Vec<ElementSpot>, spot: ElementSpot) -> Result<(), Allo
     Ok(())
 }
 
-/// Adds where the items of a name stand, and tells whether there is one.
+/// Adds the spots of the items of a name, and returns whether there is one.
 ///
 /// # Errors
-/// One of them stands in no list, or memory is refused.
+/// One of them is in no list, or out of memory.
 fn find_spots(
     alloc: Global,
     marks: &Marks<'_>,
@@ -157,10 +157,10 @@ fn find_spots(
     Ok(found)
 }
 
-/// Where all items of names stand.
+/// The spots of all items of names.
 ///
 /// # Errors
-/// A name is none of the items, or one of them stands in no list, or memory is refused.
+/// A name is not one of the items, or one of them is in no list, or out of memory.
 pub(crate) fn spots_of(
     alloc: Global,
     marks: &Marks<'_>,
@@ -183,10 +183,10 @@ pub(crate) fn spots_of(
     Ok(spots)
 }
 
-/// The steps by which all items of names go, each from where it stands then.
+/// The steps that remove all items of names, each from its place at that time.
 ///
 /// # Errors
-/// A name is none of the items, or one of them stands in no list, or memory is refused.
+/// A name is not one of the items, or one of them is in no list, or out of memory.
 pub(crate) fn names_removed(
     alloc: Global,
     marks: &Marks<'_>,

@@ -27,10 +27,10 @@ pub enum TargetChange {
     ExtraRemoved,
 }
 
-/// The steps by which names are put into a target or taken out of it.
+/// The steps that add names to a target or remove them from it.
 ///
 /// # Errors
-/// There is no such target or more than one, or the names can't be put there or taken out, or memory is refused.
+/// There is no such target or more than one, or the names can't be added or removed, or out of memory.
 fn target_steps(
     alloc: Global,
     noted: &Noted<'_>,
@@ -60,7 +60,7 @@ fn target_steps(
 /// A change of a target.
 ///
 /// # Errors
-/// Why it is refused, or want of memory.
+/// Why it is refused, or out of memory.
 pub fn on_target(
     alloc: Global,
     noted: &Noted<'_>,

@@ -18,11 +18,11 @@ InverseRestoresFiles = (files more : List File) (s : Splice) → patched_in file
 abbrev pub InversesRestore : Type 0
 InversesRestore = (files more : List File) (splices : List Splice) → patched_all files splices ≡ Ok more → patched_all more (inverses_of splices) ≡ Ok files
 
--- one undo of so many is an undo
+-- one undo, as a number of undos, is an undo
 abbrev pub OneIsAnUndo : Type 0
 OneIsAnUndo = (h : History) (files : List File) → undone_times 1 h files ≡ undone h files
 
--- so many undos and then so many more are as many as both
+-- a number of undos and then another number are as many as both together
 abbrev pub UndosFollow : Type 0
 UndosFollow = (first more : ℕ) (h : History) (files : List File)
     → undone_times (first + more) h files ≡ then_ok (undone_times first h files) (λ s. undone_times more s.0 s.1)

@@ -1,4 +1,4 @@
--- What is told of a fault of a splice or of a step of the history.
+-- What is reported of a fault of a splice or of a step of the history.
 use Rattle.std.specs.Prelude.{ℕ, List, ◌++◌, codes, decimal}
 use Rattle.meson_splice.specs.declared.fault.SpliceFault.{SpliceFault}
 use Rattle.meson_splice.specs.declared.fault.SpliceFault.TheVariants.{NoFile, OutOfRange, Stale, NothingToUndo, NothingToRedo, OutOfMemory}

@@ -7,7 +7,7 @@ use Rattle.meson_splice.specs.declared.fault.SpliceFault.TheVariants.{NothingToR
 use Rattle.meson_splice.specs.declared.file_set.File.{File}
 use Rattle.meson_splice.specs.declared.history.History.{History}
 
--- the newest change comes first: it is taken back, and is the next to redo
+-- the newest change is first: it is taken back, and is the next to redo
 abbrev pub undone_from : List Change → List Change → List File → Result (History × List File) SpliceFault
 undone_from [] future files = Err NothingToUndo
 undone_from (c ∷ older) future files =
@@ -16,12 +16,12 @@ undone_from (c ∷ older) future files =
 abbrev pub undone : History → List File → Result (History × List File) SpliceFault
 undone h files = undone_from (reverse h.past) h.future files
 
--- so many undos, one after another
+-- a number of undos, one after another
 abbrev pub undone_times : ℕ → History → List File → Result (History × List File) SpliceFault
 undone_times zero h files = Ok (h, files)
 undone_times (suc n) h files = then_ok (undone_times n h files) (λ s. undone s.0 s.1)
 
--- the next to redo comes first: it is done again, and is the newest
+-- the next to redo is first: it is done again, and is the newest
 abbrev pub redone_from : List Change → List Change → List File → Result (History × List File) SpliceFault
 redone_from [] past files = Err NothingToRedo
 redone_from (c ∷ later) past files =
@@ -30,7 +30,7 @@ redone_from (c ∷ later) past files =
 abbrev pub redone : History → List File → Result (History × List File) SpliceFault
 redone h files = redone_from (reverse h.future) h.past files
 
--- So many of the oldest changes are forgotten: they stood first, and what is left stands as it did.
+-- This number of the oldest changes is dropped: they were first, and what is left is as it was.
 pub record Forgets (count : ℕ) (old new : History) : Type 0 where
   pub gone : List Change
   pub many : length gone ≡ count

@@ -13,14 +13,14 @@ pub record Patches (b : List ℕ) (s : Splice) (c : List ℕ) : Type 0 where
   pub place : length p ≡ s.at
   pub after : c ≡ p ++ s.now ++ q
 
--- the bytes after the splice, or the first of: its range runs past the end, other bytes stand there
+-- the bytes after the splice, or the first of: its range runs past the end, other bytes are there
 abbrev pub patched : List ℕ → Splice → Result (List ℕ) SpliceFault
 patched b s =
     if nat_le (s.at + length s.was) (length b)
     then (if bytes_eq (take (length s.was) (drop s.at b)) s.was then Ok (take s.at b ++ s.now ++ drop (s.at + length s.was) b) else Err (Stale s.file s.at))
     else Err (OutOfRange s.file s.at)
 
--- one step, and then another where it is done
+-- one step, and then another if it is done
 abbrev pub then_ok : {A B E : Type 0} → Result A E → (A → Result B E) → Result B E
 then_ok (Ok x) f = f x
 then_ok (Err e) f = Err e

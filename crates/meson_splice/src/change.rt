@@ -21,12 +21,12 @@ use std::alloc::{AllocError, Global};
 #[derive(Debug, Drop)]
 pub struct Change {
     pub splices: Many<Splice>,
-    /// What the change is for. It plays no part where the change is done or taken back.
+    /// What the change is for. It plays no part when the change is done or taken back.
     pub title: Text,
 }
 
 impl Change {
-    /// The change of these splices, without a title. Takes no memory.
+    /// The change of these splices, without a title. Does not allocate.
     pub fn untitled(alloc: Global, splices: Many<Splice>) -> Self
         ensures { result ≡ record { splices = splices; title = [] } }
     {
@@ -51,7 +51,7 @@ fn is_saved(saved: &[SavedBytes], place: usize) -> bool
     saved.iter().any(|s| s.place == place)
 }
 
-/// Puts other bytes into the file at that place. Those that it had are saved, unless bytes of it are saved already.
+/// Puts other bytes into the file at that place. Its former bytes are saved, unless bytes of it are saved already.
 fn exchange(
     files: &mut FileSet,
     saved: &mut Vec<SavedBytes>,
@@ -72,8 +72,8 @@ fn exchange(
     Ok(())
 }
 
-/// Does the splices behind the first `done`, up to the first that is at another file than this, on the bytes of it.
-/// Gives the bytes, and how many splices are done then.
+/// Does the splices after the first `done`, up to the first that is at another file than this, on the file's bytes. Gives the bytes, and the number of splices
+/// that are done then.
 fn patched_on(
     alloc: Global,
     file: &Text,
@@ -99,8 +99,8 @@ fn patched_on(
     Ok((text.close()?, next))
 }
 
-/// The place of a splice's file, and that file's bytes after the splice. Where bytes of it are saved, they are made of its own,
-/// of which it has none then.
+/// The place of a splice's file, and that file's bytes after the splice. If bytes of the file are saved, the result is made from the file's own bytes, and the
+/// file has none then.
 fn patched_at(
     alloc: Global,
     files: &mut FileSet,
@@ -123,8 +123,7 @@ fn patched_at(
     Ok((place, bytes))
 }
 
-/// Does the splice behind the first `done`, and those behind it up to the first that is at another file. Gives how many
-/// are done then.
+/// Does the splice after the first `done`, and those after it up to the first that is at another file. Gives the number of splices that are done then.
 fn step(
     alloc: Global,
     files: &mut FileSet,
@@ -147,7 +146,7 @@ fn step(
     Ok(next)
 }
 
-/// Puts saved bytes back, the newest first. Takes no memory.
+/// Puts saved bytes back, the newest first. Does not allocate.
 pub fn put_bytes_back(files: &mut FileSet, saved: Vec<SavedBytes>)
     ensures { files.new ≡ bytes_put_back saved.items files.old }
 {
@@ -158,7 +157,7 @@ pub fn put_bytes_back(files: &mut FileSet, saved: Vec<SavedBytes>)
     }
 }
 
-/// Does all splices that way, or those in front of the first that is refused.
+/// Does all splices that way, or those before the first that is refused.
 fn all_done(
     alloc: Global,
     files: &mut FileSet,
@@ -227,8 +226,8 @@ pub(crate) fn reverted(
     changed(alloc, files, Way::Backward, change.splices.get())
 }
 
-/// Does all splices of a change, first to last, or none. Splices at one file that follow one another copy it once, and then
-/// move what lies between their places.
+/// Does all splices of a change, first to last, or none. Splices at one file that follow one another copy it once. Then they move only what is between their
+/// places.
 pub fn apply_all(alloc: Global, files: &mut FileSet, change: &Change) -> Result<(), SpliceFault>
     ensures done { OnOk result (patched_all files.old change.now.splices ≡ Ok files.new) }
     ensures refused { IfErr result (λ e. e ≢ OutOfMemory → patched_all files.old change.now.splices ≡ Err e) }
@@ -238,12 +237,12 @@ pub fn apply_all(alloc: Global, files: &mut FileSet, change: &Change) -> Result<
     Ok(())
 }
 
-/// Does all splices of a change, first to last, and saves the bytes of each file of which none are saved. That copies the file
-/// once; where its bytes are saved already, its own are changed in place.
+/// Does all splices of a change, first to last. For each file of which no bytes are saved, it saves them, which copies the file once. If its bytes are saved
+/// already, its own are changed in place.
 ///
 /// # Errors
-/// A splice can't be done, or memory is refused. Splices in front of it may be done then, and the file may have lost its bytes,
-/// where they are saved. What is saved gives all of it back.
+/// A splice can't be done, or out of memory. Splices before it may be done then, and the file may have lost its bytes, if they are saved. What is saved gives
+/// all of it back.
 pub fn apply_saving(
     alloc: Global,
     files: &mut FileSet,
@@ -257,8 +256,8 @@ pub fn apply_saving(
     all_done(alloc, files, saved, Way::Forward, change.splices.get())
 }
 
-/// Takes all splices of a change back, last to first, or none. Splices at one file that follow one another copy it once, and
-/// then move what lies between their places.
+/// Takes all splices of a change back, last to first, or none. Splices at one file that follow one another copy it once. Then they move only what is between
+/// their places.
 pub fn revert(alloc: Global, files: &mut FileSet, change: &Change) -> Result<(), SpliceFault>
     ensures done { OnOk result (patched_all files.old (inverses_of change.now.splices) ≡ Ok files.new) }
     ensures refused { IfErr result (λ e. e ≢ OutOfMemory → patched_all files.old (inverses_of change.now.splices) ≡ Err e) }

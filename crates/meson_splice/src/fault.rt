@@ -8,20 +8,20 @@ use std::alloc::AllocError;
 use std::error::Error;
 use std::fmt;
 
-/// Why files can't be changed so. Offsets are in bytes.
+/// Why files can't be changed as requested. Offsets are in bytes.
 #[derive(Debug, Drop, PartialEq)]
 pub enum SpliceFault {
     /// The set has no file of this name.
     NoFile(Text),
-    /// The replaced range, from this offset on, runs past the end of the file.
+    /// The replaced range, from this offset on, extends past the end of the file.
     OutOfRange(Text, usize),
-    /// Other bytes than the replaced ones stand at this offset.
+    /// Other bytes than the replaced ones are at this offset.
     Stale(Text, usize),
-    /// No change stands that could be taken back.
+    /// There is no change to take back.
     NothingToUndo,
-    /// No change was taken back that could be done again.
+    /// There is no undone change to do again.
     NothingToRedo,
-    /// A growth was refused.
+    /// An allocation failed.
     OutOfMemory,
 }
 

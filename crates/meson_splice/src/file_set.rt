@@ -31,10 +31,10 @@ impl Clone for File {
 /// Why a file can't be added.
 #[derive(Clone, Copy, Debug, PartialEq, Eq, Error)]
 pub enum PushFault {
-    /// A file of this name is there.
+    /// There is a file of this name already.
     #[error("F1 name twice")]
     NameTwice,
-    /// A growth was refused.
+    /// An allocation failed.
     #[error("out of memory")]
     OutOfMemory,
 }
@@ -58,7 +58,7 @@ pub struct Unpushed {
     pub fault: PushFault,
 }
 
-/// Files in order, no two of one name. Contracts see the list of them.
+/// Files in order, with different names. Contracts see the list of them.
 #[derive(Debug, Drop)]
 pub struct FileSet {
     files: Vec<File>,
@@ -86,7 +86,7 @@ impl Clone for FileSet {
 }
 
 impl FileSet {
-    /// No files. Takes no memory.
+    /// No files. Does not allocate.
     pub fn new(alloc: Global) -> Self
         ensures { result ≡ [] }
     {
@@ -95,7 +95,7 @@ impl FileSet {
         }
     }
 
-    /// How many files there are.
+    /// The number of files.
     pub fn len(&self) -> usize
         ensures { result ≡ length self.now }
     {
@@ -132,10 +132,10 @@ impl FileSet {
         self.files.iter().position(|f| f.name.get() == name)
     }
 
-    /// Adds a file behind the others, or hands both values back.
+    /// Adds a file after the others, or hands both values back.
     pub fn push(&mut self, name: String, bytes: Vec<u8>) -> Result<(), Unpushed>
         ensures ok { OnOk result (self.new ≡ self.old ++ record { name = string_bytes name; bytes = bytes.items } ∷ []) }
-        // The name is there exactly where the fault says so.
+        // The name is there exactly if the fault says so.
         ensures twice { IfErr result (λ u. (u.fault ≡ PushFault.NameTwice) ↔ IsSome (position_of_file (string_bytes name) self.old)) }
         ensures new_name { OnOk result (IsNone (position_of_file (string_bytes name) self.old)) }
         ensures handed_back { IfErr result (λ u. (u.name ≡ string_bytes name) × (u.bytes ≡ bytes.items)) }
@@ -162,10 +162,10 @@ impl FileSet {
         })
     }
 
-    /// Adds a file behind the others, of which none has its name.
+    /// Adds a file after the others; none of them has its name.
     ///
     /// # Errors
-    /// Want of memory.
+    /// Out of memory.
     pub fn push_new(&mut self, name: String, bytes: Vec<u8>) -> Result<(), AllocError>
         requires { IsNone (position_of_file (string_bytes name) self.old) }
         ensures ok { OnOk result (self.new ≡ self.old ++ record { name = string_bytes name; bytes = bytes.items } ∷ []) }
@@ -189,7 +189,7 @@ impl FileSet {
         Ok(FileSet { files })
     }
 
-    /// How many files have other bytes in `after`, which has the same names in the same order.
+    /// The number of files whose bytes differ in `after`, which has the same names in the same order.
     pub fn count_differing(&self, after: &FileSet) -> usize
         requires { map (λ f. f.name) self.now ≡ map (λ f. f.name) after.now }
         ensures { result ≡ differing self.now after.now }
@@ -203,7 +203,7 @@ impl FileSet {
         count
     }
 
-    /// Puts other bytes into file `i`, and gives those that it had.
+    /// Puts other bytes into file `i`, and returns its former bytes.
     pub(crate) fn exchange(&mut self, i: usize, bytes: Bytes) -> Bytes
         requires { i < length self.old }
         ensures files { self.new ≡ with_bytes i bytes self.old }
@@ -212,7 +212,7 @@ impl FileSet {
         mem::replace(&mut self.files[i].bytes, bytes)
     }
 
-    /// Puts bytes back into file `i`, where there is one.
+    /// Puts bytes back into file `i`, if there is one.
     pub(crate) fn restore(&mut self, i: usize, bytes: Bytes)
         ensures { self.new ≡ with_bytes i bytes self.old }
     {

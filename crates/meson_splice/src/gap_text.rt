@@ -1,4 +1,4 @@
-//! A text that is open at one place, where bytes are cut off and put in.
+//! A text that is open at one place, where bytes are removed and inserted.
 
 ghost use Rattle.std.specs.Prelude.{◌≡◌, ◌≢◌, ◌≤◌, ◌++◌, Err, IfErr, IfOk, Ok, OnOk, length, reverse};
 ghost use Rattle.meson_splice.specs.inside.Borrowed.{splice_of};
@@ -11,14 +11,14 @@ use crate::splice::Borrowed;
 use meson_values::Bytes;
 use std::alloc::{AllocError, Global};
 
-/// The bytes of `front`, and behind them those of `back` from its end to its start.
+/// The bytes of `front`, followed by those of `back` from its end to its start.
 #[derive(Drop)]
 pub(crate) struct GapText {
     front: Vec<u8>,
     back: Vec<u8>,
 }
 
-/// Puts bytes behind others, the last of them first.
+/// Appends bytes to others, the last of them first.
 fn push_reversed(bytes: &mut Vec<u8>, more: &[u8]) -> Result<(), AllocError>
     ensures { OnOk result (bytes.new.items ≡ bytes.old.items ++ reverse more.now) }
 {
@@ -29,7 +29,7 @@ fn push_reversed(bytes: &mut Vec<u8>, more: &[u8]) -> Result<(), AllocError>
 }
 
 impl GapText {
-    /// The text of these bytes, open at its end. Takes no memory.
+    /// The text of these bytes, open at its end. Does not allocate.
     pub(crate) fn of(alloc: Global, bytes: Bytes) -> Self
         ensures { gap_text result ≡ bytes }
     {
@@ -39,7 +39,7 @@ impl GapText {
         }
     }
 
-    /// Opens the text at that offset. What is moved is what lies between there and where it was open.
+    /// Opens the text at that offset. Only what is between there and the place where it was open is moved.
     fn open_at(&mut self, at: usize) -> Result<(), AllocError>
         requires { at ≤ length (gap_text self.old) }
         ensures text { OnOk result (gap_text self.new ≡ gap_text self.old) }
@@ -57,7 +57,7 @@ impl GapText {
         Ok(())
     }
 
-    /// Does a splice. After a refusal the text is of no use.
+    /// Does a splice. After a refusal the text must not be used.
     pub(crate) fn patch(&mut self, splice: Borrowed<'_>) -> Result<(), SpliceFault>
         ensures done { OnOk result (patched (gap_text self.old) (splice_of splice.entry) ≡ Ok (gap_text self.new)) }
         ensures refused { IfErr result (λ e. e ≢ OutOfMemory → patched (gap_text self.old) (splice_of splice.entry) ≡ Err e) }

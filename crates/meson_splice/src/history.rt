@@ -11,7 +11,7 @@ use meson_values::Many;
 use std::alloc::{AllocFailed, Global};
 use std::mem;
 
-/// The changes that stand and those that were undone. In each the next to undo or redo comes last.
+/// The changes that were done and those that were undone. In each list the next to undo or redo is last.
 #[derive(Debug, Drop)]
 pub struct History {
     pub past: Many<Change>,
@@ -37,7 +37,7 @@ impl From<AllocFailed<Change>> for Unkept {
 }
 
 impl History {
-    /// No changes. Takes no memory.
+    /// No changes. Does not allocate.
     pub fn new(alloc: Global) -> Self
         ensures { result ≡ record { past = []; future = [] } }
     {
@@ -47,14 +47,14 @@ impl History {
         }
     }
 
-    /// How many changes can be undone and redone.
+    /// The number of changes that can be undone, and of those that can be redone.
     pub fn depths(&self) -> (usize, usize)
         ensures { result ≡ (length self.now.past, length self.now.future) }
     {
         (self.past.get().len(), self.future.get().len())
     }
 
-    /// Puts a change that was done on the past. What was undone can't be redone from then on.
+    /// Adds a change that was done to the past. What was undone can't be redone from then on.
     pub fn keep(&mut self, change: Change) -> Result<(), Unkept>
         ensures ok { OnOk result (self.new ≡ record { past = self.old.past ++ change ∷ []; future = [] }) }
         ensures err { IfErr result (λ u. u ≡ record { change = change; fault = OutOfMemory }) }
@@ -84,7 +84,7 @@ impl History {
         }
     }
 
-    /// Does the change that was undone last again. It is then the newest.
+    /// Does again the change that was undone last. It is then the newest.
     pub fn redo(&mut self, alloc: Global, files: &mut FileSet) -> Result<(), SpliceFault>
         ensures done { OnOk result (redone self.old files.old ≡ Ok (self.new, files.new)) }
         ensures refused { IfErr result (λ e. e ≢ OutOfMemory → redone self.old files.old ≡ Err e) }
@@ -103,7 +103,7 @@ impl History {
         }
     }
 
-    /// Lets the oldest changes go, so many of those that can be undone. Takes no memory.
+    /// Drops this number of the oldest changes that can be undone. Does not allocate.
     ///
     /// # Errors
     /// There are fewer. Nothing is changed then.
@@ -121,7 +121,7 @@ impl History {
         Ok(())
     }
 
-    /// Lets all changes go, those that can be undone and those that can be redone. Takes no memory.
+    /// Drops all changes, those that can be undone and those that can be redone. Does not allocate.
     pub fn forget_all(&mut self)
         ensures { self.new ≡ record { past = []; future = [] } }
     {

@@ -2,7 +2,7 @@
 
 ghost use Rattle.meson_splice.specs.Laws.{InverseRestores, InverseRestoresFiles, InversesRestore, OneIsAnUndo, PatchedMeansPatches, UndosFollow};
 
-/// A splice is done exactly where the text is a front, the old bytes and a rest; then it is the front, the new bytes and the rest.
+/// A splice is done exactly if the text is a front, the old bytes and a rest. Then it is the front, the new bytes and the rest.
 pub fn patched_means_patches()
     ensures { PatchedMeansPatches }
 {}
@@ -18,7 +18,7 @@ pub fn inverses_restore()
     ensures { InversesRestore }
 {}
 
-/// So many undos are undos one after another: one of them is an undo, and so many and then so many more are as many as both.
+/// A number of undos are undos one after another. One of them is an undo, and `n` and then `m` of them are `n + m` of them.
 pub fn undos_follow()
     ensures one { OneIsAnUndo }
     ensures more { UndosFollow }

@@ -1,4 +1,4 @@
-//! One splice: bytes of a file that become other bytes.
+//! One splice: bytes of a file that are replaced by other bytes.
 
 ghost use Rattle.std.specs.Prelude.{◌≡◌, ◌≢◌, ◌+◌, ◌<◌, ◌≤◌, ◌++◌, Err, IfErr, IfOk, Ok, OnErr, OnOk, Some, drop, length, take};
 ghost use Rattle.meson_splice.specs.inside.Borrowed.{splice_of};
@@ -20,7 +20,7 @@ pub struct Splice {
     pub now: Bytes,
 }
 
-/// The splice that takes this one back. Takes no memory.
+/// The splice that takes this one back. Does not allocate.
 pub fn inverse(splice: Splice) -> Splice
     ensures { result ≡ inverse_of splice }
 {
@@ -33,7 +33,7 @@ pub fn inverse(splice: Splice) -> Splice
     }
 }
 
-/// A front, other bytes and a rest, one behind another.
+/// A front, other bytes and a rest, joined.
 fn replaced(alloc: Global, front: &[u8], new: &[u8], rest: &[u8]) -> Result<Bytes, AllocError>
     ensures { IfOk result (λ b. b ≡ front.now ++ new.now ++ rest.now) }
 {
@@ -45,8 +45,7 @@ fn replaced(alloc: Global, front: &[u8], new: &[u8], rest: &[u8]) -> Result<Byte
     Ok(Bytes::of(bytes))
 }
 
-/// Puts other bytes in the place of those between two offsets. What stands behind these is moved once, and what stands before
-/// them not at all.
+/// Replaces the bytes between two offsets. What is after these is moved once, and what is before them not at all.
 fn replace_between(
     bytes: &mut Vec<u8>,
     from: usize,
@@ -61,7 +60,7 @@ fn replace_between(
     Ok(())
 }
 
-/// A splice that is lent, as it is or taken back.
+/// A splice that is borrowed, as it is or taken back.
 #[derive(Clone, Copy)]
 pub(crate) struct Borrowed<'a> {
     pub file: &'a Text,
@@ -93,7 +92,7 @@ impl<'a> Borrowed<'a> {
         }
     }
 
-    /// The offset behind the old bytes, where these stand.
+    /// The offset after the old bytes, if these are there.
     fn end_in(self, bytes: &[u8]) -> Result<usize, SpliceFault>
         ensures inside { IfOk result (λ end. (self.entry.at ≤ end) × (end ≤ length bytes.now)) }
         ensures done { let s = splice_of self.entry in
@@ -110,7 +109,7 @@ impl<'a> Borrowed<'a> {
         Ok(end)
     }
 
-    /// The file's bytes after the splice, beside those before it.
+    /// The file's bytes after the splice, next to those before it.
     pub(crate) fn patched(self, alloc: Global, bytes: &[u8]) -> Result<Bytes, SpliceFault>
         ensures done { IfOk result (λ c. patched bytes.now (splice_of self.entry) ≡ Ok c) }
         ensures refused { IfErr result (λ e. e ≢ OutOfMemory → patched bytes.now (splice_of self.entry) ≡ Err e) }

@@ -1,4 +1,4 @@
-//! Which way a change is gone through.
+//! The way in which a change is applied: forward or back.
 
 ghost use Rattle.std.specs.Prelude.{◌+◌, ◌<◌, ◌∷◌, ◌≡◌, drop, length};
 ghost use Rattle.meson_splice.specs.inside.Borrowed.{splice_of};
@@ -14,7 +14,7 @@ pub(crate) enum Way {
 }
 
 impl Way {
-    /// The splice that comes behind so many.
+    /// The splice after the first `n`.
     pub(crate) fn at<'a>(self, splices: &'a [Splice], n: usize) -> Borrowed<'a>
         requires { n < length splices.now }
         ensures { drop n (ordered self splices.now) ≡ splice_of result ∷ drop (n + 1) (ordered self splices.now) }

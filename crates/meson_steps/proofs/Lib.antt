@@ -7,6 +7,8 @@ pub mod OtherBytes
 mod Spliced
 mod Restoring
 mod ListTaken
+mod ExchangedTwice
+mod ListFollowed
 mod ListSpots
 mod ReadAgain
 mod ListChanged

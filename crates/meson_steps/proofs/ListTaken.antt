@@ -1,6 +1,6 @@
 -- A list that is read alone in the place of another one: the borders that move stay in their text, and the old list undoes it.
-use Rattle.std.proofs.Common.{◌≡◌, ℕ, ◌+◌, ◌≤◌, List, [], ◌++◌, length, length-append, sym, ap, ap₂, ◌∙◌, subst, arith}
-use Rattle.std.specs.Prelude.{Some}
+use Rattle.std.proofs.Common.{◌≡◌, ℕ, ◌+◌, ◌-◌, ◌<◌, ◌≤◌, List, [], ◌++◌, length, length-append, sym, ap, ap₂, ◌∙◌, subst, arith}
+use Rattle.std.specs.Prelude.{◌^◌, Some}
 use Rattle.meson_lex.specs.declared.kinds.Span.{Span}
 use Rattle.meson_lex.specs.Items.{joined}
 use Rattle.meson_lex.specs.Significant.{Word, start}
@@ -107,6 +107,18 @@ module _ (t : Parsed) (new : SavedList) (m : MayTake t new) where
         inside = omega (arith, end.0, after_is);
         ends = end.1;
         fits = omega (arith, end.0, before_is, after_is, m.before_fits);
+      }
+
+  -- for a list of any number of bytes
+  pub may_go_on : (len : ℕ) → (t.span.to - new.was) + len < 2 ^ 64 → MayShift new.from new.now len taken
+  may_go_on len fits =
+      let before = trees-end wide m.bytes t m.is.spanned in
+      let end = trees-end wide after taken taken_spanned in
+      record {
+        some = now_some;
+        inside = omega (arith, end.0, after_is);
+        ends = end.1;
+        fits = omega (arith, fits, before.0, end.0, before_is, after_is);
       }
 
   module _ (old : rust.List) (gives : (source : List ℕ) (r : ListAt Span) → list_at (view source (moved_parsed (moved (new.from + new.was) new.was new.now) t)) path ≡ Some r → list_view source old ≡ r.list) where

@@ -32,6 +32,14 @@ changed_back zero change undo (t ∷ trees) is = ap (λ x. x ∷ trees) (is t (o
 changed_back (suc i) change undo (t ∷ trees) is =
     ap (λ ts. t ∷ ts) (changed_back i change undo trees (λ d within. let next : suc i < length (t ∷ trees) = omega (arith, within) in is d next))
 
+-- two changes, and one in their place
+pub changed_twice : (i : ℕ) (first second once : Parsed → Parsed) (trees : List Parsed) → ((d : Parsed) → i < length trees → second (first (get_or trees i d)) ≡ once (get_or trees i d))
+    → changed_tree i second (changed_tree i first trees) ≡ changed_tree i once trees
+changed_twice i first second once [] is = refl
+changed_twice zero first second once (t ∷ trees) is = ap (λ x. x ∷ trees) (is t (omega arith))
+changed_twice (suc i) first second once (t ∷ trees) is =
+    ap (λ ts. t ∷ ts) (changed_twice i first second once trees (λ d within. let next : suc i < length (t ∷ trees) = omega (arith, within) in is d next))
+
 -- ---- the last of what is saved
 
 pub put_back_push : (more : List Saved) (s : Saved) (trees : List Parsed) → put_back (more ++ s ∷ []) trees ≡ put_back more (put_one s trees)
@@ -51,6 +59,14 @@ pub puts_back_more : (more : List Saved) (s : Saved) (trees after first : List P
 puts_back_more more s trees after first may is p = record {
   may = may_push more s after may (subst (MayPutBack more) (sym is) p.may);
   gives = put_back_push more s after ∙ ap (put_back more) is ∙ p.gives;
+}
+
+-- what is saved with another one as its last, which undoes what the last one undid before
+pub puts_back_other : (more : List Saved) (s u : Saved) (trees after first : List Parsed) → MayPut u after → put_one u after ≡ put_one s trees → PutsBack (more ++ s ∷ []) trees first
+    → PutsBack (more ++ u ∷ []) after first
+puts_back_other more s u trees after first may is p = record {
+  may = may_push more u after may (subst (MayPutBack more) (sym is) (may_pop more s trees p.may).1);
+  gives = put_back_push more u after ∙ ap (put_back more) is ∙ sym (put_back_push more s trees) ∙ p.gives;
 }
 
 -- a tree that is exchanged

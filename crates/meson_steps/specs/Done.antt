@@ -1,4 +1,4 @@
--- What becomes of a project by steps that are meant, or why they are refused.
+-- The result of steps that are meant on a project, or why they are refused.
 use Rattle.std.specs.Prelude.{◌≡◌, List, Result, Ok, Err}
 use Rattle.meson_calls.specs.declared.refusal.Refusal.{Refusal}
 use Rattle.meson_calls.specs.declared.refusal.Refusal.TheVariants.{TooDeep, TooLarge}
@@ -21,7 +21,7 @@ pub record IsDone (old : Loaded) (meant : Meaning) (w : Work) : Type 0 where
   pub small : AreSmall w.files
   pub project : IsProject (so_far w)
 
--- No steps are meant, or those that are make something that passes a limit.
+-- No steps are meant, or the result of those that are passes a limit.
 pub data MayNotBeDone (old : Loaded) (meant : Meaning) : Refusal → Type 0 where
   unmeant : (e : Refusal) → meant ≡ Err e → MayNotBeDone old meant e
   deep : (steps : List Step) (w : Work) → meant ≡ Ok steps → IsMade old steps w → (AreShallow (plain_trees (so_far w)) → ⊥) → MayNotBeDone old meant TooDeep

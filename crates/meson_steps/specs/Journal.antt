@@ -1,4 +1,4 @@
--- What steps exchanged, and the trees once it is put back.
+-- What steps replaced, and the trees once it is put back.
 use Rattle.std.specs.List.{list_any}
 use Rattle.std.specs.Prelude.{◌≡◌, ℕ, zero, suc, ◌+◌, ◌-◌, ◌^◌, ◌<◌, ◌≤◌, Bool, List, [], ◌∷◌, ◌++◌, ◌==◌, length, slice_index_or, slice_set, ⊤}
 use Rattle.meson_lex.specs.declared.kinds.Span.{Span}
@@ -14,25 +14,25 @@ use Rattle.meson_steps.specs.declared.journal.SavedList.{SavedList}
 
 -- ---- trees
 
--- the trees with the i-th one changed; where there are no more than i, they stay
+-- the trees with the i-th one changed; if there are no more than i, they stay
 abbrev pub changed_tree : ℕ → (Parsed → Parsed) → List Parsed → List Parsed
 changed_tree i change [] = []
 changed_tree zero change (t ∷ trees) = change t ∷ trees
 changed_tree (suc i) change (t ∷ trees) = t ∷ changed_tree i change trees
 
--- the trees with what one step exchanged put back
+-- the trees with what one step replaced put back
 abbrev pub put_one : Saved → List Parsed → List Parsed
 put_one (saved.Tree file tree) trees = slice_set trees file tree
 put_one (saved.List s) trees = changed_tree s.place.file (list_exchanged s.place.path.steps s.from s.now s.was s.list) trees
 
--- the trees with all of it put back, the newest, which comes last, first
+-- the trees with all of it put back, the newest, which is last, first
 abbrev pub put_back : List Saved → List Parsed → List Parsed
 put_back [] trees = trees
 put_back (s ∷ more) trees = put_one s (put_back more trees)
 
 -- ---- borders
 
--- The borders of a tree may move as they do where the `was` bytes at `from` become `now` bytes.
+-- The borders of a tree may move as they do when the `was` bytes at `from` become `now` bytes.
 pub record MayShift (from was now : ℕ) (t : Parsed) : Type 0 where
   pub some : 1 ≤ was
   pub inside : from + was ≤ t.span.to
@@ -65,7 +65,7 @@ is_saved file saved = list_any (λ s. saved_file s == file) saved
 
 -- ---- lists
 
--- What is read of the text `now`, the list of `new`, may take the place of the list that stands there in the tree.
+-- The list of `new`, which is parsed from the text `now`, may take the place of the list that is there in the tree.
 pub record MayTake (t : Parsed) (new : SavedList) : Type 0 where
   pub bytes : List ℕ
   pub p : ListAt Span

@@ -26,7 +26,7 @@ pub data StepsKeep : List File → List Step → List File → Type 0 where
   step : (files last : List File) (s : Step) (steps : List Step) (text : List ℕ) → StepKeeps files s text
       → StepsKeep (with_bytes s.file text files) steps last → StepsKeep files (s ∷ steps) last
 
--- Steps that make splices keep so.
+-- Steps that make splices do so.
 abbrev pub MakingKeeps : Type 0
 MakingKeeps = (files : List File) (steps : List Step) (splices : List Splice) (last : List File) (bytes : ℕ) → StepsMake files steps splices last bytes
     → StepsKeep files steps last

@@ -10,7 +10,7 @@ use Rattle.meson_steps.specs.declared.step.ListStep.{ListStep}
 use Rattle.meson_calls.specs.Project.{place}
 use Rattle.meson_steps.specs.Steps.{Step, stepped}
 
--- ---- what the steps of the code stand for
+-- ---- what the steps of the code mean
 
 -- an edit without the tree that is written
 abbrev pub bare_edit : Edit → Option ListEdit
@@ -41,7 +41,7 @@ AreBare steps code = map bare steps ≡ map Some code
 
 -- ---- what may be done
 
--- so deep may a tree nest between two steps of one command
+-- the depth to which a tree may nest between two steps of one command
 abbrev pub wide_depth : ℕ
 wide_depth = 65
 

@@ -1,4 +1,4 @@
--- The steps of the code against those that are meant.
+-- The steps of the code compared with those that are meant.
 use Rattle.std.specs.Prelude.{◌≡◌, List, ◌++◌, map, Some, Result, Ok}
 use Rattle.meson_calls.specs.declared.refusal.Refusal.{Refusal}
 use Rattle.meson_steps.specs.declared.step.ListStep.{ListStep}

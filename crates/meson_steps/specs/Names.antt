@@ -10,7 +10,7 @@ checked_names [] = Ok tt
 checked_names ([] ∷ more) = Err BadName
 checked_names ((b ∷ bs) ∷ more) = checked_names more
 
--- each once, where it comes first
+-- each once, at its first place
 abbrev pub distinct_by : List (List ℕ) → List (List ℕ) → List (List ℕ)
 distinct_by seen [] = []
 distinct_by seen (x ∷ xs) = if one_of seen x then distinct_by seen xs else x ∷ distinct_by (x ∷ seen) xs

@@ -1,4 +1,4 @@
--- What is asked of the result of steps.
+-- What is checked of the result of steps.
 use Rattle.std.specs.Prelude.{◌≤◌, ℕ, ◌-◌, ◌^◌, min, List, map, All, length}
 use Rattle.meson_splice.specs.declared.file_set.File.{File}
 use Rattle.meson_syntax.specs.Tree.{Plain, erase}
@@ -9,7 +9,7 @@ use Rattle.meson_calls.specs.Loading.{Loaded, trees}
 abbrev pub plain_trees : Loaded → List Plain
 plain_trees l = map erase (trees l)
 
--- ---- the limits, which are asked of the result
+-- ---- the limits, which are checked of the result
 
 abbrev pub AreShallow : List Plain → Type 0
 AreShallow ts = All (λ t. file_depth t ≤ max_depth) ts

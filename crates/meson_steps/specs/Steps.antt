@@ -53,7 +53,7 @@ all_stepped (s ∷ steps) trees = option_and_then (all_stepped steps) (stepped s
 abbrev pub effective : List Splice → List Splice
 effective splices = filter (λ s. not (bytes_eq s.was s.now)) splices
 
--- The splices of a step are the layout of its edit in the file as it stands, and give that file another text; what they take away and put in is text.
+-- The splices of a step are the layout of its edit in the file as it is, and give that file another text. What they remove and insert is text.
 pub record Laid (files : List File) (s : Step) (splices : List Splice) : Type 0 where
   pub file : tree.File Span
   pub limits : Limits
@@ -81,17 +81,17 @@ list_of (Wrap path n) = Some path
 list_of (RemoveStatement path n) = None
 list_of (Append new) = None
 
--- how many bytes are read again where a file's text becomes another one: those of the list that changes, or all of them
+-- the number of bytes that are read again when a file's text changes: those of the list that changes, or all of them
 abbrev pub bytes_again : Option (ListAt Span) → (before after : List ℕ) → ℕ
 bytes_again None before after = length after
 bytes_again (Some p) before after = (((list_span p.list).to - (list_span p.list).from) + length after) - length before
 
--- how many after splices of an edit
+-- the same number after splices of an edit
 abbrev pub read_again : Edit → tree.File Span → List Splice → (before after : List ℕ) → ℕ
 read_again e f [] before after = 0
 read_again e f (s ∷ splices) before after = bytes_again (option_and_then (list_at f) (list_of e)) before after
 
--- Steps one after another make splices, and files, and have so many bytes read again.
+-- Steps one after another make splices, and files, and have this number of bytes read again.
 pub data StepsMake : List File → List Step → List Splice → List File → ℕ → Type 0 where
   none : (files : List File) → StepsMake files [] [] files 0
   step : (files between last : List File) (s : Step) (steps : List Step) (here later : List Splice) (bytes : ℕ)

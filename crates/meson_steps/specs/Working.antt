@@ -1,4 +1,4 @@
--- Where the work stands between two steps of a command.
+-- The state of the work between two steps of a command.
 use Rattle.std.specs.Prelude.{◌≡◌, ℕ, ◌+◌, ◌<◌, ◌≤◌, List, [], ◌++◌, All, length, slice_index_or, Some, Ok, if◌then◌else◌}
 use Rattle.meson_lex.specs.declared.kinds.Span.{Span}
 use Rattle.meson_splice.specs.declared.file_set.File.{File}
@@ -28,7 +28,7 @@ use Rattle.meson_steps.specs.Steps.{Step, StepsMake, all_stepped}
 
 -- ---- one step
 
--- The splices of the file of a list can be made. They exchange no byte outside the list, and its new text reads as a list.
+-- The splices of the file of a list can be made. They replace no byte outside the list, and its new text parses as a list.
 pub record MayReadList (before : List File) (file : ℕ) (splices : List Splice) (spot : ListSpot) : Type 0 where
   pub files : List File
   pub is : patched_all before splices ≡ Ok files
@@ -43,11 +43,11 @@ pub record MayReadList (before : List File) (file : ℕ) (splices : List Splice)
   pub list : tree.Listing tree.Nowhere
   pub reads_list : ReadsListWithin wide_depth spot.bracket now list
 
--- where a list stands that a path names
+-- the span of a list that a path names
 abbrev pub spot_at : ListAt Span → ListSpot
 spot_at p = record { bracket = p.bracket; span = list_span p.list }
 
--- So it is with a list of the file's tree so far, which is `t`, and the file then reads as the tree with the new list.
+-- So it is with a list of the file's tree so far, which is `t`. The file then parses as the tree with the new list.
 pub record MayChangeList (before : List File) (place : CallRef) (splices : List Splice) (t : Parsed) : Type 0 where
   pub spanned : IsSpannedWithin wide (bytes_at place.file before) (view (bytes_at place.file before) t)
   pub p : ListAt Span
@@ -90,17 +90,17 @@ pub record IsFresh (w : Work) : Type 0 where
   pub none_saved : w.saved.items ≡ []
   pub none_relexed : w.relexed ≡ 0
 
--- a file of which something is exchanged reads within wider limits
+-- a file of which something is replaced parses within wider limits
 abbrev pub limits_of : List Saved → ℕ → Limits
 limits_of saved k = if is_saved k saved then wide else of_files
 
--- Each file reads as its tree.
+-- Each file parses as its tree.
 pub record AreKnown (saved : List Saved) (files : List File) (trees : List Parsed) : Type 0 where
   pub as_many : length trees ≡ length files
   pub each : (k : ℕ) (d : Parsed) → k < length files → IsSpannedWithin (limits_of saved k) (bytes_at k files)
       (view (bytes_at k files) (slice_index_or trees k d))
 
--- Steps make the splices, files and trees so far, and have so many bytes read again.
+-- Steps make the splices, files and trees so far, and have this number of bytes read again.
 pub record AreMade (old : Loaded) (steps : List Step) (now : Standing) : Type 0 where
   pub bytes : ℕ
   pub are_trees : all_stepped steps (plain_trees old) ≡ Some (plain_trees (stood now))

@@ -12,7 +12,7 @@ pub enum Setting {
     Texts(Many<Text>),
 }
 
-/// What may be done to a project, or asked of it.
+/// What may be done to a project, or queried of it.
 pub enum Command {
     SourcesAdd {
         target: Text,
@@ -30,7 +30,7 @@ pub enum Command {
         target: Text,
         sources: Many<Text>,
     },
-    /// A new target at the end of the file of `subdir`, of the root file where that is empty.
+    /// A new target at the end of the file of `subdir`, or of the root file if that is empty.
     TargetAdd {
         target: Text,
         target_kind: Text,
@@ -80,11 +80,11 @@ pub enum Command {
 pub struct Done {
     /// The splices that made the new files from the old ones.
     pub change: Change,
-    /// How many bytes were lexed again. The count stops at the greatest number.
+    /// The number of bytes that were lexed again. The count stops at the greatest number.
     pub relexed: u64,
 }
 
-/// Written by hand, so that it is proved here alone, and not in each crate that lets a command go.
+/// Written by hand, so that it is proved here alone, and not in each crate that drops a command.
 impl Drop for Command {
     fn drop(self) {
         match self {

@@ -23,8 +23,8 @@ use meson_splice::Splice;
 use meson_syntax::Bracket;
 use std::alloc::{AllocError, Global};
 
-/// A list that steps changed, in its place in the file. It is held back: its tree still has the list of before, and gets the new one,
-/// and its borders move, when a step is on another list or none is left.
+/// A list that steps changed, in its place in the file. It is held back: its tree still has the old list. The tree gets the new one, and its borders move, when
+/// a step is on another list or no step is left.
 #[derive(Drop)]
 pub struct HeldList {
     pub bracket: Bracket,
@@ -44,10 +44,10 @@ impl HeldList {
 }
 
 impl Work {
-    /// Puts a list that was held back into its tree, and moves the borders behind it.
+    /// Puts a list that was held back into its tree, and moves the borders after it.
     ///
     /// # Errors
-    /// Memory is refused.
+    /// Out of memory.
     pub(crate) fn settle(&mut self, held: HeldList) -> Result<(), AllocError>
         requires { IsHeld self.old held }
         ensures done { OnOk result (IsSettled self.old held self.new) }
@@ -60,7 +60,7 @@ impl Work {
     /// Does one more step on the list that is held back.
     ///
     /// # Errors
-    /// Memory is refused.
+    /// Out of memory.
     pub(crate) fn further_step(
         &mut self,
         alloc: Global,
@@ -85,7 +85,7 @@ impl Work {
     /// The splices of an edit of the list that is held back, but for those that change nothing.
     ///
     /// # Errors
-    /// Memory is refused.
+    /// Out of memory.
     fn laid_again(
         &self,
         alloc: Global,
@@ -113,11 +113,10 @@ impl Work {
         )
     }
 
-    /// Makes the splices of a step on a list in the list's file, and reads its new text. Gives the list, in its place, and how many
-    /// bytes it has.
+    /// Makes the splices of a step on a list in the list's file, and parses its new text. Gives the list, in its place, and its number of bytes.
     ///
     /// # Errors
-    /// Memory is refused.
+    /// Out of memory.
     fn read_list(
         &mut self,
         alloc: Global,
@@ -148,7 +147,7 @@ impl Work {
     /// Makes the splices of a step on a list of a tree. The list is held back then.
     ///
     /// # Errors
-    /// Memory is refused.
+    /// Out of memory.
     pub(crate) fn change_list(
         &mut self,
         alloc: Global,
@@ -185,7 +184,7 @@ impl Work {
     /// Makes the splices of a step on the list that is held back.
     ///
     /// # Errors
-    /// Memory is refused.
+    /// Out of memory.
     fn change_again(
         &mut self,
         alloc: Global,

@@ -1,6 +1,6 @@
-//! What steps exchanged, so that a refusal puts it back without memory.
+//! What steps replaced, so that after a refusal it can be put back without allocating.
 
-ghost use Rattle.std.specs.Prelude.{◌+◌, ◌<◌, ◌≡◌, OnOk, Some, length, slice_index_or, slice_set};
+ghost use Rattle.std.specs.Prelude.{◌+◌, ◌<◌, ◌≡◌, OnOk, Some, false, length, slice_index_or, slice_set, true, vec_capacity};
 ghost use Rattle.meson_lex.specs.declared.kinds.Span.{Span};
 ghost use Rattle.meson_syntax.specs.ListPut.{list_exchanged};
 ghost use Rattle.meson_syntax.specs.MovedCode.{moved_parsed};
@@ -9,7 +9,7 @@ ghost use Rattle.meson_syntax.specs.Paths.{ListAt, list_at};
 ghost use Rattle.meson_syntax.specs.View.{list_view, view};
 ghost use Rattle.meson_calls.specs.ChosenNotes.{Source};
 ghost use Rattle.meson_steps.specs.Journal.{MayPut, MayPutBack, MayShift, PutsBack, changed_tree, saved_file, is_saved, put_back, put_one};
-ghost use Rattle.meson_steps.specs.inside.Journal.{IsSavedToo, MayTakeMoved, Trees, settled_tree};
+ghost use Rattle.meson_steps.specs.inside.Journal.{Follows, IsFollowed, IsPutBackFor, IsSavedToo, MayTakeMoved, Trees, settled_tree};
 
 use meson_calls::CallRef;
 use meson_lex::Span;
@@ -17,7 +17,7 @@ use meson_syntax::{List, Parsed, Path};
 use std::alloc::AllocError;
 use std::mem;
 
-/// What a step exchanged.
+/// What a step replaced.
 #[derive(Drop)]
 pub enum Saved {
     /// The tree of a file.
@@ -26,7 +26,7 @@ pub enum Saved {
     List(SavedList),
 }
 
-/// A list that another one takes the place of: its place, where it begins, how many bytes it has, and how many the other one.
+/// A list that is replaced by another one: its place, its start, its number of bytes, and that of the other one.
 #[derive(Drop)]
 pub struct SavedList {
     pub place: CallRef,
@@ -46,6 +46,23 @@ impl Saved {
             Saved::List(list) => list.place.file,
         }
     }
+
+    /// Where it is a list that `new` follows: has it put back for `new`. Gives whether it is.
+    fn follow(&mut self, new: &SavedList) -> bool
+        ensures yes { result ≡ true → IsPutBackFor self.old new.entry.now self.new }
+        ensures no { result ≡ false → self.new ≡ self.old }
+    {
+        match self {
+            Saved::Tree { .. } => false,
+            Saved::List(last) => {
+                let follows = last.is_followed_by(new);
+                if follows {
+                    last.now = new.now;
+                }
+                follows
+            }
+        }
+    }
 }
 
 /// Whether something of a file is saved.
@@ -55,10 +72,10 @@ pub(crate) fn is_saved(saved: &[Saved], file: usize) -> bool
     saved.iter().any(|s| s.file() == file)
 }
 
-/// Puts another tree in the place of that of a file, which is saved.
+/// Replaces the tree of a file, which is saved, by another tree.
 ///
 /// # Errors
-/// Memory is refused.
+/// Out of memory.
 pub(crate) fn exchange(
     trees: &mut Vec<Parsed>,
     saved: &mut Vec<Saved>,
@@ -76,8 +93,8 @@ pub(crate) fn exchange(
     Ok(())
 }
 
-/// Moves the borders of a tree as the `was` bytes at `from` become `now` bytes, and puts a list where the path names one; gives the one
-/// that stood there. Takes no memory.
+/// Moves the borders of a tree as the `was` bytes at `from` become `now` bytes, and puts a list where the path names one. Gives the list that was there. Does
+/// not allocate.
 fn put_in(tree: &mut Parsed, path: &Path, list: List, from: usize, was: usize, now: usize) -> List
     requires { MayShift from was now tree.old }
     ensures is { tree.new ≡ list_exchanged path.now.steps from was now list tree.old }
@@ -97,10 +114,38 @@ fn with_span(list: List, from: usize, to: usize) -> List
     list
 }
 
-/// Puts what was read of a list's new text, the list of `new`, in the place of the list that stands there, which is saved.
+impl SavedList {
+    /// Whether `new` takes the place of the list that took the place of this one.
+    fn is_followed_by(&self, new: &SavedList) -> bool
+        ensures { result ≡ true → Follows self.entry.now new.entry.now }
+    {
+        self.place.file == new.place.file
+            && self.place.path.steps.get() == new.place.path.steps.get()
+            && self.from == new.from
+            && self.now == new.was
+    }
+}
+
+/// If `new` takes the place of a list that took the place of the last one that is saved, that one is saved for `new` too. Returns whether
+/// it does.
+fn follow_last(saved: &mut Vec<Saved>, new: &SavedList) -> bool
+    ensures yes { result ≡ true → IsFollowed saved.old.items new.entry.now saved.new.items }
+    ensures no { result ≡ false → saved.new.items ≡ saved.old.items }
+    ensures room { vec_capacity saved.new ≡ vec_capacity saved.old }
+{
+    let Some(mut last) = saved.pop() else {
+        return false;
+    };
+    let follows = last.follow(new);
+    saved.push_reserved(last);
+    follows
+}
+
+/// Replaces the list that is there, which is saved, by the list of `new`, parsed from the list's new text. Of the lists that were in
+/// one place, one after another, only the first is saved.
 ///
 /// # Errors
-/// Memory is refused.
+/// Out of memory.
 pub(crate) fn exchange_list(
     trees: &mut Vec<Parsed>,
     saved: &mut Vec<Saved>,
@@ -113,6 +158,7 @@ pub(crate) fn exchange_list(
     ensures restores { (first : Trees) → PutsBack saved.old.items trees.old.items first → PutsBack saved.new.items trees.new.items first }
 {
     saved.reserve(1)?;
+    let is_saved = follow_last(saved, &new);
     let SavedList {
         place,
         list,
@@ -121,6 +167,9 @@ pub(crate) fn exchange_list(
         now,
     } = new;
     let old = put_in(&mut trees[place.file], &place.path, list, from, was, now);
+    if is_saved {
+        return Ok(());
+    }
     let list = with_span(old, from, from + was);
     saved.push_reserved(Saved::List(SavedList {
         place,
@@ -159,7 +208,7 @@ fn put_one(trees: &mut Vec<Parsed>, saved: Saved)
     }
 }
 
-/// Puts back what is saved, the newest first. Takes no memory.
+/// Puts back what is saved, the newest first. Does not allocate.
 pub fn put_back(trees: &mut Vec<Parsed>, saved: Vec<Saved>)
     requires { MayPutBack saved.items trees.old.items }
     ensures { trees.new.items ≡ put_back saved.items trees.old.items }

@@ -14,7 +14,7 @@ pub fn reading()
     ensures lists_are_read_again { ListsAreReadAgain }
 {}
 
-/// Steps make one thing of a project, after each of them: one list of splices, and of each file one text and one tree.
+/// Steps have one result on a project, after each of them: one list of splices, and of each file one text and one tree.
 pub fn one_making()
     ensures one_making { OneMaking }
     ensures one_standing { OneStanding }

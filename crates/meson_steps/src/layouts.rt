@@ -19,7 +19,7 @@ use meson_splice::{Splice, SpliceFault};
 use meson_syntax::{Parsed, Path};
 use std::alloc::Global;
 
-/// An edit of a list as it is laid out: by where the parts that it names stand.
+/// An edit of a list as it is laid out: by the spans of the parts that it names.
 pub(crate) fn list_primitive(list: &meson_syntax::List, edit: ListEdit) -> Option<Primitive>
     ensures { (source : Source) → result ≡ placed_in (list_view source list.now) edit }
 {
@@ -76,14 +76,14 @@ pub(crate) fn primitive_of(tree: &Parsed, path: &Path, edit: ListEdit) -> Option
     }
 }
 
-/// Leaves the splices that change something.
+/// Keeps only the splices that change something.
 fn leave_effective(splices: &mut Vec<Splice>)
     ensures { splices.new.items ≡ effective splices.old.items }
 {
     splices.retain(|splice| splice.was != splice.now);
 }
 
-/// The list that alone is looked at, where an edit is one of a list.
+/// The list that alone is read, if an edit is one of a list.
 pub(crate) fn looked_at(tree: &Parsed, path: &Path, of_list: bool) -> Option<Span>
     ensures { (source : Source) → result ≡ looked_at (view source tree.now) path.now.steps of_list }
 {
@@ -96,7 +96,7 @@ pub(crate) fn looked_at(tree: &Parsed, path: &Path, of_list: bool) -> Option<Spa
     }
 }
 
-/// The splices of an edit, of the list that stands there or of the file, but for those that change nothing.
+/// The splices of an edit, of the list that is there or of the file, but for those that change nothing.
 pub(crate) fn laid(
     alloc: Global,
     name: &str,
@@ -122,7 +122,7 @@ pub(crate) fn laid(
     }
 }
 
-/// Want of memory is the one reason that splices are not made.
+/// Splices are not made only when out of memory.
 pub(crate) fn unmade(fault: SpliceFault) -> Refusal
     requires { fault ≡ SpliceFault.OutOfMemory }
     ensures { result ≡ Refusal.OutOfMemory }

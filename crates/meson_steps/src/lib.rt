@@ -1,4 +1,4 @@
-//! Commands, and edits of the files of a project, one after another: how each is laid out, what the files and trees are then, and the limits on the result.
+//! Commands, and edits of the files of a project, one after another. How each is laid out, what the files and trees are then, and the limits on the result.
 #![tactic(auto)]
 
 pub mod command;

@@ -1,4 +1,4 @@
-//! Texts as they are written.
+//! Texts in their written form.
 
 ghost use Rattle.std.specs.Prelude.{◌≡◌, ◌++◌, IfErr, IfOk, OnErr, OnOk};
 ghost use Rattle.std.specs.Str.{IsUtf8};
@@ -18,7 +18,7 @@ pub fn key_of(key: &Text) -> Result<Text, Refusal>
     Ok(copy)
 }
 
-/// Writes a text's literal behind what is there.
+/// Appends a text's literal.
 pub fn push_literal(alloc: Global, to: &mut Vec<u8>, text: &str) -> Result<(), Refusal>
     ensures done { OnOk result (to.new.items ≡ to.old.items ++ literal text.now) }
     ensures kept { OnErr result (to.new.items ≡ to.old.items) }

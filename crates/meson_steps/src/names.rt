@@ -37,7 +37,7 @@ pub fn is_among(names: &[&Text], name: &Text) -> bool
     false
 }
 
-/// Each name once, where it comes first.
+/// Each name once, at its first place.
 pub fn distinct<'n>(alloc: Global, names: &'n [Text]) -> Result<Vec<&'n Text>, AllocError>
     ensures { IfOk result (λ all. map (λ x. x.now) all.items ≡ distinct names.now) }
 {

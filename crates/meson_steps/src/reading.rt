@@ -1,4 +1,4 @@
-//! What steps read again.
+//! What steps parse again.
 
 ghost use Rattle.std.specs.List.{slice_range};
 ghost use Rattle.std.specs.Prelude.{◌≡◌, ◌+◌, ◌≤◌, IfErr, IfOk, length};
@@ -11,10 +11,10 @@ use meson_calls::Refusal;
 use meson_syntax::{Bracket, List, MAX_DEPTH, ParseFault, parse_list_within};
 use std::alloc::Global;
 
-/// So deep may a list nest between two steps of one command.
+/// The depth to which a list may nest between two steps of one command.
 const LIST_DEPTH: usize = MAX_DEPTH + 1;
 
-/// Want of memory is the one reason that a changed file or list is not read.
+/// A changed file or list is not parsed only when out of memory.
 pub(crate) fn unread(fault: ParseFault) -> Refusal
     requires { fault ≡ ParseFault.OutOfMemory }
     ensures { result ≡ Refusal.OutOfMemory }
@@ -25,7 +25,7 @@ pub(crate) fn unread(fault: ParseFault) -> Refusal
     }
 }
 
-/// So many bytes of a text, from an offset on.
+/// This number of bytes of a text, from an offset on.
 pub(crate) fn part(bytes: &[u8], from: usize, len: usize) -> &[u8]
     requires { from + len ≤ length bytes.now }
     ensures { result.now ≡ slice_range bytes.now from (from + len) }
@@ -35,7 +35,7 @@ pub(crate) fn part(bytes: &[u8], from: usize, len: usize) -> &[u8]
     &bytes[from..from + len]
 }
 
-/// The list that a text is.
+/// The list of a text.
 pub(crate) fn list_in(alloc: Global, text: &[u8], bracket: Bracket) -> Result<List, Refusal>
     requires { (l : Listing Nowhere) × ReadsListWithin wide_depth bracket text.now l }
     ensures reads { IfOk result (λ l. IsSpannedListWithin wide_depth bracket text.now (list_view text.now l)) }

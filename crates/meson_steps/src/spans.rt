@@ -1,4 +1,4 @@
-//! Where elements, their values and whole lists stand.
+//! The spans of elements, of their values and of whole lists.
 
 ghost use Rattle.std.specs.Prelude.{◌≡◌, option_and_then, option_map};
 ghost use Rattle.meson_syntax.specs.Paths.{list_at, list_in, nth, value_of};
@@ -13,7 +13,7 @@ use meson_edit::span_of;
 use meson_lex::Span;
 use meson_syntax::{Arg, Bracket, Expr, List, Parsed, Path};
 
-/// Where the value of an element stands, if it has one.
+/// The span of the value of an element, if it has one.
 fn span_in(arg: &Arg) -> Option<Span>
     ensures { (source : Source) → result ≡ option_map expression_span (value_of (arg_view source arg.now)) }
 {
@@ -24,7 +24,7 @@ fn span_in(arg: &Arg) -> Option<Span>
     }
 }
 
-/// Where the value of the n-th element of a list stands, if it is there.
+/// The span of the value of the n-th element of a list, if it is there.
 pub(crate) fn value_span(list: &List, n: usize) -> Option<Span>
     ensures { (source : Source) → result ≡ option_map expression_span (option_and_then value_of (nth (elements (list_view source list.now)) n)) }
 {
@@ -36,7 +36,7 @@ pub(crate) fn value_span(list: &List, n: usize) -> Option<Span>
     }
 }
 
-/// Where an element stands.
+/// The span of an element.
 fn span_of_element(arg: &Arg) -> Span
     ensures { (source : Source) → result ≡ argument_span (arg_view source arg.now) }
 {
@@ -47,7 +47,7 @@ fn span_of_element(arg: &Arg) -> Span
     }
 }
 
-/// Where the n-th element of a list stands, if it is there.
+/// The span of the n-th element of a list, if it is there.
 pub(crate) fn element_span(list: &List, n: usize) -> Option<Span>
     ensures { (source : Source) → result ≡ option_map argument_span (nth (elements (list_view source list.now)) n) }
 {
@@ -59,7 +59,7 @@ pub(crate) fn element_span(list: &List, n: usize) -> Option<Span>
     }
 }
 
-/// The brackets of a list, and where it stands from the opening one to the closing one.
+/// The brackets of a list, and its span from the opening one to the closing one.
 #[derive(Clone, Copy)]
 pub struct ListSpot {
     pub bracket: Bracket,

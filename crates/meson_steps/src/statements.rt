@@ -91,7 +91,7 @@ fn stmt_in(block: &Block, n: usize) -> Option<&Stmt>
 }
 
 impl<'t> Layer<'t> {
-    /// What of it stands at its n-th child.
+    /// Its n-th child.
     fn child(self, n: usize) -> Option<Layer<'t>>
         ensures { (source : Source) → option_map (layer_view source) result ≡ next_layer (layer_view source self.entry) n }
     {
@@ -107,7 +107,7 @@ impl<'t> Layer<'t> {
         }
     }
 
-    /// It, if it is a block.
+    /// The block, if this is a block.
     fn block(self) -> Option<&'t Block>
         ensures { (source : Source) → option_map (λ b. block_view source b.now) result ≡ block_any (layer_view source self.entry) }
     {
@@ -145,7 +145,7 @@ pub fn stmt_at<'t>(tree: &'t Parsed, path: &Path, n: usize) -> Option<&'t Stmt>
     }
 }
 
-/// Where a statement stands.
+/// The span of a statement.
 fn span_of_stmt(stmt: &Stmt) -> Span
     ensures { (source : Source) → result ≡ statement_span (stmt_view source stmt.now) }
 {
@@ -159,7 +159,7 @@ fn span_of_stmt(stmt: &Stmt) -> Span
     }
 }
 
-/// Where the n-th statement of a block stands, if it is there.
+/// The span of the n-th statement of a block, if it is there.
 pub fn statement_span(tree: &Parsed, path: &Path, n: usize) -> Option<Span>
     ensures { (source : Source) → result ≡ span_of_statement (view source tree.now) path.now.steps n }
 {

@@ -7,22 +7,22 @@ use meson_calls::CallRef;
 use meson_splice::Bytes;
 use std::alloc::AllocError;
 
-/// One edit of a list or a block, with the numbers of its elements or statements and the bytes that are written.
+/// One edit of a list or a block, with the numbers of its elements or statements and the bytes to write.
 #[derive(Debug, Drop)]
 pub enum ListEdit {
     /// The first element of an empty list.
     First(Bytes),
-    /// An element behind the one of this number.
+    /// An element after the one of this number.
     After(usize, Bytes),
-    /// The element goes.
+    /// The element is removed.
     Remove(usize),
-    /// Its value becomes another one.
+    /// Its value is replaced by another one.
     Replace(usize, Bytes),
-    /// Its value becomes the array of it.
+    /// Its value is replaced by the array of it.
     Wrap(usize),
-    /// The statement of this number goes.
+    /// The statement of this number is removed.
     RemoveStatement(usize),
-    /// A statement behind all others of the file.
+    /// A statement after all others of the file.
     Append(Bytes),
 }
 
@@ -42,7 +42,7 @@ pub struct ListStep {
     pub edit: ListEdit,
 }
 
-/// Adds a step behind the others.
+/// Adds a step after the others.
 pub fn push_step(steps: &mut Vec<ListStep>, list: CallRef, edit: ListEdit) -> Result<(), AllocError>
     ensures added { OnOk result (steps.new.items ≡ steps.old.items ++ record { list = list; edit = edit } ∷ []) }
     ensures kept { OnErr result (steps.new.items ≡ steps.old.items) }

@@ -26,20 +26,20 @@ use meson_splice::{Change, FileSet, Many, SavedBytes, Splice, apply_saving};
 use meson_syntax::{MAX_DEPTH, MAX_LEN, Parsed, parse_wide};
 use std::alloc::{AllocError, Global};
 
-/// Files and trees that steps change, the splices so far, what was there before, and how many bytes were read again.
+/// Files and trees that steps change, the splices so far, the former contents, and the number of bytes that were read again.
 #[derive(Drop)]
 pub struct Work {
     pub splices: Vec<Splice>,
     pub files: FileSet,
     pub trees: Vec<Parsed>,
-    /// The trees and lists that were exchanged.
+    /// The trees and lists that were replaced.
     pub saved: Vec<Saved>,
-    /// The first bytes of the files that were changed.
+    /// The original bytes of the files that were changed.
     pub saved_bytes: Vec<SavedBytes>,
     pub relexed: u64,
 }
 
-/// Makes splices in the files, whose first bytes are saved, and gives the splices back.
+/// Makes splices in the files, whose original bytes are saved, and returns the splices.
 pub(crate) fn applied(
     alloc: Global,
     files: &mut FileSet,
@@ -62,7 +62,7 @@ pub(crate) fn applied(
 }
 
 impl Work {
-    /// Nothing so far, on the files and trees of a project. Takes no memory.
+    /// Nothing done so far, on the files and trees of a project. Does not allocate.
     pub fn start(alloc: Global, files: FileSet, trees: Vec<Parsed>) -> Work
         requires { IsProject (record { files = files; parsed = trees.items }) }
         ensures is { so_far result ≡ record { files = files; parsed = trees.items } }
@@ -79,10 +79,10 @@ impl Work {
         }
     }
 
-    /// Does one more step, where a list may be held back, and gives the one that is held back then.
+    /// Does one more step, while a list may be held back, and gives the one that is held back then.
     ///
     /// # Errors
-    /// Memory is refused.
+    /// Out of memory.
     fn step(
         &mut self,
         alloc: Global,
@@ -106,10 +106,10 @@ impl Work {
         self.first_step(alloc, step)
     }
 
-    /// Does one more step, where no list is held back.
+    /// Does one more step, if no list is held back.
     ///
     /// # Errors
-    /// Memory is refused.
+    /// Out of memory.
     fn first_step(&mut self, alloc: Global, step: ListStep) -> Result<Option<HeldList>, Refusal>
         requires { (old : Loaded) × IsNext old (standing self.old) step }
         ensures done { DoesStep step (standing self.old) result self.new }
@@ -133,7 +133,7 @@ impl Work {
     /// The splices of an edit of the list or the block at a place, but for those that change nothing.
     ///
     /// # Errors
-    /// Memory is refused.
+    /// Out of memory.
     fn laid_at(
         &self,
         alloc: Global,
@@ -163,10 +163,10 @@ impl Work {
         )
     }
 
-    /// Makes the splices of a step in its file, and reads that again.
+    /// Makes the splices of a step in its file, and parses that again.
     ///
     /// # Errors
-    /// Memory is refused.
+    /// Out of memory.
     fn change(&mut self, alloc: Global, file: usize, splices: Vec<Splice>) -> Result<(), Refusal>
         requires trees { file < length self.old.trees.items }
         requires files { file < length self.old.files }
@@ -189,7 +189,7 @@ impl Work {
     /// Does steps, one after another.
     ///
     /// # Errors
-    /// Memory is refused.
+    /// Out of memory.
     pub fn do_steps(&mut self, alloc: Global, steps: Vec<ListStep>) -> Result<(), Refusal>
         requires { (old : Loaded) × (ss : List meant.Step) × IsUnderWay old ss steps.items self.old }
         ensures done { (old : Loaded) (ss : List meant.Step) → IsUnderWay old ss steps.items self.old → OnOk result (Reached old ss [] self.new) }
@@ -206,10 +206,10 @@ impl Work {
         Ok(self.settle(held)?)
     }
 
-    /// Refuses what was made where it passes a limit.
+    /// Refuses a result that passes a limit.
     ///
     /// # Errors
-    /// It does.
+    /// It passes a limit.
     pub fn within_limits(&self) -> Result<(), Refusal>
         ensures done { (old : Loaded) (whole : Meaning) (ss : List meant.Step) → whole ≡ Ok ss → Reached old ss [] self.now
             → OnOk result (IsDone old whole self.now) }
@@ -225,7 +225,7 @@ impl Work {
         Ok(())
     }
 
-    /// Whether no exchanged tree nests too deep.
+    /// Whether no tree of a changed file nests too deep.
     fn is_shallow(&self) -> bool
         ensures yes { result ≡ true → AreShallowSoFar self.now.saved.items self.now.trees.items }
         ensures no { result ≡ false → HasDeep self.now.trees.items }
@@ -264,10 +264,10 @@ pub(crate) fn push_all(to: &mut Vec<Splice>, from: Vec<Splice>) -> Result<(), Al
     Ok(())
 }
 
-/// Does the steps that are meant, and asks the limits of what they made.
+/// Does these steps, and checks the limits of the result.
 ///
 /// # Errors
-/// The result passes a limit, or memory is refused.
+/// The result passes a limit, or out of memory.
 pub fn done(alloc: Global, work: &mut Work, steps: Vec<ListStep>) -> Result<(), Refusal>
     requires fresh { IsFresh work.old }
     requires planned { (whole : Meaning) × ArePlanned (so_far work.old) whole steps.items }

@@ -60,7 +60,7 @@ pub record Stops (files : List Put) (before after : Seen) (why : StoreError) : T
   pub are : AreReplaced done before reached
   pub fails : IsNotReplaced why failed.path failed.bytes reached after
 
--- Files get the bytes again that they held, one after another. The names are those of the files where that failed.
+-- Files get the bytes again that they held, one after another. The names are those of the files for which that failed.
 pub data GoBack : List Put → Seen → Seen → List (List ℕ) → Type 0 where
   all_back : (s : Seen) → GoBack [] s s []
   is_back : (file : Put) (files : List Put) (s t u : Seen) (names : List (List ℕ)) → IsReplaced file.path file.was s t → GoBack files t u names
@@ -73,13 +73,12 @@ abbrev pub to_go_back : StoreError → Put → List Put → List Put
 to_go_back error.Device failed done = failed ∷ reverse done
 to_go_back _ failed done = reverse done
 
--- The fault of a replace of the file of that name, where these files did not get their old bytes again. Want of memory is
--- told where nothing is left to tell of.
+-- The fault of a replace of the file of that name, if these files did not get their old bytes again. Out of memory is reported if nothing is left to report.
 abbrev pub fault_of : List ℕ → StoreError → List (List ℕ) → StoreFault
 fault_of name error.OutOfMemory [] = OutOfMemory
 fault_of name why still = WriteFailed name still
 
--- a replace failed, what was replaced got its old bytes again, and the fault tells of it
+-- a replace failed, what was replaced got its old bytes again, and the fault reports it
 pub record TakenBack (files : List Put) (before after : Seen) (fault : StoreFault) : Type 0 where
   pub why : StoreError
   pub stopped : Seen
@@ -88,6 +87,6 @@ pub record TakenBack (files : List Put) (before after : Seen) (fault : StoreFaul
   pub back : GoBack (to_go_back why stops.failed stops.done) stopped after still
   pub told : fault ≡ fault_of stops.failed.name why still
 
--- memory was refused before any file was replaced, or a replace failed
+-- memory ran out before any file was replaced, or a replace failed
 abbrev pub CommitFails : List Put → Seen → Seen → StoreFault → Type 0
 CommitFails files before after fault = ((fault ≡ OutOfMemory) × Untouched before after) ⊎ TakenBack files before after fault

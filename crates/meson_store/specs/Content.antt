@@ -8,10 +8,10 @@ use Rattle.std.specs.Option.{option_map}
 abbrev pub Content : Type 0
 Content = FinMap (slice_cmp nat_cmp) (List ℕ)
 
--- the content after the file of that name got these bytes; a store that tells none tells none afterwards
+-- the content after the file of that name got these bytes; a store that reports none reports none afterwards
 abbrev pub content_with : Option Content → List ℕ → List ℕ → Option Content
 content_with content name bytes = option_map (λ files. insert files name bytes) content
 
--- a failure of the device was counted, unless the count had come to its end
+-- a failure of the device was counted, unless the count had reached its end
 abbrev pub Rose : ℕ → ℕ → Type 0
 Rose old new = (old < new) ⊎ (old ≡ 2 ^ 64 - 1)

@@ -1,4 +1,4 @@
--- What a failed commit leaves, over a store that tells what it holds.
+-- What a failed commit leaves, over a store that reports what it holds.
 use Rattle.std.specs.Prelude.{◌≡◌, ◌⊎◌, ℕ, List, [], Option, Some}
 use Rattle.std.proofs.Common.{inl, inr}
 use Rattle.std.specs.FinMap.{get}
@@ -15,7 +15,7 @@ abbrev pub tried : {files : List Put} {before after : Seen} {fault : StoreFault}
 tried (inl none) = []
 tried (inr back) = to_go_back back.why back.stops.failed back.stops.done
 
--- the files `new` were to take the place of the files `old` in that folder, and that failed; the store held `held`, and then `left`
+-- the files `new` were to replace the files `old` in that folder, and that failed; the store held `held`, and then `left`
 pub record Failed (folder : Option (List ℕ)) (old new : List File) (held left : Content) (fault : StoreFault) : Type 0 where
   pub distinct : IsDistinct old
   pub before : Seen
@@ -24,7 +24,7 @@ pub record Failed (folder : Option (List ℕ)) (old new : List File) (held left 
   pub told_after : after.content ≡ Some left
   pub fails : CommitFails (puts folder old new) before after fault
 
--- the fault tells of the file
+-- the fault reports the file
 abbrev pub IsTold : StoreFault → Put → Type 0
 IsTold fault p = Contains (still_new fault) p.name
 
@@ -33,7 +33,7 @@ abbrev pub OfTried : (Content → Content → StoreFault → Put → Type 0) →
 OfTried P = (folder : Option (List ℕ)) (old new : List File) (held left : Content) (fault : StoreFault) (f : Failed folder old new held left fault) (p : Put) →
     Contains (tried f.fails) p → P held left fault p
 
--- It has its old bytes, or is told of.
+-- It has its old bytes, or is reported.
 abbrev pub OldOrTold : Type 0
 OldOrTold = OfTried (λ held left fault p. (get left p.path ≡ Some p.was) ⊎ IsTold fault p)
 
@@ -41,13 +41,13 @@ OldOrTold = OfTried (λ held left fault p. (get left p.path ≡ Some p.was) ⊎ 
 abbrev pub OldNewOrHeld : Type 0
 OldNewOrHeld = OfTried (λ held left fault p. (get left p.path ≡ Some p.was) ⊎ (get left p.path ≡ Some p.bytes) ⊎ (get left p.path ≡ get held p.path))
 
--- What is told of was tried.
+-- What is reported was tried.
 abbrev pub ToldWasTried : Type 0
 ToldWasTried = (folder : Option (List ℕ)) (old new : List File) (held left : Content) (fault : StoreFault) (f : Failed folder old new held left fault)
     (name : List ℕ) →
     Contains (still_new fault) name → (p : Put) × Contains (tried f.fails) p × (p.name ≡ name)
 
--- At a path there is what there was, unless a file is told of that stands there. A file that was to get other bytes had its old ones.
+-- At a path there is what there was, unless a file at that path is reported. A file that was to get other bytes had its old ones.
 abbrev pub UntoldIsAsBefore : Type 0
 UntoldIsAsBefore = (folder : Option (List ℕ)) (old new : List File) (held left : Content) (fault : StoreFault) → Failed folder old new held left fault
     → (path : List ℕ) →

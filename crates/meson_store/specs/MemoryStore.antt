@@ -1,4 +1,4 @@
--- What a store in memory is seen as: its files, and which of its calls fail.
+-- The view of a store in memory: its files, and which of its calls fail.
 use Rattle.std.specs.Prelude.{◌≡◌, ◌⊎◌, ℕ, ◌-◌, Bool, false, true, ◌&&◌, nat_le, nat_lt, if◌then◌else◌, refl, List, Result, Ok, Err}
 use Rattle.std.specs.Coded.{Coded, code_by, coded×, coded_ℕ, coded_list, coded_bool}
 use Rattle.std.specs.FinMap.{code, insert, empty}
@@ -78,13 +78,13 @@ after_replace h = record h {
   leaves_new = if is_due h.replaces then false else h.leaves_new;
 }
 
--- where the file of that name has these bytes
+-- if the file of that name has these bytes
 abbrev pub with_file : HeldFiles → List ℕ → List ℕ → HeldFiles
 with_file h name bytes = record h { files = insert h.files name bytes }
 
 -- ---- a call of `replace`
 
--- what it may answer: it fails as planned, or for want of memory for the new bytes
+-- what it may answer: it fails as planned, or when out of memory for the new bytes
 abbrev pub MayAnswer : HeldFiles → Result (Unit {0}) StoreError → Type 0
 MayAnswer h (Ok done) = is_due h.replaces ≡ false
 MayAnswer h (Err error.Device) = (is_due h.replaces ≡ true) × (h.is_sure ≡ false)

@@ -1,4 +1,4 @@
--- What is told of a fault of a store or of a writer.
+-- What is reported of a fault of a store or of a writer.
 use Rattle.std.specs.Prelude.{ℕ, List, ◌++◌, codes}
 use Rattle.meson_store.specs.declared.store_fault.StoreFault.{StoreFault}
 use Rattle.meson_store.specs.declared.store_fault.StoreFault.TheVariants.{ReadFailed, WriteFailed, NoFile, OutputFailed, OutOfMemory}

@@ -3,7 +3,7 @@ use Rattle.std.specs.Prelude.{◌≡◌, ℕ, List, Option}
 use Rattle.std.specs.Io.KnownBytes.{Appends}
 use Rattle.meson_store.specs.Content.{Rose}
 
--- what is known of a writer: the bytes that it holds, if it tells them, and how many of its writes failed
+-- what is known of a writer: the bytes that it holds, if it reports them, and how many of its writes failed
 pub record Heard : Type 0 where
   pub contents : Option (List ℕ)
   pub failures : ℕ

@@ -4,7 +4,7 @@ use Rattle.meson_store.specs.StoreCalls.{FailureCounted, Leaves, one_more}
 use Rattle.meson_store.specs.Content.{Content, content_with}
 use Rattle.meson_store.specs.declared.store.StoreError.{StoreError}
 
--- what it holds, if it tells it, how many calls failed, and how many calls of `replace` there were
+-- what it holds, if it reports that, how many calls failed, and how many calls of `replace` there were
 pub record Seen : Type 0 where
   pub content : Option Content
   pub failures : ℕ
@@ -13,7 +13,7 @@ pub record Seen : Type 0 where
 abbrev pub seen : Option Content → ℕ → ℕ → Seen
 seen content failures replaces = record { content = content; failures = failures; replaces = replaces }
 
--- of a store of any kind, by what tells these three of it
+-- of a store of any kind, by what gives these three of it
 abbrev pub seen_by : {S : Type 0} → (S → Option Content) → (S → ℕ) → (S → ℕ) → S → Seen
 seen_by content failures replaces store = seen (content store) (failures store) (replaces store)
 

@@ -8,7 +8,7 @@ use Rattle.meson_store.specs.declared.store.StoreError.TheVariants as error
 abbrev pub one_more : ℕ → ℕ
 one_more n = min (n + 1) (2 ^ 64 - 1)
 
--- so many more
+-- this number more
 abbrev pub counted : ℕ → ℕ → ℕ
 counted zero n = n
 counted (suc k) n = one_more (counted k n)

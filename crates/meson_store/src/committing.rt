@@ -21,7 +21,7 @@ struct Planned<'a> {
     bytes: &'a [u8],
 }
 
-/// How many files were replaced, and why the next one was not.
+/// The number of files that were replaced, and why the next one was not.
 #[derive(Clone, Copy)]
 struct Halt {
     done: usize,
@@ -81,7 +81,7 @@ fn names_of(alloc: Global, plan: &[Planned<'_>]) -> Result<Vec<Text>, AllocError
     Ok(names)
 }
 
-/// Replaces the files in order, up to the first that can't be.
+/// Replaces the files in order, up to the first that fails.
 fn replace_all<S: Store>(store: &mut S, plan: &[Planned<'_>]) -> Result<(), Halt>
     ensures done { let known = seen_by S.content S.failures S.replaces in
         OnOk result (AreReplaced (map put_of plan.now) (known store.old) (known store.new)) }
@@ -98,8 +98,7 @@ fn replace_all<S: Store>(store: &mut S, plan: &[Planned<'_>]) -> Result<(), Halt
     Ok(())
 }
 
-/// Puts the bytes back that these files held, the last first. `names` are theirs; the names of those where it fails go
-/// behind `lost`.
+/// Puts back the bytes that these files held, the last first. `names` are their names. The names of those where that fails are added to `lost`.
 fn put_back<S: Store>(
     store: &mut S,
     files: &[Planned<'_>],
@@ -122,8 +121,8 @@ fn put_back<S: Store>(
     }
 }
 
-/// How many files get their old bytes again: those that were replaced, and the one that was not, unless the store knows
-/// that it is as it was.
+/// The number of files that get their old bytes again. These are the ones that were replaced, and the one that was not, unless the store knows that it is as it
+/// was.
 fn count_tried(halt: Halt) -> usize
     requires { halt.done + 1 < 2 ^ 64 }
     ensures { result ≡ halt.done + tries halt.error }
@@ -134,7 +133,7 @@ fn count_tried(halt: Halt) -> usize
     }
 }
 
-/// What is told of a replace that failed, where these files did not get their old bytes again.
+/// The fault of a replace that failed, if these files did not get their old bytes again.
 fn fault_of(name: Text, error: StoreError, lost: Vec<Text>) -> StoreFault
     ensures { result ≡ fault_of name error lost.items }
 {
@@ -175,15 +174,14 @@ fn taken_back<S: Store>(
     fault_of(names.swap_remove(halt.done), halt.error, lost)
 }
 
-/// Replaces each file whose bytes differ between two sets of the same files, in order, and no other. A file NAME of the
-/// project is DIR/NAME in the store where a folder DIR is given, and else NAME. Where a replace fails, the old bytes are
-/// put back, once each: into that file, unless the store knows that it is as it was, then into those replaced before it,
-/// the last first.
+/// Replaces each file whose bytes differ between two sets of the same files, in order, and no other. A file NAME of the project is DIR/NAME in the store if a
+/// folder DIR is given, and else NAME. If a replace fails, the old bytes are put back, once each. First they are put into that file, unless the store knows
+/// that it is as it was. Then they are put into those replaced before it, the last first.
 ///
 /// # Errors
-/// `WriteFailed` for the first file that could not be replaced, with the files whose old bytes could not be put back,
-/// in the order in which that was tried. `OutOfMemory` where memory was refused, and each file is as it was or has its
-/// old bytes again. The growths of `commit` itself all come before the first replace.
+/// `WriteFailed` for the first file that could not be replaced. It has the files whose old bytes could not be put back, in the order in which that was tried.
+/// `OutOfMemory` when an allocation failed; then each file is as it was or has its old bytes again. All allocations of `commit` itself are made before the
+/// first replace.
 pub fn commit<S: Store>(
     alloc: Global,
     store: &mut S,

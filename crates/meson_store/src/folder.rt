@@ -18,7 +18,7 @@ const STANDARD_INPUT: &str = "-";
 /// A longer file, or more on standard input, counts as a failed read.
 const MOST_BYTES: usize = 67_108_864;
 
-/// What stands behind a file's name while it is written: the first of these that is free.
+/// The suffix of a file's name while it is written: the first of these that is free.
 const NEW_SUFFIXES: [&str; 9] = [
     ".rewrite-new",
     ".rewrite-new-2",
@@ -31,13 +31,13 @@ const NEW_SUFFIXES: [&str; 9] = [
     ".rewrite-new-9",
 ];
 
-/// How many bytes the longest of these has.
+/// The number of bytes of the longest of these.
 const MOST_SUFFIX: usize = 14;
 
 /// The mode of a new file until it gets that of the old one.
 const FOR_OWNER: u32 = 0o600;
 
-/// The mode of a new file where there is no old one, less what the process masks.
+/// The mode of a new file if there is no old one, less what the process masks.
 const FOR_ALL: u32 = 0o666;
 
 /// The files of the file system, read and written through the runtime.
@@ -58,7 +58,7 @@ impl<R: Files + Input + Drop> Folder<R>
 where
     R::File: AsFd,
 {
-    /// Keeps the runtime and the allocator, and takes no memory.
+    /// Keeps the runtime and the allocator, and does not allocate.
     pub fn new(rt: R, alloc: Global) -> Self
         ensures failures { ⟦<Folder<R> as Store>⟧.failures result ≡ 0 }
         ensures reads { ⟦<Folder<R> as Store>⟧.reads result ≡ 0 }
@@ -89,14 +89,14 @@ where
     }
 }
 
-/// What is to be read: a regular file that is open, and how many bytes it had then; or standard input, as if it had none.
+/// What is to be read: a regular file that is open, with its number of bytes at that time; or standard input, as if it had none.
 #[derive(Drop)]
 struct Opened<F: Drop> {
     file: F,
     len: u64,
 }
 
-/// Opens a regular file. Nothing else is opened: a pipe would have to wait for its writer.
+/// Opens a regular file. Nothing else is opened: reading a pipe would wait for its writer.
 fn open_regular<R: Files>(rt: &R, name: &str) -> io::Result<Opened<R::File>> {
     let known = fs::metadata(rt, name)?;
     if !known.is_file() {
@@ -109,10 +109,10 @@ fn open_regular<R: Files>(rt: &R, name: &str) -> io::Result<Opened<R::File>> {
     })
 }
 
-/// Reads to the end of the file, into memory that is taken once where the file is as long as it was.
+/// Reads to the end of the file, into memory that is allocated once if the file is as long as it was.
 fn contents_of<F: Read + Drop>(alloc: Global, opened: Opened<F>) -> Result<Vec<u8>, StoreError> {
     let Opened { file, len } = opened;
-    // One byte more than the most that a file may have, so that a longer one shows.
+    // One byte more than the most that a file may have, so that a longer one is noticed.
     let limit = MOST_BYTES + 1;
     let room = usize::try_from(len).map_or(limit, |len| len.min(MOST_BYTES) + 1);
     let mut bytes = Vec::with_capacity(alloc, room)?;
@@ -137,7 +137,7 @@ fn read_input<R: Input>(rt: &R, alloc: Global) -> Result<Vec<u8>, StoreError> {
     contents_of(alloc, opened)
 }
 
-/// The bytes of a file, or none where there is no such file.
+/// The bytes of a file, or none if there is no such file.
 fn read_file<R: Files + Input>(
     rt: &R,
     alloc: Global,
@@ -158,7 +158,7 @@ fn read_file<R: Files + Input>(
     }
 }
 
-/// What the system knows of a file, or none where there is no such file.
+/// What the system knows of a file, or none if there is no such file.
 fn known<T>(asked: io::Result<T>) -> io::Result<Option<T>> {
     match asked {
         Ok(known) => Ok(Some(known)),
@@ -172,19 +172,18 @@ fn known<T>(asked: io::Result<T>) -> io::Result<Option<T>> {
     }
 }
 
-/// A name that is a link, and where the file behind it stands.
+/// A name that is a link, and the path of the file that it leads to.
 #[derive(Drop)]
 struct Link {
     name: String,
     path: String,
 }
 
-/// Names of files for one replace after another. They keep their memory, so that a file that was replaced once is replaced
-/// again without any.
+/// Names of files for one replace after another. They keep their memory, so that a file that was replaced once is replaced again without allocating.
 #[derive(Drop)]
 struct Names {
     alloc: Global,
-    /// Where the file really stands.
+    /// The real path of the file.
     path: String,
     /// The new file beside it.
     beside: String,
@@ -193,7 +192,7 @@ struct Names {
 }
 
 impl Names {
-    /// No names, and no memory.
+    /// No names. Does not allocate.
     fn new(alloc: Global) -> Self {
         Names {
             alloc,
@@ -203,7 +202,7 @@ impl Names {
         }
     }
 
-    /// Finds where a file really stands: a link is followed to the file behind it, once.
+    /// Finds the real path of a file: a link is followed once, to its file.
     fn find<R: Files>(&mut self, rt: &R, name: &str) -> io::Result<()> {
         self.path.clear();
         match known(fs::symlink_metadata(rt, name))? {
@@ -212,7 +211,7 @@ impl Names {
         }
     }
 
-    /// The same of a link.
+    /// The same for a link.
     fn follow<R: Files>(&mut self, rt: &R, name: &str) -> io::Result<()> {
         for link in &self.links {
             if link.name.as_str() == name {
@@ -222,7 +221,7 @@ impl Names {
         self.follow_new(rt, name)
     }
 
-    /// The same of a link that was not followed before.
+    /// The same for a link that was not followed before.
     fn follow_new<R: Files>(&mut self, rt: &R, name: &str) -> io::Result<()> {
         let path = rt.canonicalize(self.alloc, name)?.into_string();
         self.path.push_str(path.as_str())?;
@@ -230,10 +229,10 @@ impl Names {
         Ok(self.links.push(Link { name, path })?)
     }
 
-    /// Names a new file beside the one that was found.
+    /// Names a new file next to the one that was found.
     fn put_beside(&mut self, suffix: &str) -> Result<(), AllocError> {
         self.beside.clear();
-        // Room for each suffix, so that a longer one takes no memory later on.
+        // Room for each suffix, so that a longer one needs no allocation later on.
         self.beside
             .reserve(self.path.len().saturating_add(MOST_SUFFIX))?;
         self.beside.push_str(self.path.as_str())?;
@@ -241,7 +240,7 @@ impl Names {
     }
 }
 
-/// Makes a file of that mode beside this one. Nothing that stands there is opened, and no link followed.
+/// Makes a file of that mode beside this one. Nothing that exists there is opened, and no link is followed.
 fn make_beside<R: Files>(rt: &R, names: &mut Names, mode: u32) -> Result<R::File, StoreError> {
     for suffix in NEW_SUFFIXES {
         names.put_beside(suffix)?;
@@ -262,7 +261,7 @@ fn make_beside<R: Files>(rt: &R, names: &mut Names, mode: u32) -> Result<R::File
     Err(StoreError::Unchanged)
 }
 
-/// Gives the new file the owner, where that is permitted, and the mode of the old one.
+/// Gives the new file the owner, if that is permitted, and the mode of the old one.
 fn keep_owner_and_mode<F: OpenFile + AsFd>(new: &F, old: &Metadata) -> io::Result<()> {
     let made = new.metadata()?;
     if made.uid() != old.uid() || made.gid() != old.gid() {
@@ -277,7 +276,7 @@ fn keep_owner_and_mode<F: OpenFile + AsFd>(new: &F, old: &Metadata) -> io::Resul
     new.set_permissions(old.permissions())
 }
 
-/// Fills the new file, and has the device take its bytes.
+/// Writes the new file, and makes the device store its bytes.
 fn fill<F: Write + OpenFile + AsFd>(
     new: &mut F,
     old: Option<Metadata>,
@@ -291,8 +290,22 @@ fn fill<F: Write + OpenFile + AsFd>(
     new.sync_all()
 }
 
-/// Writes a new file beside the real one, and has it take the real one's name. Where that fails, what was made is
-/// removed. `Device` comes of the last step alone.
+/// Why a rename failed. Of these kinds the system refuses it before it changes anything, so the old file is surely kept.
+///
+/// After any other kind the new file may have the name. `NotFound` is such a kind: a file server may rename, lose its
+/// answer, and refuse the request when it is repeated.
+fn rename_error(e: io::Error) -> StoreError {
+    match e.kind() {
+        ErrorKind::PermissionDenied
+        | ErrorKind::ReadOnlyFilesystem
+        | ErrorKind::CrossesDevices
+        | ErrorKind::OutOfMemory => StoreError::from(e),
+        _ => StoreError::Device,
+    }
+}
+
+/// Writes a new file beside the real one, and gives it the real one's name. If that fails, what was made is removed. `Device` is an error of the last step
+/// alone.
 fn replace_file<R: Files>(
     rt: &R,
     names: &mut Names,
@@ -310,7 +323,7 @@ where
     drop(file);
     let (made, path) = (names.beside.as_str(), names.path.as_str());
     let end = match filled {
-        Ok(()) => fs::rename(rt, made, path).map_err(|_| StoreError::Device),
+        Ok(()) => fs::rename(rt, made, path).map_err(rename_error),
         Err(e) => Err(StoreError::from(e)),
     };
     if end.is_err() {

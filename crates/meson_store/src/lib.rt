@@ -12,6 +12,6 @@ mod store_fault;
 pub use committing::{commit, path_in};
 pub use folder::Folder;
 pub use memory::Memory;
-pub use output::{Counted, Output};
+pub use output::{Counted, Output, Writer};
 pub use store::{Store, StoreError};
 pub use store_fault::StoreFault;

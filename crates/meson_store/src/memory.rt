@@ -95,7 +95,7 @@ impl Memory {
     /// Sets up a file.
     ///
     /// # Errors
-    /// Where a growth was refused; the store is then as it was.
+    /// An allocation failed; the store is then as it was.
     pub fn put(&mut self, name: &str, bytes: &[u8]) -> Result<(), AllocError>
         ensures ok { OnOk result (self.new ≡ with_file self.old name.now bytes.now) }
         ensures err { OnErr result (self.new ≡ self.old) }
@@ -106,7 +106,7 @@ impl Memory {
         Ok(())
     }
 
-    /// The bytes of a file, or none where there is no such file.
+    /// The bytes of a file, or none if there is no such file.
     pub fn get(&self, name: &str) -> Option<&[u8]>
         ensures { option_map (λ bytes. bytes.now) result ≡ get self.now.files name.now }
     {
@@ -118,7 +118,7 @@ impl Memory {
         None
     }
 
-    /// Has `count` calls of `read` fail, from call `first` on; the store's first call is 1.
+    /// Makes `count` calls of `read` fail, from call `first` on; the store's first call is 1.
     pub fn fail_read(&mut self, first: u64, count: u64)
         ensures { self.new ≡ record self.old { reads = with_failures self.old.reads first count } }
     {
@@ -126,9 +126,9 @@ impl Memory {
         self.reads.count = count;
     }
 
-    /// Has `count` calls of `replace` answer `Device`, from call `first` on; the store's first call is 1.
+    /// Makes `count` calls of `replace` answer `Device`, from call `first` on; the store's first call is 1.
     ///
-    /// With `leaves_new` the first one that fails leaves its new bytes. Where there is no memory for them, it answers that.
+    /// With `leaves_new` the first one that fails leaves its new bytes. If there is no memory for them, it answers that.
     pub fn fail_replace(&mut self, first: u64, count: u64, leaves_new: bool)
         ensures { self.new ≡ record self.old { replaces = with_failures self.old.replaces first count; leaves_new = leaves_new; is_sure = false } }
     {
@@ -138,7 +138,7 @@ impl Memory {
         self.is_sure = false;
     }
 
-    /// Has `count` calls of `replace` answer `Unchanged`, from call `first` on; the store's first call is 1.
+    /// Makes `count` calls of `replace` answer `Unchanged`, from call `first` on; the store's first call is 1.
     pub fn fail_unchanged(&mut self, first: u64, count: u64)
         ensures { self.new ≡ record self.old { replaces = with_failures self.old.replaces first count; leaves_new = false; is_sure = true } }
     {
@@ -158,7 +158,7 @@ impl Store for Memory {
 
     ghost replaces = { λ m. m.replaces.made };
 
-    /// Fails only as planned, or where a growth was refused.
+    /// Fails only as planned, or when an allocation failed.
     fn read(&mut self, alloc: Global, name: &str) -> Result<Option<Vec<u8>>, StoreError>
         ensures value { IfOk result (λ read. option_map (λ bytes. bytes.items) read ≡ get self.old.files name.now) }
         ensures after { self.new ≡ after_read self.old }
@@ -176,7 +176,7 @@ impl Store for Memory {
         Ok(Some(Vec::from_slice(alloc, bytes)?))
     }
 
-    /// Fails only as planned, or where a growth was refused.
+    /// Fails only as planned, or when an allocation failed.
     fn replace(&mut self, name: &str, bytes: &[u8]) -> Result<(), StoreError>
         ensures after { self.new ≡ replaced_so self.old name.now bytes.now result }
         ensures answer { MayAnswer self.old result }

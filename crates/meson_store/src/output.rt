@@ -1,6 +1,6 @@
 //! What a writer offers.
 
-ghost use Rattle.std.specs.Prelude.{◌≡◌, ◌∷◌, ◌++◌, [], IfSome, MatchResult, OnOk};
+ghost use Rattle.std.specs.Prelude.{◌≡◌, ◌∷◌, ◌++◌, [], IfSome, MatchResult, OnErr};
 ghost use Rattle.std.specs.Io.KnownBytes.{Appends};
 ghost use Rattle.meson_store.specs.Content.{Rose};
 ghost use Rattle.meson_store.specs.Output.{Heard, Gets, Fails};
@@ -14,31 +14,68 @@ use std::io::Write;
 pub trait Output {
     ghost heard: { Self → Heard };
 
-    /// Writes all the bytes, and sees that none is kept back.
+    /// Writes all the bytes, and flushes the writer. The clause does not say that it flushes.
     ///
     /// # Errors
-    /// Where a write failed, and then it is counted. The writer may have some of the bytes.
+    /// A write failed, and then it is counted. The writer may have some of the bytes.
     fn tell(&mut self, bytes: &[u8]) -> io::Result<()>
         ensures { MatchResult result (λ _. Gets (heard self.old) (heard self.new) bytes.now)
             (λ _. Fails (heard self.old) (heard self.new)) };
 
-    /// Writes a text and a line end: by one write where there is memory to build the line, else part after part.
+    /// Writes a text and a line end: by one write if there is memory to build the line, else part after part.
     ///
     /// # Errors
-    /// As those of `tell`.
+    /// The same as those of `tell`.
     fn tell_line<D: Display>(&mut self, alloc: Global, text: &D) -> io::Result<()>
         ensures { MatchResult result (λ _. IfSome (D.output text.now) (λ bytes. Gets (heard self.old) (heard self.new) (bytes ++ 10 ∷ [])))
             (λ _. Fails (heard self.old) (heard self.new)) };
 }
 
-/// A writer, and how many of its writes failed. The count stops at `u64::MAX`.
+/// A writer, and what is known of its failures.
+pub trait Writer: Write {
+    /// What a failure says about the writer before and after.
+    ghost broke: { Self → Self → Type 0 };
+
+    /// Writes all the bytes, and then flushes them.
+    ///
+    /// # Errors
+    /// The writer failed. It may have some of the bytes.
+    fn write_out(&mut self, bytes: &[u8]) -> io::Result<()>
+        ensures { MatchResult result (λ _. Appends (Self.contents self.old) (Self.contents self.new) bytes.now) (λ _. broke self.old self.new) };
+
+    /// Writes a text and a line end, part after part, and then flushes them.
+    ///
+    /// # Errors
+    /// As those of `write_out`.
+    fn write_line<D: Display>(&mut self, text: &D) -> io::Result<()>
+        ensures { MatchResult result
+            (λ _. IfSome (D.output text.now) (λ bytes. Appends (Self.contents self.old) (Self.contents self.new) (bytes ++ 10 ∷ [])))
+            (λ _. broke self.old self.new) };
+}
+
+/// Every writer is one. Nothing is known of what makes it fail.
+impl<W: Write> Writer for W {
+    ghost broke = { λ _ _. Unit {0} };
+
+    fn write_out(&mut self, bytes: &[u8]) -> io::Result<()> {
+        self.write_all(bytes)?;
+        self.flush()
+    }
+
+    fn write_line<D: Display>(&mut self, text: &D) -> io::Result<()> {
+        self.writeln(text)?;
+        self.flush()
+    }
+}
+
+/// A writer, with the number of its writes that failed. The count stops at `u64::MAX`.
 #[derive(Drop)]
-pub struct Counted<W: Write + Drop> {
+pub struct Counted<W: Writer + Drop> {
     writer: W,
     failures: u64,
 }
 
-impl<W: Write + Drop> Counted<W> {
+impl<W: Writer + Drop> Counted<W> {
     /// Counts from now on.
     pub fn new(writer: W) -> Self
         ensures { ⟦<Counted<W> as Output>⟧.heard result ≡ record { contents = W.contents writer; failures = 0 } }
@@ -49,14 +86,14 @@ impl<W: Write + Drop> Counted<W> {
         }
     }
 
-    /// How many writes failed.
+    /// The number of writes that failed.
     pub fn failures(&self) -> u64
         ensures { result ≡ (⟦<Counted<W> as Output>⟧.heard self.now).failures }
     {
         self.failures
     }
 
-    /// Counts how a write ended.
+    /// Counts the result of a write.
     fn counted(&mut self, told: io::Result<()>) -> io::Result<()>
         ensures told { result ≡ told }
         ensures writer { self.new.writer ≡ self.old.writer }
@@ -77,35 +114,28 @@ impl<W: Write + Drop> Counted<W> {
     }
 }
 
-/// Writes all the bytes, and then what is kept back of them.
-fn write_out<W: Write>(to: &mut W, bytes: &[u8]) -> io::Result<()>
-    ensures { OnOk result (Appends (W.contents to.old) (W.contents to.new) bytes.now) }
-{
-    to.write_all(bytes)?;
-    to.flush()
-}
-
-/// Writes a text and a line end, part after part, and then what is kept back of them.
-fn write_line<W: Write, D: Display>(to: &mut W, text: &D) -> io::Result<()>
-    ensures { OnOk result (IfSome (D.output text.now) (λ bytes. Appends (W.contents to.old) (W.contents to.new) (bytes ++ 10 ∷ []))) }
-{
-    to.writeln(text)?;
-    to.flush()
-}
-
-impl<W: Write + Drop> Output for Counted<W> {
+impl<W: Writer + Drop> Output for Counted<W> {
     ghost heard = { λ c. record { contents = W.contents c.writer; failures = c.failures } };
 
-    fn tell(&mut self, bytes: &[u8]) -> io::Result<()> {
-        let told = write_out(&mut self.writer, bytes);
+    fn tell(&mut self, bytes: &[u8]) -> io::Result<()>
+        ensures told { let old = ⟦<Counted<W> as Output>⟧.heard self.old in let new = ⟦<Counted<W> as Output>⟧.heard self.new in
+            MatchResult result (λ _. Gets old new bytes.now) (λ _. Fails old new) }
+        // It fails only where its writer does.
+        ensures broke { OnErr result (W.broke self.old.writer self.new.writer) }
+    {
+        let told = self.writer.write_out(bytes);
         self.counted(told)
     }
 
-    fn tell_line<D: Display>(&mut self, alloc: Global, text: &D) -> io::Result<()> {
+    fn tell_line<D: Display>(&mut self, alloc: Global, text: &D) -> io::Result<()>
+        ensures told { let old = ⟦<Counted<W> as Output>⟧.heard self.old in let new = ⟦<Counted<W> as Output>⟧.heard self.new in
+            MatchResult result (λ _. IfSome (D.output text.now) (λ bytes. Gets old new (bytes ++ 10 ∷ []))) (λ _. Fails old new) }
+        ensures broke { OnErr result (W.broke self.old.writer self.new.writer) }
+    {
         match format!(in alloc; "{text}\n") {
             Ok(line) => self.tell(line.as_bytes()),
             Err(AllocError) => {
-                let told = write_line(&mut self.writer, text);
+                let told = self.writer.write_line(text);
                 self.counted(told)
             }
         }

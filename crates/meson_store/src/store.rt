@@ -18,7 +18,7 @@ pub enum StoreError {
     /// The device failed, and every file is surely as it was.
     #[error("the device failed before any file changed")]
     Unchanged,
-    /// A growth was refused. Every file is as it was.
+    /// An allocation failed. Every file is as it was.
     #[error("out of memory")]
     OutOfMemory,
 }
@@ -52,7 +52,7 @@ impl From<io::Error> for StoreError {
 
 /// A store of files by name.
 ///
-/// A store that knows what it holds tells it as `content`; a folder of the file system tells none.
+/// A store that knows what it holds gives it as `content`; a folder of the file system gives none.
 pub trait Store {
     ghost use Rattle.meson_store.specs.StoreCalls.{FailureCounted, Leaves, one_more};
 
@@ -64,10 +64,10 @@ pub trait Store {
 
     ghost replaces: { Self → ℕ };
 
-    /// The bytes of a file, or none where there is no such file.
+    /// The bytes of a file, or none if there is no such file.
     ///
     /// # Errors
-    /// `OutOfMemory` where a growth was refused; else the device failed, and `failures` rose.
+    /// `OutOfMemory` when an allocation failed; else the device failed, and `failures` rose.
     fn read(&mut self, alloc: Global, name: &str) -> Result<Option<Vec<u8>>, StoreError>
         ensures value { IfOk result (λ read. IfSome (content self.old)
             (λ files. option_map (λ bytes. bytes.items) read ≡ get files name.now)) }
@@ -80,8 +80,7 @@ pub trait Store {
     /// Puts the bytes in place of the file's, or makes the file. Every other file stays.
     ///
     /// # Errors
-    /// `OutOfMemory` where a growth was refused; else the device failed, and `failures` rose. The file is as it was;
-    /// after `Device` it may have the new bytes.
+    /// `OutOfMemory` when an allocation failed; else the device failed, and `failures` rose. The file is as it was; after `Device` it may have the new bytes.
     fn replace(&mut self, name: &str, bytes: &[u8]) -> Result<(), StoreError>
         ensures ok { OnOk result (content self.new ≡ content_with (content self.old) name.now bytes.now) }
         ensures err { IfErr result (λ why. Leaves why name.now bytes.now (content self.old) (content self.new)) }
@@ -90,15 +89,15 @@ pub trait Store {
         ensures counted { replaces self.new ≡ one_more (replaces self.old) }
         ensures no_read { reads self.new ≡ reads self.old };
 
-    /// How many calls failed for another cause than memory. The count stops at `u64::MAX`.
+    /// The number of calls that failed for another cause than memory. The count stops at `u64::MAX`.
     fn failures(&self) -> u64
         ensures { result ≡ failures self.now };
 
-    /// How many calls of `read` there were, whatever they answered. The count stops at `u64::MAX`.
+    /// The number of calls of `read`, whatever they answered. The count stops at `u64::MAX`.
     fn reads(&self) -> u64
         ensures { result ≡ reads self.now };
 
-    /// How many calls of `replace` there were, whatever they answered. The count stops at `u64::MAX`.
+    /// The number of calls of `replace`, whatever they answered. The count stops at `u64::MAX`.
     fn replaces(&self) -> u64
         ensures { result ≡ replaces self.now };
 }

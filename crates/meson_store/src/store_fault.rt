@@ -5,7 +5,7 @@ use std::alloc::AllocError;
 use std::error::Error;
 use std::fmt;
 
-/// A fault of the store, of a writer, or want of memory.
+/// A fault of the store, of a writer, or out of memory.
 #[derive(Debug, Drop)]
 pub enum StoreFault {
     /// The store failed to read the file.
@@ -14,9 +14,9 @@ pub enum StoreFault {
     WriteFailed { name: Text, still_new: Many<Text> },
     /// The store has no file of that name.
     NoFile(Text),
-    /// What the program had to say could not be written. No line tells it: the program ends with status 3.
+    /// What the program had to print could not be written. No line reports it: the program ends with status 3.
     OutputFailed,
-    /// A growth was refused.
+    /// An allocation failed.
     OutOfMemory,
 }
 

@@ -1,4 +1,4 @@
--- What digests tell of files.
+-- What digests say about files.
 use Rattle.std.specs.Prelude.{◌≡◌, ◌≢◌, ◌⊎◌, ℕ, List, All, false, ◌==◌}
 use Rattle.std.specs.List.{list_any}
 use Rattle.meson_splice.specs.declared.file_set.File.{File}

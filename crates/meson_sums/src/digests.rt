@@ -25,11 +25,10 @@ fn line(alloc: Global, name: &str, bytes: &[u8]) -> Result<Vec<u8>, AllocError>
     Ok(line.into_bytes())
 }
 
-/// The SHA-256 digests of files in order, a line each, as `sha256sum` writes and checks them where no name has a backslash or
-/// a line feed.
+/// The SHA-256 digests of files in order, a line each. The format is that of `sha256sum`, if no name has a backslash or a line feed.
 ///
 /// # Errors
-/// Memory is refused.
+/// Out of memory.
 pub fn sums(alloc: Global, files: &FileSet) -> Result<Vec<u8>, AllocError>
     ensures { IfOk result (λ text. text.items ≡ sums files.now) }
 {
@@ -44,7 +43,7 @@ pub fn sums(alloc: Global, files: &FileSet) -> Result<Vec<u8>, AllocError>
 /// Whether these are the digests of the files, to the byte.
 ///
 /// # Errors
-/// Memory is refused.
+/// Out of memory.
 pub fn are_kept(alloc: Global, files: &FileSet, kept: &[u8]) -> Result<bool, AllocError>
     ensures { IfOk result (λ same. same ≡ bytes_eq (sums files.now) kept.now) }
 {

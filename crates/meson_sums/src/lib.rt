@@ -1,4 +1,4 @@
-//! Digests of files, by which one sees whether they are still as they were.
+//! Digests of files, which show whether the files are still as they were.
 #![tactic(auto)]
 
 mod digests;

@@ -1,4 +1,4 @@
--- The value of the code that a tree stands for: the tree without its texts.
+-- The value of the code for a tree: the tree without its texts.
 use Rattle.std.specs.Prelude.{List, [], ◌∷◌, map, Option, Some, None}
 use Rattle.meson_lex.specs.declared.kinds.Span.{Span}
 use Rattle.meson_syntax.specs.declared.tree.Arg.{Arg}

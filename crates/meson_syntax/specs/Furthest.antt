@@ -15,7 +15,7 @@ use Rattle.meson_syntax.specs.declared.tree.Branch.{Branch, fold-Branch}
 use Rattle.meson_syntax.specs.declared.tree.Block.{Block, fold-Block}
 use Rattle.meson_syntax.specs.declared.tree.Parsed.{Parsed}
 
--- the greatest of some numbers, and 0 of none
+-- the greatest of some numbers, and 0 if the list is empty
 abbrev pub greatest : List ℕ → ℕ
 greatest [] = 0
 greatest (n ∷ ns) = max n (greatest ns)

@@ -1,4 +1,4 @@
--- The grammar: the words of a tree, where its parts may stand, and how deep they nest.
+-- The grammar: the words of a tree, where its parts may be, and how deep they nest.
 -- Meson manual, Syntax: the grammar at its end, and the sections named below.
 use Rattle.std.specs.Prelude.{◌≡◌, ℕ, suc, ◌+◌, ◌<◌, ◌≤◌, max, Bool, true, false, List, [], ◌∷◌, ◌++◌, map, ⊤}
 use Rattle.meson_lex.specs.declared.kinds.Kind.{Kind}
@@ -68,7 +68,7 @@ abbrev mutual
   argument_words (named s x e) = (k.Identifier, x.text) ∷ (mark k.Colon ++ expression_words e)
   argument_words (pair s e f) = expression_words e ++ (mark k.Colon ++ expression_words f)
 
-  -- each element with the comma behind it
+  -- each element with the comma after it
   pub arguments_words : {S : Type 0} → Arguments S → Bool → List Word
   arguments_words no_arguments trailing = []
   arguments_words (argument a more) trailing = argument_words a ++ (comma_words more trailing ++ arguments_words more trailing)
@@ -83,7 +83,7 @@ abbrev mutual
   statement_words (breaks s) = mark k.WordBreak
   statement_words (continues s) = mark k.WordContinue
 
-  -- behind `if`, and behind `elif` from the second on
+  -- after `if`, and after `elif` from the second on
   pub branches_words : {S : Type 0} → Branches S → Kind → List Word
   branches_words no_branches word = []
   branches_words (branch e b more) word = mark word ++ (expression_words e ++ ((new_line ∷ block_words b) ++ branches_words more k.WordElif))
@@ -138,8 +138,8 @@ abbrev pub Flagged : {S : Type 0} → Bool → Arguments S → Type 0
 Flagged trailing no_arguments = trailing ≡ false
 Flagged trailing (argument a more) = ⊤
 
--- Each operand binds tighter than what it stands in; a row has two operands or more, all with operators of its level;
--- a list has what its brackets hold, and arguments without a name come first.
+-- Each operand binds tighter than what it is in. A row has two operands or more, all with operators of its level. A list has what its brackets hold, and
+-- arguments without a name are first.
 abbrev mutual
   pub LevelExpression : {S : Type 0} → Expression S → Type 0
   LevelExpression (identifier s x) = ⊤
@@ -207,7 +207,7 @@ abbrev mutual
 abbrev pub LevelFile : {S : Type 0} → File S → Type 0
 LevelFile (file s b) = LevelBlock b
 
--- ---- depth: how many brackets, conditionals (around their second and third part), selections and iterations stand inside one another
+-- ---- depth: how many brackets, conditionals (around their second and third part), selections and iterations are inside one another
 
 abbrev mutual
   pub expression_depth : {S : Type 0} → Expression S → ℕ

@@ -7,23 +7,23 @@ use Rattle.meson_syntax.specs.Tree.{Listing, File, Plain, erase}
 use Rattle.meson_syntax.specs.Reads.{Reads, IsSpanned, IsSpannedWithin}
 use Rattle.meson_syntax.specs.ReadsList.{IsSpannedListWithin}
 
--- A text reads as at most one tree.
+-- A text parses as at most one tree.
 abbrev pub OneTree : Type 0
 OneTree = (bytes : List ℕ) (s t : Plain) → Reads bytes s → Reads bytes t → s ≡ t
 
--- What a text reads as stands in it.
+-- The tree that a text parses as is spelled by the text.
 abbrev pub HasSpans : Type 0
 HasSpans = (bytes : List ℕ) (t : Plain) → Reads bytes t → (f : File Span) × IsSpanned bytes f × (erase f ≡ t)
 
--- And each node stands at one place.
+-- And each node is at one place.
 abbrev pub OneSpannedTree : Type 0
 OneSpannedTree = (bytes : List ℕ) (f g : File Span) → IsSpanned bytes f → IsSpanned bytes g → f ≡ g
 
--- So it is within any limits, and of two limits as well.
+-- So it is within any limits, and for two limits as well.
 abbrev pub OneSpannedTreeWithin : Type 0
 OneSpannedTreeWithin = (limits others : Limits) (bytes : List ℕ) (f g : File Span) → IsSpannedWithin limits bytes f → IsSpannedWithin others bytes g → f ≡ g
 
--- And of a text that is one list.
+-- And for a text that is one list.
 abbrev pub OneSpannedList : Type 0
 OneSpannedList = (b : Bracket) (bytes : List ℕ) (most other : ℕ) (l m : Listing Span) → IsSpannedListWithin most b bytes l
     → IsSpannedListWithin other b bytes m → l ≡ m

@@ -1,4 +1,4 @@
--- What a box ends as, where its value is lent for writing: the value that is left there.
+-- What a box ends as, if its value is borrowed for writing: the value that is left there.
 use Rattle.std.specs.Borrow.{Lends, Fml, RattleType, MutBor}
 use Rattle.meson_syntax.specs.contracts.boxed.Boxed.{the_row}
 

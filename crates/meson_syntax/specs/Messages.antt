@@ -1,4 +1,4 @@
--- What is told of a text that is no build file.
+-- What is reported of a text that is not a valid build file.
 use Rattle.std.specs.Prelude.{ℕ, List, ◌++◌, codes, decimal}
 use Rattle.meson_lex.specs.Messages.{lex_fault_text}
 use Rattle.meson_syntax.specs.declared.fault.ParseFault.{ParseFault}

@@ -1,4 +1,4 @@
--- The code's trees with each border exchanged by one function, the borders of names too.
+-- The code's trees with each border mapped by one function, the borders of names too.
 use Rattle.std.specs.Prelude.{ℕ, map}
 use Rattle.meson_syntax.specs.declared.tree.Arg.{Arg, fold-Arg}
 use Rattle.meson_syntax.specs.declared.tree.Arg.TheOpen.{Arg-F, Expr-F, Tail-F, List-F, Operand-F}
@@ -19,7 +19,7 @@ use Rattle.meson_syntax.specs.declared.tree.Block.{Block, fold-Block}
 use Rattle.meson_syntax.specs.declared.tree.Parsed.{Parsed}
 use Rattle.meson_syntax.specs.Moving.{span_by}
 
--- ---- trees with their borders exchanged
+-- ---- trees with their borders mapped
 
 module _ (g : ℕ → ℕ) where
   abbrev arg_step : Arg-F Arg Expr rust_tail.Tail rust.List Operand → Arg

@@ -8,7 +8,7 @@ use Rattle.meson_lex.specs.declared.kinds.Span.{Span}
 abbrev pub span_by : (ℕ → ℕ) → Span → Span
 span_by g s = record { from = g s.from; to = g s.to }
 
--- where a border stands once the `was` bytes before `end` became `now` bytes: one at `end` or behind it moves by the difference
+-- the place of a border once the `was` bytes before `end` became `now` bytes: one at `end` or after it moves by the difference
 abbrev pub moved : (end was now : ℕ) → ℕ → ℕ
 moved end was now n = if nat_le end n then (n - was) + now else n
 

@@ -34,7 +34,7 @@ operator_kind op.Times = k.Star
 operator_kind op.Divide = k.Slash
 operator_kind op.Remainder = k.Percent
 
--- of those behind its first
+-- of those after its first
 abbrev pub operator_rest : Operator → List Kind
 operator_rest op.NotIn = k.WordIn ∷ []
 operator_rest _ = []
@@ -67,7 +67,7 @@ closes bracket.Round = k.CloseRound
 closes bracket.Square = k.CloseSquare
 closes bracket.Curly = k.CloseCurly
 
--- ---- what stands in a list
+-- ---- what is in a list
 
 -- expressions by themselves, as arguments or elements
 abbrev pub holds_values : Bracket → Bool

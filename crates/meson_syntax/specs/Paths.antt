@@ -1,8 +1,8 @@
--- Paths into trees: each step is the number of a child, counted from 0 in the order of the source. The children of a block are its
--- statements; of an expression statement or an assignment its expression; of a selection condition, block, condition, block, .., and the
--- block behind `else`; of an iteration its expression and its block; of an array its elements; of a dictionary key, value, key, value, ..;
--- of a call the expressions of its arguments; of a row its operands; of a unary expression or a parenthesis its inside; of a conditional
--- its three parts; of a postfix row its base, and then the argument expressions or the index of each tail. A file is its block.
+-- Paths into trees: each step is the number of a child, counted from 0 in the order of the source. The children of a block are its statements. Those of an
+-- expression statement or an assignment are its expression. Those of a selection are condition, block, condition, block, .., and the block after `else`. Those
+-- of an iteration are its expression and its block. Those of an array are its elements; of a dictionary key, value, key, value, .. Those of a call are the
+-- expressions of its arguments, those of a row its operands. Those of a unary expression or a parenthesis are its inside, those of a conditional its three
+-- parts. Those of a postfix row are its base, and then the argument expressions or the index of each tail. A file is its block.
 use Rattle.std.specs.Prelude.{ℕ, zero, suc, Bool, List, [], ◌∷◌, ◌++◌, map, Option, Some, None, option_map, option_and_then}
 use Rattle.meson_lex.specs.declared.kinds.Kind.TheVariants as k
 use Rattle.meson_lex.specs.Significant.{Word, new_line}
@@ -29,7 +29,7 @@ node_words S of_expression e = expression_words e
 node_words S of_statement s = statement_words s
 node_words S of_block b = block_words b
 
--- A node within something: the words before and behind it, and that thing with another node in its place.
+-- A node within something: the words before and after it, and that thing with another node in its place.
 pub record Hole (S : Type 0) (T : Type 0) : Type 0 where
   pub sort : Sort
   pub inside : Node sort S
@@ -37,7 +37,7 @@ pub record Hole (S : Type 0) (T : Type 0) : Type 0 where
   pub behind : List Word
   pub back : Node sort S → T
 
--- a hole in a part of something that has these words before and behind the part
+-- a hole in a part of something that has these words before and after the part
 abbrev pub around : {S T U : Type 0} → List Word → List Word → (T → U) → Hole S T → Hole S U
 around before behind make h = record { sort = h.sort; inside = h.inside; before = before ++ h.before; behind = h.behind ++ behind; back = λ x. make (h.back x) }
 
@@ -212,7 +212,7 @@ list_span (listing s trailing list) = s
 abbrev pub inner_words : {S : Type 0} → Listing S → List Word
 inner_words (listing s trailing list) = arguments_words list trailing
 
--- An element of a list: the words before and behind it between the brackets, and the elements with another one in its place.
+-- An element of a list: the words before and after it between the brackets, and the elements with another one in its place.
 pub record ElementAt (S : Type 0) : Type 0 where
   pub element : Argument S
   pub before : List Word
@@ -228,7 +228,7 @@ elements_at (argument a more) trailing =
 abbrev pub element_at : {S : Type 0} → Listing S → ℕ → Option (ElementAt S)
 element_at (listing s trailing list) n = nth (elements_at list trailing) n
 
--- the value of an element (of a pair what stands behind its colon), and the words before it in the element
+-- the value of an element (of a pair what is after its colon), and the words before it in the element
 abbrev pub value_of : {S : Type 0} → Argument S → Option (Expression S)
 value_of (plain e) = Some e
 value_of (named s x e) = Some e

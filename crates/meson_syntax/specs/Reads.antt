@@ -1,4 +1,4 @@
--- What it means that a text reads as a tree, and why a text reads as none.
+-- What it means that a text parses as a tree, and why a text does not parse.
 use Rattle.std.specs.Prelude.{◌≡◌, ◌≢◌, ℕ, ◌<◌, ◌≤◌, List, [], ◌∷◌, length, take, Option, Some, None, Result, Ok, Err, ⊤}
 use Rattle.std.specs.Str.{IsUtf8}
 use Rattle.meson_lex.specs.declared.kinds.Span.{Span}
@@ -40,7 +40,7 @@ Exceeds (Some most) len = most < len
 abbrev pub mark_bytes : List ℕ
 mark_bytes = 239 ∷ 187 ∷ 191 ∷ []
 
--- The text has an item list whose significant tokens are the words of the tree, and each part of the tree may stand where it does.
+-- The text has an item list whose significant tokens are the words of the tree. Each part of the tree may be where it is.
 pub record Spells (bytes : List ℕ) (t : Plain) : Type 0 where
   pub items : List Lexeme
   pub are_items : IsItemList bytes items
@@ -53,18 +53,18 @@ pub record IsSourceWithin (limits : Limits) (bytes : List ℕ) : Type 0 where
   pub utf8 : IsUtf8 bytes
   pub no_mark : take 3 bytes ≢ mark_bytes
 
--- The text is a build file that reads as the tree.
+-- The text is a build file that parses as the tree.
 pub record ReadsWithin (limits : Limits) (bytes : List ℕ) (t : Plain) : Type 0 where
   pub source : IsSourceWithin limits bytes
   pub spells : Spells bytes t
   pub depth : file_depth t ≤ limits.depth
 
--- The text reads as the tree without its spans, and each node stands at its span.
+-- The text parses as the tree without its spans, and each node is at its span.
 pub record IsSpannedWithin (limits : Limits) (bytes : List ℕ) (t : File Span) : Type 0 where
   pub reads : ReadsWithin limits bytes (erase t)
   pub stands : SpellsFile t (length bytes) limits.depth (located reads.spells.items)
 
--- Why a text is refused before its grammar is asked, in order.
+-- Why a text is refused before its grammar is checked, in order.
 pub data IsUnreadableWithin (limits : Limits) (bytes : List ℕ) : ParseFault → Type 0 where
   too_large : Exceeds limits.len (length bytes) → IsUnreadableWithin limits bytes TooLarge
   not_utf8 : Fits limits.len (length bytes) → (IsUtf8 bytes → ⊥) → IsUnreadableWithin limits bytes NotUtf8
@@ -72,11 +72,11 @@ pub data IsUnreadableWithin (limits : Limits) (bytes : List ℕ) : ParseFault �
   lexical : (items : List Lexeme) (rest : List ℕ) (fault : LexFault) → IsSourceWithin limits bytes → HasItemsThenFault 0 bytes items rest fault
       → IsUnreadableWithin limits bytes (Lex fault)
 
--- no tree is read
+-- no tree is parsed
 abbrev pub HasNoTreeWithin : Limits → List ℕ → Type 0
 HasNoTreeWithin limits bytes = (t : Plain) → ReadsWithin limits bytes t → ⊥
 
--- Which refusals a text may get: the first that comes before the grammar, or else one of the grammar, where it has no tree.
+-- Which refusals a text may get: the first before the grammar, or else one of the grammar, if it has no tree.
 abbrev pub MayRefuseWithin : Limits → List ℕ → ParseFault → Type 0
 MayRefuseWithin limits bytes TooLarge = IsUnreadableWithin limits bytes TooLarge
 MayRefuseWithin limits bytes NotUtf8 = IsUnreadableWithin limits bytes NotUtf8

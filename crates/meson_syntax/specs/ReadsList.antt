@@ -31,8 +31,8 @@ pub record IsListText (text : List ℕ) (b : Bracket) (words : List Word) : Type
   pub is_close : close_item.kind ≡ closes b
   pub is_inner : spoken inner ≡ words
 
--- The text is the list, in which so many constructs stand inside one another at most: an opening bracket, the words of the list's
--- elements, and a closing bracket.
+-- The text is the list, in which at most this number of constructs are inside one another. It is an opening bracket, the words of the list's elements, and a
+-- closing bracket.
 pub record ReadsListWithin (most : ℕ) (b : Bracket) (bytes : List ℕ) (l : Listing Nowhere) : Type 0 where
   pub utf8 : IsUtf8 bytes
   pub text : IsListText bytes b (inner_words l)
@@ -43,16 +43,16 @@ pub record ReadsListWithin (most : ℕ) (b : Bracket) (bytes : List ℕ) (l : Li
 abbrev pub list_items : {bytes : List ℕ} {b : Bracket} {words : List Word} → IsListText bytes b words → List Lexeme
 list_items t = t.open_item ∷ (t.inner ++ t.close_item ∷ [])
 
--- The text is the list without its spans, and each node stands at its span.
+-- The text is the list without its spans, and each node is at its span.
 pub record IsSpannedListWithin (most : ℕ) (b : Bracket) (bytes : List ℕ) (l : Listing Span) : Type 0 where
   pub reads : ReadsListWithin most b bytes (erase_listing l)
   pub stands : SpellsListing l b most (spots start 0 0 (list_items reads.text))
 
--- no list is read
+-- no list is parsed
 abbrev pub HasNoListWithin : ℕ → Bracket → List ℕ → Type 0
 HasNoListWithin most b bytes = (l : Listing Nowhere) → ReadsListWithin most b bytes l → ⊥
 
--- Which refusals a text may get: the first that comes before the grammar, or else one of the grammar, where it is no such list.
+-- Which refusals a text may get: the first before the grammar, or else one of the grammar, if it is not such a list.
 abbrev pub MayRefuseListWithin : ℕ → Bracket → List ℕ → ParseFault → Type 0
 MayRefuseListWithin most b bytes (Unexpected at) = ((e : ParseFault) → IsUnreadableWithin (of_lists_within most) bytes e → ⊥) × HasNoListWithin most b bytes
 MayRefuseListWithin most b bytes (TooDeep at) = ((e : ParseFault) → IsUnreadableWithin (of_lists_within most) bytes e → ⊥) × HasNoListWithin most b bytes

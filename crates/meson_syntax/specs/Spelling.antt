@@ -1,5 +1,5 @@
--- Which located tokens spell a tree, and where its nodes stand: a grammar, from trees to tokens.
--- A node goes from its first token to its last, a list from bracket to bracket.
+-- Which located tokens spell a tree, and the places of its nodes: a grammar, from trees to tokens.
+-- A node extends from its first token to its last, a list from bracket to bracket.
 use Rattle.std.specs.Prelude.{◌≡◌, ℕ, suc, ◌+◌, ◌<◌, ◌≤◌, Bool, true, false, List, [], ◌∷◌, ◌++◌}
 use Rattle.meson_lex.specs.declared.kinds.Kind.{Kind}
 use Rattle.meson_lex.specs.declared.kinds.Kind.TheVariants as k
@@ -11,7 +11,7 @@ use Rattle.meson_syntax.specs.Operators.{operator_kind, operator_rest, unary_kin
 use Rattle.meson_syntax.specs.Tree.{Name, Expression, identifier, boolean, integer, string, paren, array, dictionary, call, unary, row, postfix, conditional, Operands, no_operands, operand, Tail, method, index, Tails, no_tails, tail, Listing, listing, Argument, plain, named, pair, is_named, Arguments, no_arguments, argument, Statement, evaluate, assign, selection, iteration, breaks, continues, Branches, no_branches, branch, Otherwise, nothing_else, otherwise, Statements, no_statements, statement, Block, block, File, file}
 use Rattle.meson_syntax.specs.Grammar.{looseness, row_level, HasOperand, HasTail, HasBranch, Flagged}
 
--- where the last token ends
+-- the place where the last token ends
 abbrev pub end_of : ℕ → List Token → ℕ
 end_of last [] = last
 end_of last (t ∷ ts) = end_of t.to ts
@@ -53,7 +53,7 @@ pub record Deeper (P : ℕ → List Token → Type 0) (depth : ℕ) (ts : List T
   pub less : depth ≡ suc inner
   pub spelled : P inner ts
 
--- a line end, and then what P takes, which knows where the line end stands
+-- a line end, and then what P takes, which knows the place of the line end
 pub record NewLine (P : ℕ → List Token → Type 0) (ts : List Token) : Type 0 where
   pub token : Token
   pub rest : List Token
@@ -82,13 +82,13 @@ abbrev pub SaysNames : List (Name Span) → List Token → Type 0
 SaysNames [] ts = ⊥
 SaysNames (x ∷ xs) ts = Then (SaysName x) (SaysMoreNames xs) ts
 
--- the comma behind an element: where another follows, or a trailing one is written
+-- the comma after an element: if another follows, or a trailing one is written
 abbrev pub Comma : {S : Type 0} → Arguments S → Bool → List Token → Type 0
 Comma no_arguments true = One k.Comma
 Comma no_arguments false = Nothing
 Comma (argument a more) trailing = One k.Comma
 
--- The tokens spell the tree, with its spans, and at most depth constructs stand inside one another.
+-- The tokens spell the tree, with its spans, and at most depth constructs are inside one another.
 abbrev mutual
   pub SpellsExpression : Expression Span → ℕ → List Token → Type 0
   SpellsExpression (identifier s x) depth ts = Covers s ts × IsOneToken k.Identifier x ts
@@ -126,7 +126,7 @@ abbrev mutual
   SpellsListing (listing s trailing list) b depth ts = Covers s ts × (0 < depth) × Flagged trailing list
       × Then (One (opens b)) (Then (SpellsArguments list trailing b false depth) (One (closes b))) ts
 
-  -- what the brackets hold, and after an argument with a name only such follow
+  -- what the brackets hold, and after an argument with a name only arguments with names
   pub SpellsArguments : Arguments Span → Bool → Bracket → Bool → ℕ → List Token → Type 0
   SpellsArguments no_arguments trailing b seen depth ts = Nothing ts
   SpellsArguments (argument a more) trailing b seen depth ts =
@@ -150,7 +150,7 @@ abbrev mutual
   SpellsStatement (breaks s) depth ts = Covers s ts × One k.WordBreak ts
   SpellsStatement (continues s) depth ts = Covers s ts × One k.WordContinue ts
 
-  -- behind `if`, and behind `elif` from the second on
+  -- after `if`, and after `elif` from the second on
   pub SpellsBranches : Branches Span → Kind → ℕ → List Token → Type 0
   SpellsBranches no_branches word depth ts = Nothing ts
   SpellsBranches (branch e b more) word depth ts =
@@ -165,10 +165,10 @@ abbrev mutual
   SpellsStatements no_statements depth ts = Nothing ts
   SpellsStatements (statement s more) depth ts = Then (SpellsStatement s depth) (Then (One k.LineEnd) (SpellsStatements more depth)) ts
 
-  -- behind a token that ends there
+  -- after a token that ends there
   pub SpellsBlock : Block Span → ℕ → ℕ → List Token → Type 0
   SpellsBlock (block s statements) depth last ts = CoversBlock last s ts × SpellsStatements statements depth ts
 
--- the tokens of a file of so many bytes
+-- the tokens of a file of this number of bytes
 abbrev pub SpellsFile : File Span → ℕ → ℕ → List Token → Type 0
 SpellsFile (file s b) len depth ts = (s.from ≡ 0) × (s.to ≡ len) × SpellsBlock b depth 0 ts

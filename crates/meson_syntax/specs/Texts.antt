@@ -1,4 +1,4 @@
--- A tree with its texts read off a source: that of a node at its span, that of a name at its place.
+-- A tree with its texts read from a source: that of a node at its span, that of a name at its place.
 use Rattle.std.specs.Prelude.{◌≡◌, ℕ, List, [], ◌∷◌, map, slice_range, ⊤}
 use Rattle.meson_lex.specs.declared.kinds.Span.{Span}
 use Rattle.meson_lex.specs.Located.{Token, located}
@@ -81,7 +81,7 @@ module _ (source : List ℕ) where
   abbrev pub texts_of : File Span → File Span
   texts_of (file s b) = file s (texts_of_block b)
 
--- each token has the text that stands where it does
+-- each token has the text at its place
 abbrev pub AreSlices : List ℕ → List Token → Type 0
 AreSlices source [] = ⊤
 AreSlices source (t ∷ ts) = (t.text ≡ slice_range source t.from t.to) × AreSlices source ts
@@ -92,7 +92,7 @@ AreSlices source (t ∷ ts) = (t.text ≡ slice_range source t.from t.to) × Are
 abbrev pub TokensAreSlices : Type 0
 TokensAreSlices = (source : List ℕ) (items : List Lexeme) → IsItemList source items → AreSlices source (located items)
 
--- A tree that slices of a source spell has the texts that stand there at its spans.
+-- A tree that slices of a source spell has the texts that are there at its spans.
 abbrev pub SpelledTexts : Type 0
 SpelledTexts = (source : List ℕ) (f : File Span) (len depth : ℕ) (ts : List Token) → AreSlices source ts → SpellsFile f len depth ts
     → texts_of source f ≡ f
@@ -101,7 +101,7 @@ abbrev pub ListSpelledTexts : Type 0
 ListSpelledTexts = (source : List ℕ) (l : Listing Span) (b : Bracket) (depth : ℕ) (ts : List Token) → AreSlices source ts → SpellsListing l b depth ts
     → texts_of_listing source l ≡ l
 
--- So has a tree that stands in a text, and a list that is one.
+-- So has a tree that is spelled by a text, and a list that is one.
 abbrev pub SpannedTexts : Type 0
 SpannedTexts = (limits : Limits) (bytes : List ℕ) (f : File Span) → IsSpannedWithin limits bytes f → texts_of bytes f ≡ f
 

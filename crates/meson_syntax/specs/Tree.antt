@@ -1,4 +1,4 @@
--- Trees of build files. What each node carries is an S: a span, or nothing.
+-- Trees of build files. Each node carries an S: a span, or nothing.
 use Rattle.std.specs.Prelude.{ℕ, Bool, true, false, List, [], ◌∷◌, map}
 use Rattle.meson_syntax.specs.declared.operator.Operator.{Operator}
 use Rattle.meson_syntax.specs.declared.operator.UnaryOperator.{UnaryOperator}
@@ -26,9 +26,9 @@ mutual
     unary : S → UnaryOperator → Expression S → Expression S
     -- the first operand, and each further one with the operator before it
     row : S → Expression S → Operands S → Expression S
-    -- an expression with the method calls and indexes behind it
+    -- an expression with the method calls and indexes after it
     postfix : S → Expression S → Tails S → Expression S
-    -- what is asked, and the answers for yes and for no
+    -- the condition, and the answers for yes and for no
     conditional : S → Expression S → Expression S → Expression S → Expression S
 
   pub data Operands (S : Type 0) : Type 0 where
@@ -43,7 +43,7 @@ mutual
     no_tails : Tails S
     tail : Tail S → Tails S → Tails S
 
-  -- a list from bracket to bracket: whether a comma stands after its last element, and its elements
+  -- a list from bracket to bracket: whether a comma is after its last element, and its elements
   pub data Listing (S : Type 0) : Type 0 where
     listing : S → Bool → Arguments S → Listing S
 
@@ -69,12 +69,12 @@ mutual
     breaks : S → Statement S
     continues : S → Statement S
 
-  -- the conditions of `if` and of each `elif`, each with the block behind it
+  -- the conditions of `if` and of each `elif`, each with the block after it
   pub data Branches (S : Type 0) : Type 0 where
     no_branches : Branches S
     branch : Expression S → Block S → Branches S → Branches S
 
-  -- the block behind `else`, if there is one
+  -- the block after `else`, if there is one
   pub data Otherwise (S : Type 0) : Type 0 where
     nothing_else : Otherwise S
     otherwise : Block S → Otherwise S
@@ -144,7 +144,7 @@ Nowhere = Unit {0}
 abbrev pub Plain : Type 0
 Plain = File Nowhere
 
--- a name that stands nowhere
+-- a name that is nowhere in a source
 abbrev pub bare_name : List ℕ → Name Nowhere
 bare_name text = record { place = tt; text = text }
 

@@ -1,4 +1,4 @@
--- The tree that a value of the code stands for over its source. Texts are the source's slices at the spans.
+-- The tree of a value of the code over its source. Texts are the source's slices at the spans.
 use Rattle.std.specs.Prelude.{ℕ, List, Option, Some, None, map, slice_range}
 use Rattle.meson_lex.specs.declared.kinds.Span.{Span}
 use Rattle.meson_syntax.specs.declared.operator.Operator.{Operator}
@@ -22,7 +22,7 @@ use Rattle.meson_syntax.specs.Tree.{Name, Expression, identifier, boolean, integ
 abbrev pub text_at : List ℕ → Span → List ℕ
 text_at source span = slice_range source span.from span.to
 
--- the name that stands at a span
+-- the name at a span
 abbrev pub name_at : List ℕ → Span → Name Span
 name_at source span = record { place = span; text = text_at source span }
 

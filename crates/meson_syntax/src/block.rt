@@ -20,7 +20,7 @@ use meson_lex::{Kind, Span};
 use meson_values::Many;
 use std::alloc::Global;
 
-/// The tree of the file whose significant tokens these are, in which at most `depth` constructs stand inside one another.
+/// The tree of the file with these significant tokens, in which at most `depth` constructs are inside one another.
 #[tactic(auto, unfolding(crate::specs::inside::ReadingFiles::whole, crate::specs::inside::Cursor::input))]
 pub(crate) fn read_tokens(
     alloc: Global,
@@ -45,7 +45,7 @@ pub(crate) fn read_tokens(
     Ok(Parsed { block, span })
 }
 
-/// Reads a block in which fewer than `depth` constructs stand inside one another.
+/// Reads a block in which fewer than `depth` constructs are inside one another.
 pub(crate) fn read_block(
     alloc: Global,
     source: &[u8],
@@ -78,7 +78,7 @@ fn ends_block(kind: Option<Kind>) -> bool
 }
 
 impl<'a, F> Grammar<'a, F> {
-    /// An expression that stands here.
+    /// An expression, from here.
     pub(crate) fn value(&self, tokens: &mut Cursor<'_>) -> Result<Expr, ParseFault>
         requires { self.now.depth + 1 < 2 ^ 64 }
         ensures { AnswersAs (expression (suc self.now.depth)) expr_view self.now.source.now tokens.old result tokens.new }
@@ -86,14 +86,14 @@ impl<'a, F> Grammar<'a, F> {
         read_expression(self.alloc, self.source, tokens, self.depth + 1)
     }
 
-    /// An expression that belongs to a construct that stands here: a condition, or what a loop runs through.
+    /// An expression that belongs to a construct that begins here: a condition, or what a loop runs through.
     pub(crate) fn inner_value(&self, tokens: &mut Cursor<'_>) -> Result<Expr, ParseFault>
         ensures { AnswersAs (expression self.now.depth) expr_view self.now.source.now tokens.old result tokens.new }
     {
         read_expression(self.alloc, self.source, tokens, self.depth)
     }
 
-    /// The span of a block of these statements that are read and that began at `start`: from the first to the last, or empty.
+    /// The span of a block of these statements, which are parsed and began at `start`: from the first to the last, or empty.
     #[tactic(auto, unfolding(crate::specs::inside::Input::span_from))]
     fn block_span(&self, tokens: &Cursor<'_>, start: usize, statements: &[Stmt]) -> Span
         ensures { result ≡ spec.block_span start (stmts_view self.now.source.now statements.now) (input self.now.source.now tokens.now) }
@@ -106,7 +106,7 @@ impl<'a, F> Grammar<'a, F> {
 }
 
 impl<'a, F: Fn(Global, &[u8], &mut Cursor<'_>, usize) -> Result<Block, ParseFault>> Grammar<'a, F> {
-    /// A block of a construct that stands here, behind a line end.
+    /// A block of a construct that begins here, after a line end.
     #[tactic(auto, unfolding(crate::specs::inside::ReadingFiles::bodied))]
     pub(crate) fn bodied(&self, tokens: &mut Cursor<'_>) -> Result<Block, ParseFault>
         requires { NestsBlocks self.now.depth (F.pre self.now.deeper) (F.post self.now.deeper) }
@@ -149,7 +149,7 @@ impl<'a, F: Fn(Global, &[u8], &mut Cursor<'_>, usize) -> Result<Block, ParseFaul
         ensures { Proceeds spec.statement_lines stmts_view self.now.source.now self.now.depth tokens.old result tokens.new }
     {
         let mut found = Many::new(self.alloc);
-        // Each turn takes a token at least.
+        // Each turn takes at least one token.
         for _turn in 0..self.left(tokens) {
             if ends_block(self.peek(tokens)) {
                 return Ok(found);

@@ -1,4 +1,4 @@
-//! A value in memory of its own.
+//! A value in its own memory.
 
 ghost use Rattle.std.specs.Prelude.{◌≡◌, IfOk};
 ghost use Rattle.std.specs.Borrow.{sem};
@@ -7,7 +7,7 @@ ghost use Rattle.meson_syntax.specs.LendsInside.{LendsInside};
 use std::alloc::{AllocError, Global};
 use std::marker::Model;
 
-/// One value on the heap. Contracts see the value and not where it lies, so a tree that owns its parts through it is plain data.
+/// One value on the heap. Contracts see the value and not its address, so a tree that owns its parts through it is plain data.
 pub struct Boxed<T> {
     inner: Box<T>,
 }
@@ -22,7 +22,7 @@ impl<T> Model for Boxed<T> {
     ghost view = { λ b. b.inner.value };
 }
 
-/// Written by hand, so that what a tree holds goes by a call of this function.
+/// Written by hand, so that what a tree holds is dropped by a call of this function.
 impl<T: Drop> Drop for Boxed<T> {
     fn drop(self) {
         let Boxed { inner: _ } = self;
@@ -30,14 +30,14 @@ impl<T: Drop> Drop for Boxed<T> {
 }
 
 impl<T> Boxed<T> {
-    /// The value, lent.
+    /// The value, borrowed.
     pub fn get(&self) -> &T
         ensures { result.now ≡ self.now }
     {
         &self.inner
     }
 
-    /// The value, lent for writing.
+    /// The value, borrowed for writing.
     pub fn get_mut(&mut self) -> &mut T
         ensures* writes_back { sem 𝓛 (LendsInside T.row self.entry result) }
         ensures value { result.now ≡ self.old }
@@ -47,7 +47,7 @@ impl<T> Boxed<T> {
 }
 
 impl<T: Drop> Boxed<T> {
-    /// A value put into memory of its own, unless memory is refused.
+    /// A value put into memory of its own, unless out of memory.
     pub fn new(alloc: Global, value: T) -> Result<Boxed<T>, AllocError>
         ensures { IfOk result (λ b. b ≡ value) }
     {

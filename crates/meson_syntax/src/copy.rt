@@ -1,4 +1,4 @@
-//! Equal trees of their own memory.
+//! Equal trees in their own memory.
 
 ghost use Rattle.std.specs.Prelude.{◌≡◌, IfErr, IfOk};
 
@@ -12,7 +12,7 @@ use meson_values::Many;
 use std::alloc::{AllocError, Global};
 
 impl Parsed {
-    /// An equal tree. The only refusal is want of memory.
+    /// An equal tree. It fails only when out of memory.
     pub fn copy(&self, alloc: Global) -> Result<Parsed, ParseFault>
         ensures equal { IfOk result (λ p. p ≡ self.now) }
         ensures refused { IfErr result (λ e. e ≡ ParseFault.OutOfMemory) }
@@ -21,7 +21,7 @@ impl Parsed {
     }
 }
 
-/// An equal tree, of which only a growth can be refused.
+/// An equal tree; only an allocation can fail.
 pub fn copy_tree(alloc: Global, tree: &Parsed) -> Result<Parsed, AllocError>
     ensures { IfOk result (λ p. p ≡ tree.now) }
 {

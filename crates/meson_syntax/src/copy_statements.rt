@@ -1,4 +1,4 @@
-//! Equal statements of their own memory.
+//! Equal statements in their own memory.
 
 ghost use Rattle.std.specs.Prelude.{◌≡◌, IfOk};
 

@@ -1,4 +1,4 @@
-//! Expressions, and the conditionals that hold the looser ones together.
+//! Expressions, and the conditionals, which bind loosest.
 //!
 //! The rules are those of the Syntax page of the Meson manual.
 
@@ -16,7 +16,7 @@ use std::alloc::Global;
 /// The level of the loosest rows.
 const LOOSEST: u8 = 6;
 
-/// Reads an expression in which fewer than `depth` constructs stand inside one another.
+/// Reads an expression in which fewer than `depth` constructs are inside one another.
 pub(crate) fn read_expression(
     alloc: Global,
     source: &[u8],
@@ -38,7 +38,7 @@ pub(crate) fn read_expression(
 }
 
 impl<'a, F: Fn(Global, &[u8], &mut Cursor<'_>, usize) -> Result<Expr, ParseFault>> Grammar<'a, F> {
-    /// An expression inside a construct that stands here.
+    /// An expression inside a construct that begins here.
     pub(crate) fn inner(&self, tokens: &mut Cursor<'_>) -> Result<Expr, ParseFault>
         requires { Nests self.now.depth (F.pre self.now.deeper) (F.post self.now.deeper) }
         ensures { AnswersAs (spec.expression self.now.depth) expr_view self.now.source.now tokens.old result tokens.new }
@@ -46,7 +46,7 @@ impl<'a, F: Fn(Global, &[u8], &mut Cursor<'_>, usize) -> Result<Expr, ParseFault
         (self.deeper)(self.alloc, self.source, tokens, self.depth)
     }
 
-    /// An expression inside a construct that stands here, in memory of its own.
+    /// An expression inside a construct that begins here, in memory of its own.
     pub(crate) fn boxed(&self, tokens: &mut Cursor<'_>) -> Result<Boxed<Expr>, ParseFault>
         requires { Nests self.now.depth (F.pre self.now.deeper) (F.post self.now.deeper) }
         ensures { AnswersAs (spec.expression self.now.depth) expr_view self.now.source.now tokens.old result tokens.new }
@@ -55,7 +55,7 @@ impl<'a, F: Fn(Global, &[u8], &mut Cursor<'_>, usize) -> Result<Expr, ParseFault
         Ok(Boxed::new(self.alloc, inside)?)
     }
 
-    /// A conditional, or a tighter expression. Most are one token, and read at once.
+    /// A conditional, or a tighter expression. Most are one token, and parsed at once.
     fn chosen(&self, tokens: &mut Cursor<'_>) -> Result<Expr, ParseFault>
         requires { Nests self.now.depth (F.pre self.now.deeper) (F.post self.now.deeper) }
         ensures { Follows spec.choice expr_view self.now.source.now self.now.depth tokens.old result tokens.new }
@@ -81,7 +81,7 @@ impl<'a, F: Fn(Global, &[u8], &mut Cursor<'_>, usize) -> Result<Expr, ParseFault
         self.answered(tokens, start, condition)
     }
 
-    /// A conditional, from the question mark behind its condition, which comes next; the condition began at `start`.
+    /// A conditional, from the question mark after its condition, which comes next; the condition began at `start`.
     #[tactic(auto, unfolding(crate::specs::inside::Reading::answered))]
     fn answered(
         &self,

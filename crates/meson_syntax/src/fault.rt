@@ -1,4 +1,4 @@
-//! Why a text is no build file.
+//! Why a text is not a valid build file.
 
 use meson_lex::LexFault;
 use std::alloc::AllocError;
@@ -16,11 +16,11 @@ pub enum ParseFault {
     ByteOrderMark,
     /// The first place where no item can be read.
     Lex(LexFault),
-    /// The first token that can't stand where it does begins here; at the end of the text, its length.
+    /// The first token that can't be where it is begins here; at the end of the text, its length.
     Unexpected(usize),
-    /// The bracket, `if`, `foreach` or question mark that stands here opens a construct inside as many as may stand inside one another.
+    /// The bracket, `if`, `foreach` or question mark that is here opens a construct inside as many as may be inside one another.
     TooDeep(usize),
-    /// A growth was refused.
+    /// An allocation failed.
     OutOfMemory,
 }
 

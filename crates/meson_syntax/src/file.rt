@@ -13,15 +13,15 @@ use crate::source::{Limits, MAX_DEPTH, MAX_LEN, check_source};
 use crate::tree::Parsed;
 use std::alloc::Global;
 
-/// The tree of a file, with the bytes from and to which each node stands.
+/// The tree of a file, with the span of each node.
 pub fn parse(alloc: Global, source: &[u8]) -> Result<Parsed, ParseFault>
-    // The text reads as the tree, and each node stands at its span.
+    // The text parses as the tree, and each node is at its span.
     ensures reads { IfOk result (λ p. IsSpanned source.now (view source.now p)) }
-    // Whatever tree the text reads as is that one.
+    // Any tree that the text parses as is that one.
     ensures finds { (t : Plain) → Reads source.now t → Is (λ p. erase (view source.now p)) result t }
-    // What is refused before the grammar is asked is refused with that fault.
+    // What is refused before the grammar is checked is refused with that fault.
     ensures unreadable { (e : ParseFault) → IsUnreadable source.now e → Refuses result e }
-    // A refusal says why.
+    // A refusal gives the reason.
     ensures refused { IfErr result (MayNotRead source.now) }
 {
     let limits = Limits {
@@ -31,16 +31,15 @@ pub fn parse(alloc: Global, source: &[u8]) -> Result<Parsed, ParseFault>
     parse_within(alloc, source, limits)
 }
 
-/// The tree of a text between two primitives of one command: it may have any length, and one construct more
-/// may stand inside one another than in a file.
+/// The tree of a text between two primitives of one command. It may have any length, and one construct more may be inside one another than in a file.
 pub fn parse_wide(alloc: Global, source: &[u8]) -> Result<Parsed, ParseFault>
-    // The text reads as the tree, and each node stands at its span.
+    // The text parses as the tree, and each node is at its span.
     ensures reads { IfOk result (λ p. IsSpannedWithin wide source.now (view source.now p)) }
-    // Whatever tree the text reads as is that one.
+    // Any tree that the text parses as is that one.
     ensures finds { (t : Plain) → ReadsWithin wide source.now t → Is (λ p. erase (view source.now p)) result t }
-    // What is refused before the grammar is asked is refused with that fault.
+    // What is refused before the grammar is checked is refused with that fault.
     ensures unreadable { (e : ParseFault) → IsUnreadableWithin wide source.now e → Refuses result e }
-    // A refusal says why.
+    // A refusal gives the reason.
     ensures refused { IfErr result (MayRefuseWithin wide source.now) }
 {
     let limits = Limits {

@@ -1,4 +1,4 @@
-//! What the rules of the grammar stand on: the tokens that are left of a source, and the steps that each rule is made of.
+//! The base of the grammar's rules: the tokens that are left of a source, and the steps that each rule is made of.
 
 ghost use Rattle.std.specs.Prelude.{◌≡◌, IfErr, IfOk, length};
 ghost use Rattle.meson_syntax.specs.inside.Alone as alone;
@@ -15,7 +15,7 @@ use meson_lex::{Kind, Span};
 use std::alloc::Global;
 use std::marker::Model;
 
-/// The tokens that are left, and where the last one ended.
+/// The tokens that are left, and the end of the last one.
 #[derive(Drop)]
 pub(crate) struct Cursor<'a> {
     rest: &'a [Token],
@@ -59,20 +59,20 @@ impl<'a> Cursor<'a> {
     }
 }
 
-/// The rules of the grammar over a source. What reads one level deeper is a field, so that each rule is proved by itself.
+/// The rules of the grammar over a source. What parses one level deeper is a field, so that each rule is proved by itself.
 #[derive(Clone, Copy)]
 pub(crate) struct Grammar<'a, F> {
     pub alloc: Global,
-    /// The text that the tokens' spans are of.
+    /// The text of the tokens' spans.
     pub source: &'a [u8],
-    /// How many constructs may still stand inside one another.
+    /// The number of constructs that may still be inside one another.
     pub depth: usize,
-    /// Reads what a construct holds, in which fewer constructs than the number that it is given stand inside one another: an
-    /// expression for the rules of expressions, a block for those of statements.
+    /// Reads what a construct holds, in which fewer constructs than the given number are inside one another. That is an expression for the rules of
+    /// expressions, and a block for those of statements.
     pub deeper: F,
 }
 
-/// Whether the two are one kind.
+/// Whether the two are the same kind.
 #[tactic(auto, unfolding(crate::specs::inside::Input::same_kind))]
 fn same_kind(kind: Kind, other: Kind) -> bool
     ensures { result ≡ spec.same_kind kind other }
@@ -90,7 +90,7 @@ fn begins_with(tokens: &[Token], kind: Kind) -> bool
     }
 }
 
-/// Whether a token of this kind is an expression, where no bracket follows.
+/// Whether a token of this kind is an expression, if no bracket follows.
 fn is_single(kind: Kind) -> bool
     ensures { result ≡ alone.is_single kind }
 {
@@ -100,7 +100,7 @@ fn is_single(kind: Kind) -> bool
     )
 }
 
-/// Whether the tokens begin with one that no expression goes on with.
+/// Whether the tokens begin with one that cannot continue an expression.
 fn begins_end(tokens: &[Token]) -> bool
     ensures { (source : Bytes) → result ≡ alone.begins_end (tokens_of source tokens.now) }
 {
@@ -130,7 +130,7 @@ impl<'a, F> Grammar<'a, F> {
         }
     }
 
-    /// Where the next token begins.
+    /// The place where the next token begins.
     #[tactic(auto, unfolding(crate::specs::inside::Input::from, crate::specs::inside::Cursor::input))]
     pub(crate) fn from(&self, tokens: &Cursor<'_>) -> usize
         ensures { result ≡ spec.from (input self.now.source.now tokens.now) }
@@ -160,7 +160,7 @@ impl<'a, F> Grammar<'a, F> {
         tokens.rest.len()
     }
 
-    /// Where the last token ended.
+    /// The place where the last token ended.
     #[tactic(auto, unfolding(crate::specs::inside::Cursor::input))]
     pub(crate) fn last(&self, tokens: &Cursor<'_>) -> usize
         ensures { result ≡ (input self.now.source.now tokens.now).last }
@@ -187,7 +187,7 @@ impl<'a, F> Grammar<'a, F> {
         }
     }
 
-    /// Whether the next token is an expression by itself, and none goes on with the one behind it.
+    /// Whether the next token is an expression by itself, and the token after it cannot continue an expression.
     #[tactic(auto, unfolding(crate::specs::inside::Alone::is_alone, crate::specs::inside::Cursor::input))]
     pub(crate) fn is_alone(&self, tokens: &Cursor<'_>) -> bool
         ensures { result ≡ alone.is_alone (input self.now.source.now tokens.now) }
@@ -198,7 +198,7 @@ impl<'a, F> Grammar<'a, F> {
         }
     }
 
-    /// Takes the next token, and gives its span.
+    /// Takes the next token, and returns its span.
     #[tactic(auto, unfolding(crate::specs::inside::Input::text_ahead, crate::specs::inside::Input::next, crate::specs::inside::Input::from, crate::specs::inside::Input::span_from, crate::specs::inside::Input::name_next, crate::specs::inside::Cursor::input))]
     pub(crate) fn take(&self, tokens: &mut Cursor<'_>) -> Span
         ensures text { text_at self.now.source.now result ≡ spec.text_ahead (input self.now.source.now tokens.old) }
@@ -219,7 +219,7 @@ impl<'a, F> Grammar<'a, F> {
         }
     }
 
-    /// Takes the next token if it is of this kind, and says whether it was.
+    /// Takes the next token if it is of this kind, and returns whether it was.
     #[tactic(auto, unfolding(crate::specs::inside::Input::after_kind))]
     pub(crate) fn eat(&self, tokens: &mut Cursor<'_>, kind: Kind) -> bool
         ensures found { result ≡ spec.sees kind (input self.now.source.now tokens.old) }
@@ -261,7 +261,7 @@ impl<'a, F> Grammar<'a, F> {
         Ok(read)
     }
 
-    /// The refusal that the next token can't stand there.
+    /// The refusal that the next token can't be there.
     #[cold]
     #[inline(never)]
     pub(crate) fn unexpected(&self, tokens: &Cursor<'_>) -> ParseFault
@@ -270,7 +270,7 @@ impl<'a, F> Grammar<'a, F> {
         ParseFault::Unexpected(tokens.place(self.source))
     }
 
-    /// The refusal that the next token opens a construct inside as many as may stand inside one another.
+    /// The refusal that the next token opens a construct inside as many as may be inside one another.
     #[cold]
     #[inline(never)]
     pub(crate) fn too_deep(&self, tokens: &Cursor<'_>) -> ParseFault

@@ -3,7 +3,7 @@
 ghost use Rattle.meson_syntax.specs.Texts.{ListSpannedTexts, ListSpelledTexts, SpannedTexts, SpelledTexts, TokensAreSlices};
 ghost use Rattle.meson_syntax.specs.Laws.{HasSpans, OneSpannedList, OneSpannedTree, OneSpannedTreeWithin, OneTree};
 
-/// A text reads as at most one tree, whose nodes stand in it in one way, whatever the limits; and so does a text that is one list.
+/// A text parses as at most one tree, whose nodes have their places in it in one way, whatever the limits. So does a text that is one list.
 pub fn one_tree()
     ensures one_tree { OneTree }
     ensures has_spans { HasSpans }
@@ -12,7 +12,7 @@ pub fn one_tree()
     ensures one_spanned_list { OneSpannedList }
 {}
 
-/// A tree that stands in a source has the texts that the source has at its spans.
+/// A tree that is spelled by a source has the texts that the source has at its spans.
 pub fn texts()
     ensures tokens_are_slices { TokensAreSlices }
     ensures spelled_texts { SpelledTexts }

@@ -1,4 +1,4 @@
-//! Build files as trees whose nodes carry the bytes from and to which they stand.
+//! Build files as trees whose nodes carry their spans, in bytes.
 #![tactic(auto)]
 
 mod block;

@@ -81,7 +81,7 @@ impl<'a, F: Fn(Global, &[u8], &mut Cursor<'_>, usize) -> Result<Expr, ParseFault
         })
     }
 
-    /// The elements up to the closing bracket and that, with whether a comma stands before it.
+    /// The elements up to the closing bracket and that, with whether a comma is before it.
     #[tactic(auto, unfolding(crate::specs::inside::Reading::listed_elements))]
     fn elements(
         &self,
@@ -94,7 +94,7 @@ impl<'a, F: Fn(Global, &[u8], &mut Cursor<'_>, usize) -> Result<Expr, ParseFault
     {
         let mut found = Many::new(self.alloc);
         let mut seen = false;
-        // Each turn takes a token at least.
+        // Each turn takes at least one token.
         for _turn in 0..self.left(tokens) {
             let element = self.element(tokens, bracket, seen)?;
             seen = is_named(&element);
@@ -110,7 +110,7 @@ impl<'a, F: Fn(Global, &[u8], &mut Cursor<'_>, usize) -> Result<Expr, ParseFault
         Err(self.unexpected(tokens))
     }
 
-    /// An element; `seen` says whether one with a name came before.
+    /// An element; `seen` says whether there was one with a name before.
     #[tactic(auto, unfolding(crate::specs::inside::Reading::listed_element))]
     fn element(
         &self,
@@ -149,7 +149,7 @@ impl<'a, F: Fn(Global, &[u8], &mut Cursor<'_>, usize) -> Result<Expr, ParseFault
         Ok(Arg::Named { span, name, value })
     }
 
-    /// An element without a name; `seen` says whether one with a name came before.
+    /// An element without a name; `seen` says whether there was one with a name before.
     #[tactic(auto, unfolding(crate::specs::inside::Reading::without_name))]
     fn without_name(&self, tokens: &mut Cursor<'_>, seen: bool) -> Result<Arg, ParseFault>
         requires { Nests self.now.depth (F.pre self.now.deeper) (F.post self.now.deeper) }

@@ -1,4 +1,4 @@
-//! Lists put in place of others.
+//! Lists that replace others.
 
 ghost use Rattle.std.specs.Prelude.{◌≡◌, ◌∷◌, length, Some, None};
 ghost use Rattle.meson_lex.specs.declared.kinds.Span.{Span};
@@ -57,7 +57,7 @@ fn tail_spot(tails: &[Tail], n: usize) -> Spot
     }
 }
 
-/// Exchanges the expression's own list with the other one.
+/// Swaps the expression's own list with the other one.
 fn put_here(expr: &mut Expr, list: &mut List)
     ensures { (source : Bytes) → (list_view source list.new, expr_view source expr.new)
         ≡ put_own (list_view source list.old) (expr_view source expr.old) (list_in (expr_view source expr.old)) }
@@ -356,8 +356,8 @@ fn put_in_branch(branch: &mut Branch, n: usize, steps: &[usize], list: &mut List
 }
 
 impl Parsed {
-    /// Puts a list where the path names one, of an array, a dictionary or a call, and gives the one that stood there. Where the
-    /// path names none, the tree stays, and the list comes back. Takes no memory.
+    /// Puts a list where the path names one, of an array, a dictionary or a call, and gives the one that was there. If the path names none, the tree stays, and
+    /// the list is returned. Does not allocate.
     pub fn put_list(&mut self, path: &Path, list: List) -> List
         ensures put { (source : Bytes) (p : ListAt Span) → list_at (view source self.old) path.now.steps ≡ Some p
             → view source self.new ≡ p.back (list_view source list) }

@@ -22,22 +22,21 @@ use crate::token::Token;
 use crate::tree::List;
 use std::alloc::Global;
 
-/// The list that a text is, from its opening bracket to its closing one and nothing else. It may have any length, and its
-/// depth counts from its own bracket.
+/// The list of a text, from its opening bracket to its closing one and nothing else. It may have any length, and its depth counts from its own bracket.
 pub fn parse_list(alloc: Global, source: &[u8], bracket: Bracket) -> Result<List, ParseFault>
-    // The text reads as the list, and each node stands at its span.
+    // The text parses as the list, and each node is at its span.
     ensures reads { IfOk result (λ l. IsSpannedList bracket source.now (list_view source.now l)) }
-    // Whatever list the text reads as is that one.
+    // Any list that the text parses as is that one.
     ensures finds { (l : Listing Nowhere) → ReadsList bracket source.now l → Is (λ x. erase_listing (list_view source.now x)) result l }
-    // What is refused before the grammar is asked is refused with that fault.
+    // What is refused before the grammar is checked is refused with that fault.
     ensures unreadable { (e : ParseFault) → IsUnreadableWithin of_lists source.now e → Refuses result e }
-    // A refusal says why.
+    // A refusal gives the reason.
     ensures refused { IfErr result (MayRefuseList bracket source.now) }
 {
     parse_list_within(alloc, source, bracket, MAX_DEPTH)
 }
 
-/// The list that a text is, in which so many constructs may stand inside one another, counted from its own bracket.
+/// The list of a text, in which this number of constructs may be inside one another, counted from its own bracket.
 pub fn parse_list_within(
     alloc: Global,
     source: &[u8],
@@ -56,7 +55,7 @@ pub fn parse_list_within(
     read_list(alloc, source, tokens.as_slice(), bracket, depth)
 }
 
-/// The list that is all of the source, whose significant tokens these are.
+/// The list that is all of the source with these significant tokens.
 #[tactic(auto, unfolding(crate::specs::inside::ReadingLists::whole_list, crate::specs::inside::ReadingLists::bracketed, crate::specs::inside::Cursor::input))]
 fn read_list(
     alloc: Global,

@@ -1,10 +1,10 @@
-//! How borders move where bytes are exchanged.
+//! How borders move when bytes are replaced.
 
 ghost use Rattle.std.specs.Prelude.{◌≤◌};
 
 use meson_lex::Span;
 
-/// The `was` bytes before `end` become `now` bytes: each border at `end` or behind it moves by the difference, the others stay.
+/// The `was` bytes before `end` become `now` bytes: each border at `end` or after it moves by the difference, the others stay.
 #[derive(Clone, Copy)]
 pub(crate) struct Move {
     pub end: usize,
@@ -19,7 +19,7 @@ impl Move {
     ghost use Rattle.meson_syntax.specs.Moving.{span_by};
     ghost use Rattle.meson_syntax.specs.Moving.{MayMove, border_by};
 
-    /// Where a border stands.
+    /// The new place of a border.
     fn border(self, n: usize) -> usize
         requires { MayMove self n }
         ensures { result ≡ border_by self n }

@@ -1,4 +1,4 @@
-//! Operators, brackets and the kinds of strings: what tells nodes of one form apart.
+//! Operators, brackets and the kinds of strings: what distinguishes nodes of one form.
 //!
 //! The rules are those of the Syntax page of the Meson manual.
 
@@ -37,9 +37,9 @@ pub enum StringKind {
     Plain,
     /// Between three quotes.
     Multiline,
-    /// Between single quotes behind an `f`.
+    /// Between single quotes after an `f`.
     Format,
-    /// Between three quotes behind an `f`.
+    /// Between three quotes after an `f`.
     FormatMultiline,
 }
 
@@ -52,10 +52,10 @@ pub enum Assignment {
     Add,
 }
 
-/// The brackets of a list, which tell what stands in it.
+/// The brackets of a list, which decide what may be in it.
 #[derive(Clone, Copy, Debug, PartialEq, Eq)]
 pub enum Bracket {
-    /// The arguments of a call: those with a name stand after those without.
+    /// The arguments of a call: those with a name are after those without.
     Round,
     /// The elements of an array.
     Square,

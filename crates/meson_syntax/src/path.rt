@@ -1,4 +1,4 @@
-//! Ways to nodes.
+//! Paths to nodes.
 
 ghost use Rattle.std.specs.Prelude.{◌≡◌, ◌∷◌, ◌++◌, [], option_map};
 ghost use Rattle.meson_syntax.specs.View.{Bytes, arg_view, block_view, branch_view, expr_view, list_view, operand_view, otherwise_view, stmt_view, tail_view, view};
@@ -9,7 +9,7 @@ ghost use Rattle.meson_syntax.specs.Paths.{expression_on_path, list_at, list_in,
 use crate::tree::{Arg, Block, Branch, Expr, List, Operand, Parsed, Stmt, Tail};
 use meson_values::Many;
 
-/// The way from a file's block to a node: each step is the number of a child, from 0 in the order of the source.
+/// The path from a file's block to a node: each step is the number of a child, from 0 in the order of the source.
 #[derive(Debug, Drop)]
 pub struct Path {
     pub steps: Many<usize>,
@@ -23,7 +23,7 @@ pub(crate) enum Node<'t> {
     Block(&'t Block),
 }
 
-/// What a number names among some nodes: one of them, or how much of it is left behind the last of them.
+/// What a number names among some nodes: one of them, or what is left of the number after the last of them.
 #[derive(Clone, Copy)]
 pub(crate) enum Found<'t> {
     Node(Node<'t>),
@@ -111,7 +111,7 @@ pub(crate) fn in_tail(tail: &Tail, n: usize) -> Found<'_>
     }
 }
 
-/// A child of the method calls and indexes behind an expression.
+/// A child of the method calls and indexes after an expression.
 fn in_tails(tails: &[Tail], n: usize) -> Found<'_>
     ensures { (source : Bytes) → found_view source result ≡ look (rust_tails_parts source tails.now) n }
 {
@@ -125,7 +125,7 @@ fn in_tails(tails: &[Tail], n: usize) -> Found<'_>
     Found::Left(left)
 }
 
-/// The child of an operand behind the first.
+/// The child of an operand after the first.
 fn in_operand(operand: &Operand, n: usize) -> Found<'_>
     ensures { (source : Bytes) → found_view source result ≡ look (operand_parts (operand_view source operand.now)) n }
 {
@@ -133,7 +133,7 @@ fn in_operand(operand: &Operand, n: usize) -> Found<'_>
     only(Node::Expr(value), n)
 }
 
-/// A child of the operands behind the first.
+/// A child of the operands after the first.
 fn in_operands(operands: &[Operand], n: usize) -> Found<'_>
     ensures { (source : Bytes) → found_view source result ≡ look (rust_operands_parts source operands.now) n }
 {
@@ -178,7 +178,7 @@ fn in_row<'t>(first: &'t Expr, rest: &'t [Operand], n: usize) -> Found<'t>
     }
 }
 
-/// A child of a postfix row: its base, or one of a method call or index.
+/// A child of a postfix row: its base, or a child of a method call or index.
 fn in_postfix<'t>(base: &'t Expr, tails: &'t [Tail], n: usize) -> Found<'t>
     ensures { (source : Bytes) → found_view source result ≡ look (an_expression (expr_view source base.now) ∷ rust_tails_parts source tails.now) n }
 {
@@ -240,7 +240,7 @@ fn in_expr(expr: &Expr, n: usize) -> Found<'_>
     }
 }
 
-/// A child of a selection: in its branches, or the block behind `else`.
+/// A child of a selection: in its branches, or the block after `else`.
 fn in_selection<'t>(branches: &'t [Branch], otherwise: &'t Option<Block>, n: usize) -> Found<'t>
     ensures { (source : Bytes) → found_view source result
         ≡ look (rust_branches_parts source branches.now ++ otherwise_parts (otherwise_view source otherwise.now)) n }

@@ -1,4 +1,4 @@
-//! Expressions that their first token tells: variables, calls, literals, and what stands in brackets.
+//! Expressions that are recognised by their first token: variables, calls, literals, and what is in brackets.
 //!
 //! The rules are those of the Syntax page of the Meson manual.
 
@@ -14,7 +14,7 @@ use meson_lex::Kind;
 use std::alloc::Global;
 
 impl<'a, F: Fn(Global, &[u8], &mut Cursor<'_>, usize) -> Result<Expr, ParseFault>> Grammar<'a, F> {
-    /// An expression whose kind its first token tells.
+    /// An expression whose kind is recognised by its first token.
     #[tactic(auto, unfolding(crate::specs::inside::Reading::primary))]
     pub(crate) fn primary(&self, tokens: &mut Cursor<'_>) -> Result<Expr, ParseFault>
         requires { Nests self.now.depth (F.pre self.now.deeper) (F.post self.now.deeper) }

@@ -17,7 +17,7 @@ use meson_lex::{Kind, Span};
 use meson_values::Many;
 use std::alloc::{AllocError, Global};
 
-/// The level of the rows that go on with a token of this kind, the tightest first; 0 of none.
+/// The level of the rows that continue with a token of this kind, the tightest first; 0 if no row does.
 fn row_of(kind: Option<Kind>) -> u8
     ensures { result ≡ spec.row_of kind }
 {
@@ -33,7 +33,7 @@ fn row_of(kind: Option<Kind>) -> u8
     }
 }
 
-/// The operator before an operand that a token of this kind is.
+/// The operator before an operand, for a token of this kind.
 fn unary_of(kind: Option<Kind>) -> Option<UnaryOperator>
     ensures { result ≡ spec.unary_of kind }
 {
@@ -54,14 +54,14 @@ impl<'a, F: Fn(Global, &[u8], &mut Cursor<'_>, usize) -> Result<Expr, ParseFault
     {
         let start = self.from(tokens);
         let first = self.unaried(tokens)?;
-        // Most operands stand alone, whatever the level.
+        // Most operands are alone, whatever the level.
         if row_of(self.peek(tokens)) == 0 {
             return Ok(first);
         }
         self.row_with(tokens, level, start, first)
     }
 
-    /// The row of this level, or the tighter expression, that begins with this operand, which is read and began at `start`.
+    /// The row of this level, or the tighter expression, that begins with this operand, which is parsed and began at `start`.
     #[cycle(row)]
     fn row_with(
         &self,
@@ -76,7 +76,7 @@ impl<'a, F: Fn(Global, &[u8], &mut Cursor<'_>, usize) -> Result<Expr, ParseFault
             expr_view self.now.source.now self.now.depth tokens.old result tokens.new }
     {
         let mut read = first;
-        // From the tightest row on: what is read is the first operand of the next one.
+        // From the tightest row on: what is parsed is the first operand of the next one.
         for tighter in 0..level {
             if row_of(self.peek(tokens)) == tighter + 1 {
                 read = self.longer(tokens, tighter + 1, start, read)?;
@@ -85,7 +85,7 @@ impl<'a, F: Fn(Global, &[u8], &mut Cursor<'_>, usize) -> Result<Expr, ParseFault
         Ok(read)
     }
 
-    /// The row of this level alone that begins with this operand, which is read and began at `start`.
+    /// The row of this level alone that begins with this operand, which is parsed and began at `start`.
     #[cycle(row)]
     #[inline(never)]
     fn longer(
@@ -106,7 +106,7 @@ impl<'a, F: Fn(Global, &[u8], &mut Cursor<'_>, usize) -> Result<Expr, ParseFault
         Ok(self.with_operands(span, first, rest)?)
     }
 
-    /// The operands of a row of this level behind its first, each with the operator before it.
+    /// The operands of a row of this level after its first, each with the operator before it.
     #[cycle(row)]
     #[tactic(auto, unfolding(crate::specs::inside::Reading::operands_from))]
     fn operands(&self, tokens: &mut Cursor<'_>, level: u8) -> Result<Many<Operand>, ParseFault>
@@ -116,7 +116,7 @@ impl<'a, F: Fn(Global, &[u8], &mut Cursor<'_>, usize) -> Result<Expr, ParseFault
         ensures { Follows (λ room inner. operands room inner level) operands_view self.now.source.now self.now.depth tokens.old result tokens.new }
     {
         let mut found = Many::new(self.alloc);
-        // Each turn takes a token at least.
+        // Each turn takes at least one token.
         for _turn in 0..self.left(tokens) {
             if row_of(self.peek(tokens)) != level {
                 return Ok(found);
@@ -168,7 +168,7 @@ impl<'a, F> Grammar<'a, F> {
         Operand { operator, value }
     }
 
-    /// The row of these operands; the first itself where it is the only one.
+    /// The row of these operands; the first itself if it is the only one.
     #[tactic(auto, unfolding(crate::specs::inside::Reading::with_operands))]
     fn with_operands(
         &self,

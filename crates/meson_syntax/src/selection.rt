@@ -15,7 +15,7 @@ use meson_values::Many;
 use std::alloc::Global;
 
 impl<'a, F> Grammar<'a, F> {
-    /// A condition and the block behind it.
+    /// A condition and the block after it.
     fn branch(&self, condition: Expr, block: Block) -> Branch
         ensures { branch_view self.now.source.now result ≡ (expr_view self.now.source.now condition, block_view self.now.source.now block) }
     {
@@ -54,7 +54,7 @@ impl<'a, F: Fn(Global, &[u8], &mut Cursor<'_>, usize) -> Result<Block, ParseFaul
         let first = self.branched(tokens)?;
         let mut found = Many::new(self.alloc);
         found.push_sparing(first)?;
-        // Each turn takes a token at least.
+        // Each turn takes at least one token.
         for _turn in 0..self.left(tokens) {
             if !self.sees(tokens, Kind::WordElif) {
                 return Ok(found);

@@ -10,10 +10,10 @@ use crate::tree::{Arg, Block, Branch, Expr, List, Operand, Parsed, Stmt, Tail};
 use meson_lex::Span;
 
 impl Parsed {
-    /// Moves the borders of all nodes and names as they move in the file where the `was_len` bytes at `from` become `now_len` bytes:
-    /// each at `from + was_len` or behind it by the difference, the others not. Takes no memory.
+    /// Moves the borders of all nodes and names as they move in the file when the `was_len` bytes at `from` become `now_len` bytes. Each border at `from +
+    /// was_len` or after it moves by the difference, the others do not. Does not allocate.
     ///
-    /// The bytes lie in the file, and are one at least; no border lies behind the file's end; the new file's length is a `usize`.
+    /// The bytes must be in the file, and at least one. No border may be after the file's end, and the new file's length must be a `usize`.
     pub fn shift(&mut self, from: usize, was_len: usize, now_len: usize)
         requires some { 1 ≤ was_len }
         requires inside { from + was_len ≤ self.old.span.to }
@@ -34,9 +34,9 @@ impl Parsed {
 }
 
 impl List {
-    /// Moves the borders of the list and of all nodes and names in it so many bytes further. Takes no memory.
+    /// Moves the borders of the list and of all nodes and names in it by a number of bytes. Does not allocate.
     ///
-    /// Each sum is a `usize`.
+    /// Each sum must be a `usize`.
     pub fn move_by(&mut self, by: usize)
         requires { furthest_list self.old + by < 2 ^ 64 }
         ensures { self.new ≡ moved_list (λ n. n + by) self.old }

@@ -11,7 +11,7 @@ use meson_lex::{Item, Kind, Span, items};
 use std::alloc::{AllocError, Global};
 use std::marker::Model;
 
-/// Few sources have fewer bytes for each token.
+/// Most sources have at least this many bytes for each token.
 const BYTES_PER_TOKEN: usize = 4;
 
 /// The tokens of the items so far.
@@ -19,11 +19,11 @@ const BYTES_PER_TOKEN: usize = 4;
 struct Gathered<'a> {
     source: &'a [u8],
     tokens: Vec<Token>,
-    /// How many brackets are open.
+    /// The number of open brackets.
     depth: usize,
-    /// Whether no token came yet, or a line end came last.
+    /// Whether there was no token yet, or the last one was a line end.
     fresh: bool,
-    /// Where the last token ended.
+    /// The place where the last token ended.
     end: usize,
 }
 

@@ -1,4 +1,4 @@
-//! What is asked of a source before its grammar.
+//! What is checked of a source before its grammar.
 
 ghost use Rattle.std.specs.Prelude.{◌≡◌, true, false, IfErr, OnOk};
 ghost use Rattle.meson_syntax.specs.Reads.{Exceeds, Fits, IsSourceWithin, IsUnreadableWithin};
@@ -6,20 +6,20 @@ ghost use Rattle.meson_syntax.specs.Reads.{Exceeds, Fits, IsSourceWithin, IsUnre
 use crate::fault::ParseFault;
 use std::str;
 
-/// How many bytes a file may have.
+/// The largest number of bytes of a file.
 pub const MAX_LEN: usize = 1_048_576;
 
-/// How many constructs may stand inside one another in a file.
+/// The number of constructs that may be inside one another in a file.
 pub const MAX_DEPTH: usize = 64;
 
-/// How many bytes a text may have, if that is limited, and how many constructs may stand inside one another.
+/// The number of bytes that a text may have, if that is limited, and the number of constructs that may be inside one another.
 #[derive(Clone, Copy)]
 pub struct Limits {
     pub len: Option<usize>,
     pub depth: usize,
 }
 
-/// Whether so many bytes are more than that many, if they are limited.
+/// Whether `len` bytes are more than the limit, if there is one.
 fn is_too_long(len: usize, most: Option<usize>) -> bool
     ensures long { result ≡ true → Exceeds most len }
     ensures short { result ≡ false → Fits most len }

@@ -15,7 +15,7 @@ use meson_values::Many;
 use std::alloc::Global;
 
 impl<'a, F: Fn(Global, &[u8], &mut Cursor<'_>, usize) -> Result<Block, ParseFault>> Grammar<'a, F> {
-    /// A statement whose kind its first token tells.
+    /// A statement whose kind is recognised by its first token.
     #[tactic(auto, unfolding(crate::specs::inside::ReadingFiles::stmt))]
     pub(crate) fn statement(&self, tokens: &mut Cursor<'_>) -> Result<Stmt, ParseFault>
         requires { NestsBlocks self.now.depth (F.pre self.now.deeper) (F.post self.now.deeper) }
@@ -125,7 +125,7 @@ impl<'a, F> Grammar<'a, F> {
         let first = self.name(tokens)?;
         let mut found = Many::new(self.alloc);
         found.push_sparing(first)?;
-        // Each turn takes a token at least.
+        // Each turn takes at least one token.
         for _turn in 0..self.left(tokens) {
             if !self.eat(tokens, Kind::Comma) {
                 return Ok(found);

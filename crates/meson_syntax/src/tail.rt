@@ -1,4 +1,4 @@
-//! Method calls and indexes behind an expression.
+//! Method calls and indexes after an expression.
 //!
 //! The rules are those of the Syntax page of the Meson manual.
 
@@ -18,7 +18,7 @@ use meson_values::Many;
 use std::alloc::{AllocError, Global};
 
 impl<'a, F> Grammar<'a, F> {
-    /// The expression with these tails; the expression itself where there is none.
+    /// The expression with these tails; the expression itself if there are no tails.
     #[tactic(auto, unfolding(crate::specs::inside::Reading::with_tails))]
     fn with_tails(&self, span: Span, base: Expr, tails: Many<Tail>) -> Result<Expr, AllocError>
         ensures { IfOk result (λ e. expr_view self.now.source.now e
@@ -35,7 +35,7 @@ impl<'a, F> Grammar<'a, F> {
 }
 
 impl<'a, F: Fn(Global, &[u8], &mut Cursor<'_>, usize) -> Result<Expr, ParseFault>> Grammar<'a, F> {
-    /// An expression with the method calls and indexes behind it.
+    /// An expression with the method calls and indexes after it.
     #[tactic(auto, unfolding(crate::specs::inside::Reading::postfixed, crate::specs::inside::Alone::tailed))]
     pub(crate) fn postfixed(&self, tokens: &mut Cursor<'_>) -> Result<Expr, ParseFault>
         requires { Nests self.now.depth (F.pre self.now.deeper) (F.post self.now.deeper) }
@@ -49,7 +49,7 @@ impl<'a, F: Fn(Global, &[u8], &mut Cursor<'_>, usize) -> Result<Expr, ParseFault
         self.tailed(tokens, start, base)
     }
 
-    /// The expression that is read and began at `start`, with the method calls and indexes that come next.
+    /// The expression that is parsed and began at `start`, with the method calls and indexes that come next.
     #[inline(never)]
     #[tactic(auto, unfolding(crate::specs::inside::Alone::tailed))]
     fn tailed(&self, tokens: &mut Cursor<'_>, start: usize, base: Expr) -> Result<Expr, ParseFault>
@@ -83,7 +83,7 @@ impl<'a, F: Fn(Global, &[u8], &mut Cursor<'_>, usize) -> Result<Expr, ParseFault
         ensures { Follows spec.tails tails_view self.now.source.now self.now.depth tokens.old result tokens.new }
     {
         let mut found = Many::new(self.alloc);
-        // Each turn takes a token at least.
+        // Each turn takes at least one token.
         for _turn in 0..self.left(tokens) {
             if self.sees(tokens, Kind::Dot) {
                 found.push_sparing(self.method(tokens)?)?;
@@ -105,7 +105,7 @@ impl<'a, F: Fn(Global, &[u8], &mut Cursor<'_>, usize) -> Result<Expr, ParseFault
         let start = self.from(tokens);
         self.take(tokens);
         if !self.sees_two(tokens, Kind::Identifier, Kind::OpenRound) {
-            // A name may stand here, and then the token behind it is at fault.
+            // A name may be here, and then the token after it is at fault.
             self.eat(tokens, Kind::Identifier);
             return Err(self.unexpected(tokens));
         }

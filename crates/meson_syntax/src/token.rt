@@ -6,8 +6,8 @@ use meson_lex::{Kind, Span};
 #[derive(Clone, Copy)]
 pub(crate) struct Token {
     pub kind: Kind,
-    /// The bytes that it stands for. A line end is empty, at the end of the token before it.
+    /// The bytes of the token. A line end is empty, at the end of the token before it.
     pub span: Span,
-    /// The offset to report where it can't stand: its first byte, or the source's length for a line end that isn't written.
+    /// The offset to report if it can't be where it is: its first byte, or the source's length for a line end that isn't written.
     pub place: usize,
 }

@@ -51,7 +51,7 @@ pub enum Expr {
         first: Boxed<Expr>,
         rest: Many<Operand>,
     },
-    /// An expression with the method calls and indexes behind it.
+    /// An expression with the method calls and indexes after it.
     Postfix {
         span: Span,
         base: Boxed<Expr>,
@@ -66,14 +66,14 @@ pub enum Expr {
     },
 }
 
-/// An operator, and the operand behind it.
+/// An operator, and the operand after it.
 #[cycle(tree)]
 pub struct Operand {
     pub operator: Operator,
     pub value: Expr,
 }
 
-/// What stands behind an expression that has a method called or is indexed.
+/// What is after an expression that has a method called or is indexed.
 #[cycle(tree)]
 pub enum Tail {
     /// A method call, from its dot to its closing bracket.
@@ -112,7 +112,7 @@ pub enum Arg {
 #[cycle(tree)]
 pub struct List {
     pub items: Many<Arg>,
-    /// Whether a comma stands after the last element.
+    /// Whether a comma is after the last element.
     pub trailing: bool,
     pub span: Span,
 }
@@ -129,7 +129,7 @@ pub enum Stmt {
         assignment: Assignment,
         value: Expr,
     },
-    /// From `if` to `endif`: a branch for `if` and for each `elif`, and what stands after `else`.
+    /// From `if` to `endif`: a branch for `if` and for each `elif`, and the block after `else`.
     If {
         span: Span,
         branches: Many<Branch>,
@@ -148,14 +148,14 @@ pub enum Stmt {
     Continue(Span),
 }
 
-/// A condition and the statements behind it.
+/// A condition and the statements after it.
 #[cycle(statements)]
 pub struct Branch {
     pub condition: Expr,
     pub block: Block,
 }
 
-/// Statements one after another, from the first to the last. Without any it is empty, at the end of the token before its line end.
+/// Statements one after another, from the first to the last. If there are none it is empty, at the end of the token before its line end.
 #[cycle(statements)]
 pub struct Block {
     pub statements: Many<Stmt>,
@@ -168,10 +168,10 @@ pub struct Parsed {
     pub span: Span,
 }
 
-// ---- letting go
+// ---- drops
 //
-// Each drop is written by hand: what lets go of a tree or of a part of it is then one call, and these functions are proved here
-// alone. A derived one stands in place, variant by variant, and is proved anew in each crate that lets a part go.
+// Each drop is written by hand: dropping a tree or a part of it is then one call, and these functions are proved here alone. A derived one is expanded in
+// place, variant by variant, and is proved anew in each crate that drops a part.
 
 impl Drop for Expr {
     #[cycle(tree)]

@@ -1,4 +1,4 @@
--- What is there after a target is added or removed, said of the project's calls, and of the statements of its blocks.
+-- What is there after a target is added or removed, as to the project's calls, and the statements of its blocks.
 use Rattle.std.specs.Prelude.{◌≡◌, ℕ, false, List, [], ◌∷◌, ◌++◌, length, map, Option, Some, option_and_then, option_map, Ok, Err}
 use Rattle.std.specs.Str.{IsUtf8}
 use Rattle.meson_lex.specs.declared.kinds.Span.{Span}
@@ -29,7 +29,7 @@ pub record NamesTarget (p : Project Nowhere) (name : List ℕ) (it : Call Nowher
   pub is_call : the_call p role.Target name ≡ Ok (placed place it)
   pub in_file : place.file ≡ file
 
--- the law: a target that is added is the one that its name names, in the build file of its folder, with the name and each source once as its arguments
+-- The law: a target that is added is the one that its name names. It is in the build file of its folder, with the name and each source once as its arguments.
 abbrev pub AddedTargetsAreNamed : Type 0
 AddedTargetsAreNamed = (old : Loaded) (name kind folder : List ℕ) (sources : List (List ℕ)) (steps : List Step) (after : List Plain) → IsUtf8 name
     → target_added (project old) name kind folder sources ≡ Ok steps → all_stepped steps (plain_trees old) ≡ Some after
@@ -45,7 +45,7 @@ block_statements (block s list) = statement_list list
 abbrev pub statements_found : CallRef → List Plain → Option (List (Statement Nowhere))
 statements_found c trees = option_and_then (λ t. option_map (λ b. block_statements b.inside) (block_at t c.path.steps)) (nth trees c.file)
 
--- Of the file of the place nothing but the block there has become another one.
+-- In the file of the place nothing but the block there has changed.
 pub record OtherBlock (c : CallRef) (before after : List Plain) : Type 0 where
   pub tree : Plain
   pub was : nth before c.file ≡ Some tree
@@ -54,7 +54,7 @@ pub record OtherBlock (c : CallRef) (before after : List Plain) : Type 0 where
   pub other : Block Nowhere
   pub now : nth after c.file ≡ Some (block.back other)
 
--- The statement is gone: its block has the others in their order, and all else is as it was, in its file and in every other one.
+-- The statement is gone: its block has the others in their order. All else is as it was, in its file and in every other one.
 pub record StatementGone (line : StatementPlace) (it : Statement Nowhere) (before after : List Plain) : Type 0 where
   pub front : List (Statement Nowhere)
   pub back : List (Statement Nowhere)
@@ -68,12 +68,12 @@ pub record StatementGone (line : StatementPlace) (it : Statement Nowhere) (befor
 abbrev pub calls_among : List (Placed (Part Nowhere)) → List (Call Nowhere)
 calls_among qs = map (λ (c : Placed (Call Nowhere)). c.it) (all_chosen part_call qs)
 
--- those that stand in a statement, wherever that is
+-- those that are in a statement, wherever that is
 abbrev pub calls_in : Statement Nowhere → List (Call Nowhere)
 calls_in it = calls_among (parts_of_statement (place 0 []) it)
 
--- The calls in the statement are gone, and all others stay in their order. No target has the name any more; and where none had it before,
--- since the id is that of a variable, the id names none.
+-- The calls in the statement are gone, and all others stay in their order. No target has the name any more. If none had it before, since the id is that of a
+-- variable, the id names none.
 pub record CallsGone (it : Statement Nowhere) (id : List ℕ) (before after : Project Nowhere) : Type 0 where
   pub front : List (Call Nowhere)
   pub back : List (Call Nowhere)

@@ -1,4 +1,4 @@
--- Targets as whole statements: put at the end of a build file, and taken out of it. Meson manual, Rewriter: `target add_target`, `target rm_target`.
+-- Targets as whole statements: added at the end of a build file, and removed from it. Meson manual, Rewriter: `target add_target`, `target rm_target`.
 use Rattle.std.specs.Prelude.{ℕ, Bool, true, false, not, ◌&&◌, nat_eq, List, [], ◌∷◌, ◌++◌, map, codes, if◌then◌else◌, bytes_eq, position, Option, Some, None, ok_or, option_map, option_and_then, Result, Ok, Err}
 use Rattle.std.specs.List.{list_any}
 use Rattle.meson_lex.specs.Literals.{literal}
@@ -23,9 +23,9 @@ use Rattle.meson_steps.specs.WrittenTexts.{string_of, comma_between}
 use Rattle.meson_steps.specs.Names.{checked_names, distinct}
 use Rattle.meson_steps.specs.Steps.{Step}
 
--- ---- a target put at the end of a file
+-- ---- a target added at the end of a file
 
--- The functions that say by their name what is built. `build_target` says it by an argument, which the command has not.
+-- The functions that say by their name what is built. `build_target` says it by an argument, which the command does not have.
 abbrev pub is_target_kind : List ℕ → Bool
 is_target_kind kind = one_of target_functions kind && not (bytes_eq kind (codes "build_target"))
 
@@ -39,12 +39,12 @@ checked_kind kind = if is_target_kind kind then Ok tt else Err (WrongKind kind_k
 abbrev pub targets_named : {S : Type 0} → Project S → List ℕ → List (Placed (Call S))
 targets_named p name = all_chosen (with_name name) (role_calls p role.Target)
 
--- of which there may be none
+-- there must be none
 abbrev pub not_taken : {X : Type 0} → List X → Result (Unit {0}) Refusal
 not_taken [] = Ok tt
 not_taken (x ∷ more) = Err NameTaken
 
--- the name of a folder's build file, which for the empty text is the root file
+-- the name of a folder's build file; the empty text means the root file
 abbrev pub file_of_folder : List ℕ → Option (List ℕ)
 file_of_folder [] = Some build_file
 file_of_folder (c ∷ cs) = file_in build_file (c ∷ cs)
@@ -57,7 +57,7 @@ file_number p name = position (λ f. bytes_eq f.name name) p
 abbrev pub number_in : {S : Type 0} → Project S → List ℕ → Result ℕ Refusal
 number_in p folder = ok_or (option_and_then (file_number p) (file_of_folder folder)) NoFile
 
--- `KIND('NAME', 'SOURCE', ..)`, where the texts are the name and the sources
+-- `KIND('NAME', 'SOURCE', ..)`; the texts are the name and the sources
 abbrev pub target_statement : List ℕ → List (List ℕ) → Statement Nowhere
 target_statement kind texts = evaluate (call tt (bare_name kind) (listing tt false (arguments_of (map plain (map string_of texts)))))
 
@@ -67,7 +67,7 @@ written_target kind texts = record { bytes = kind ++ (40 ∷ (comma_between (map
 abbrev pub append_steps : List ℕ → List (List ℕ) → ℕ → List Step
 append_steps kind texts file = record { file = file; edit = Append (written_target kind texts) } ∷ []
 
--- the kind is asked first, then the name and the sources, then whether the name is taken, then whether there is such a file
+-- the kind is checked first, then the name and the sources, then whether the name is taken, then whether there is such a file
 abbrev pub target_added : {S : Type 0} → Project S → List ℕ → List ℕ → List ℕ → List (List ℕ) → Result (List Step) Refusal
 target_added p target kind folder sources =
     then_ok (checked_kind kind) (λ _. then_ok (checked_names (target ∷ sources)) (λ _. then_ok (not_taken (targets_named p target)) (λ _.
@@ -80,7 +80,7 @@ pub record StatementPlace : Type 0 where
   pub block : CallRef
   pub number : ℕ
 
--- An expression that is all of a statement, or its assigned value, is the first child of the statement: its path ends with the statement's number and 0.
+-- An expression that is all of a statement, or its assigned value, is the first child of the statement. Its path ends with the statement's number and 0.
 abbrev pub statement_path : List ℕ → Option (List ℕ × ℕ)
 statement_path [] = None
 statement_path (n ∷ []) = None
@@ -95,7 +95,7 @@ statement_there {S} p statement =
     option_and_then (λ (f : BuildFile S). option_and_then (λ b. statement_in b.inside statement.number) (block_at f.tree statement.block.path.steps))
     (nth_file p statement.block.file)
 
--- what is done with the expression of a statement: nothing more, or a variable is set to it
+-- what a statement does with its expression: nothing more, or it sets a variable to it
 pub data Held : Type 0 where
   alone : Held
   set_to : List ℕ → Held
@@ -145,20 +145,20 @@ abbrev pub part_uses : {S : Type 0} → List ℕ → Part S → Bool
 part_uses x (an_expression e) = expression_uses x e
 part_uses x (a_statement s) = statement_uses x s
 
--- whether the second path goes through what the first one names
+-- whether the second path leads through what the first one names
 abbrev pub goes_through : List ℕ → List ℕ → Bool
 goes_through [] path = true
 goes_through (m ∷ at_) [] = false
 goes_through (m ∷ at_) (n ∷ path) = nat_eq m n && goes_through at_ path
 
--- whether a place is a statement's or stands in it
+-- whether a place is a statement's or is inside it
 abbrev pub is_in_statement : StatementPlace → CallRef → Bool
 is_in_statement statement c = nat_eq statement.block.file c.file && goes_through (child statement.block statement.number).path.steps c.path.steps
 
 abbrev pub is_used_outside : {S : Type 0} → Project S → StatementPlace → List ℕ → Bool
 is_used_outside p statement x = list_any (λ q. not (is_in_statement statement q.place) && part_uses x q.it) (parts p)
 
--- ---- a target taken out
+-- ---- a target removed
 
 -- the variable that the statement sets, if it sets one, is used nowhere else
 abbrev pub not_in_use : {S : Type 0} → Project S → StatementPlace → Held → Result (Unit {0}) Refusal

@@ -14,7 +14,7 @@ use meson_steps::statements::stmt_at;
 use meson_syntax::{Assignment, Many, Parsed, Path, Stmt};
 use std::alloc::{AllocError, Global};
 
-/// What is done with the expression of a statement: nothing more, or a variable of this name is set to it.
+/// What a statement does with its expression: nothing more, or it sets a variable of this name to it.
 #[derive(Clone, Copy)]
 pub(crate) enum Held<'t> {
     Alone,
@@ -46,7 +46,7 @@ fn held_by<'t>(source: &'t [u8], stmt: &Stmt) -> Option<Held<'t>>
     }
 }
 
-/// The statement whose expression would stand at the place.
+/// The statement whose expression would be at the place.
 fn statement_of(alloc: Global, call: &CallRef) -> Result<Option<StatementPlace>, AllocError>
     ensures { IfOk result (λ line. option_map place_view line ≡ statement_of call.now) }
 {
@@ -85,7 +85,7 @@ fn held_at<'t>(files: &'t FileSet, trees: &[Parsed], line: &StatementPlace) -> O
 /// The statement that is the call at a place or sets a variable to it, if one does.
 ///
 /// # Errors
-/// Memory is refused.
+/// Out of memory.
 pub(crate) fn holder_of<'t>(
     alloc: Global,
     files: &'t FileSet,

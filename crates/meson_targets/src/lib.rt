@@ -1,4 +1,4 @@
-//! Whole targets put at the end of a build file and taken out of the project.
+//! Whole targets added at the end of a build file and removed from the project.
 #![tactic(auto)]
 
 mod holder;

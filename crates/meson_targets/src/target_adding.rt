@@ -1,4 +1,4 @@
-//! The steps by which a target is put at the end of a build file.
+//! The steps that add a target at the end of a build file.
 
 ghost use Rattle.std.specs.Prelude.{◌≡◌, ◌∷◌, [], All, IfErr, IfOk, Ok, map};
 ghost use Rattle.std.specs.Str.{IsUtf8};
@@ -39,10 +39,10 @@ fn is_target_kind(kind: &[u8]) -> bool
     makes_target(kind) && kind != b"build_target".as_slice()
 }
 
-/// Refuses another function.
+/// Refuses any other function.
 ///
 /// # Errors
-/// The function says not what is built, or memory is refused.
+/// The function does not say what is built, or out of memory.
 fn checked_kind(alloc: Global, kind: &Text) -> Result<(), Refusal>
     ensures checked { IfOk result (λ u. checked_kind kind.now ≡ Ok tt) }
     ensures refused { RefusedAs result (checked_kind kind.now) }
@@ -54,10 +54,10 @@ fn checked_kind(alloc: Global, kind: &Text) -> Result<(), Refusal>
     Err(Refusal::WrongKind(Text::of(key)))
 }
 
-/// Refuses the name of a target that is there.
+/// Refuses the name of a target that exists.
 ///
 /// # Errors
-/// A target has the name, or memory is refused.
+/// A target has the name, or out of memory.
 fn not_taken(alloc: Global, noted: &Noted<'_>, name: &str) -> Result<(), Refusal>
     requires { IsNotedFor Role.Target name.now noted.now }
     ensures checked { IfOk result (λ u. not_taken (targets_named (project_in noted.now) name.now) ≡ Ok tt) }
@@ -73,7 +73,7 @@ fn not_taken(alloc: Global, noted: &Noted<'_>, name: &str) -> Result<(), Refusal
 /// The number of the build file of a folder, which is the root file for the empty text.
 ///
 /// # Errors
-/// There is no such file, or memory is refused.
+/// There is no such file, or out of memory.
 fn number_in(alloc: Global, noted: &Noted<'_>, folder: &str) -> Result<usize, Refusal>
     requires { IsProject (loaded_in noted.now) }
     ensures found { IfOk result (λ n. number_in (project_in noted.now) folder.now ≡ Ok n) }
@@ -130,10 +130,10 @@ fn checked_texts(name: &Text, sources: &[Text]) -> Result<(), Refusal>
     checked_names(sources)
 }
 
-/// The step by which a target is put at the end of its file.
+/// The step that adds a target at the end of its file.
 ///
 /// # Errors
-/// The kind is none, a name is empty, the name is taken, the folder has no file, or memory is refused.
+/// The kind is not valid, a name is empty, the name is taken, the folder has no file, or out of memory.
 pub fn target_added(
     alloc: Global,
     noted: &Noted<'_>,

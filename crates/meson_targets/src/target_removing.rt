@@ -1,4 +1,4 @@
-//! The steps by which a target is taken out, with its whole statement.
+//! The steps that remove a target, with its whole statement.
 
 ghost use Rattle.std.specs.Prelude.{◌≡◌, ◌∷◌, [], IfErr, IfOk, Ok};
 ghost use Rattle.meson_calls.specs.Loading.{IsProject};
@@ -21,7 +21,7 @@ use std::alloc::Global;
 /// Refuses a variable that is used elsewhere.
 ///
 /// # Errors
-/// The statement sets a variable that is used outside it, or memory is refused.
+/// The statement sets a variable that is used outside it, or out of memory.
 fn not_in_use(
     alloc: Global,
     noted: &Noted<'_>,
@@ -45,7 +45,7 @@ fn not_in_use(
     }
 }
 
-/// The step by which a statement is removed.
+/// The step that removes a statement.
 fn statement_removed(alloc: Global, line: StatementPlace) -> Result<Vec<ListStep>, Refusal>
     ensures done { IfOk result (λ steps. steps.items ≡ record { list = line.block; edit = ListEdit.RemoveStatement line.number } ∷ []) }
     ensures refused { IfErr result (λ e. e ≡ Refusal.OutOfMemory) }
@@ -56,10 +56,10 @@ fn statement_removed(alloc: Global, line: StatementPlace) -> Result<Vec<ListStep
     Ok(steps)
 }
 
-/// The step by which the statement of a call is removed.
+/// The step that removes the statement of a call.
 ///
 /// # Errors
-/// The call is no statement and no assigned value, its variable is used elsewhere, or memory is refused.
+/// The call is neither a statement nor an assigned value, its variable is used elsewhere, or out of memory.
 fn call_removed(alloc: Global, noted: &Noted<'_>, call: &CallRef) -> Result<Vec<ListStep>, Refusal>
     requires { IsProject (loaded_in noted.now) }
     ensures meant { IfOk result (λ steps. AreMeant (call_removed (project_in noted.now) call.now) steps.items) }
@@ -73,10 +73,10 @@ fn call_removed(alloc: Global, noted: &Noted<'_>, call: &CallRef) -> Result<Vec<
     statement_removed(alloc, statement)
 }
 
-/// The step by which a target is taken out, with its whole statement.
+/// The step that removes a target, with its whole statement.
 ///
 /// # Errors
-/// There is no such target or more than one, it is no statement and no assigned value, its variable is used elsewhere, or memory is refused.
+/// There is no such target or more than one, or it is neither a statement nor an assigned value. Or its variable is used elsewhere, or out of memory.
 pub fn target_removed(
     alloc: Global,
     noted: &Noted<'_>,

@@ -38,7 +38,7 @@ pub(crate) struct StatementPlace {
 }
 
 impl StatementPlace {
-    /// Whether a path in its file goes through the statement.
+    /// Whether a path in its file leads through the statement.
     fn is_on(&self, path: &[usize]) -> bool
         ensures { result ≡ goes_through (self.now.block.path.steps ++ self.now.number ∷ []) path.now }
     {
@@ -54,7 +54,7 @@ impl StatementPlace {
         self.number == path[block.len()]
     }
 
-    /// Whether a place stands outside the statement.
+    /// Whether a place is outside the statement.
     fn is_outside(&self, place: BorrowedPlace<'_>) -> bool
         ensures { result ≡ is_outside (place_view self.now) (place_at place.entry) }
     {
@@ -126,7 +126,7 @@ fn is_noted_outside(
     Ok(false)
 }
 
-/// Whether one of some places stands outside a statement.
+/// Whether one of some places is outside a statement.
 fn is_read_outside(places: &[CallRef], line: &StatementPlace) -> bool
     ensures { result ≡ is_read_outside (place_view line.now) places.now }
 {

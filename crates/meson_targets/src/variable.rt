@@ -14,7 +14,7 @@ use std::alloc::{AllocError, Global};
 /// The variable that a statement sets to the call at a place, if one does.
 ///
 /// # Errors
-/// Memory is refused.
+/// Out of memory.
 pub fn variable_of(
     alloc: Global,
     files: &FileSet,

@@ -1,4 +1,4 @@
-//! The texts of the command line: help, and the faults of usage. What is asked for is compared once; the clauses say the rest.
+//! The texts of the command line: help, and the faults of usage. The request is compared once; the clauses say the rest.
 
 use meson_command::{Action, Asked, UsageFault, command_of};
 use meson_steps::command::Command;
@@ -20,7 +20,7 @@ fn asked(rt: &impl Abort, alloc: Global, line: &str) -> Result<Asked, UsageFault
     command_of(alloc, words(rt, alloc, line, ' ').as_slice())
 }
 
-/// Whether it is help that tells how to call, and has an example.
+/// Whether it is help that says how to call, and has an example.
 fn is_help(asked: &Result<Asked, UsageFault>, usage: &str) -> bool {
     let Ok(asked) = asked else {
         return false;
@@ -32,7 +32,7 @@ fn is_help(asked: &Result<Asked, UsageFault>, usage: &str) -> bool {
     text.contains(usage) && text.contains("Examples:\n  meson_rewrite ") && text.contains("--help")
 }
 
-/// Whether a fault is told so.
+/// Whether a fault is printed as this text.
 fn is_told(alloc: Global, fault: &UsageFault, told: &str) -> bool {
     match format!(in alloc; "{fault}") {
         Ok(text) => text.as_str() == told,

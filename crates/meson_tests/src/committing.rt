@@ -10,7 +10,7 @@ use std::process::Abort;
 /// The names of the files, in order.
 const NAMES: [&str; 3] = ["a", "b", "c"];
 
-/// Adds a file behind the others.
+/// Adds a file after the others.
 fn add(rt: &impl Abort, alloc: Global, files: &mut FileSet, name: &str, bytes: &str)
     ensures { map (λ f. f.name) files.new ≡ map (λ f. f.name) files.old ++ name.now ∷ [] }
 {

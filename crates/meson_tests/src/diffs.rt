@@ -8,7 +8,7 @@ use std::alloc::{AllocError, Global};
 use std::process::Abort;
 
 /// A set of one file.
-fn one_file(alloc: Global, name: &str, text: &str) -> Result<FileSet, AllocError>
+pub(crate) fn one_file(alloc: Global, name: &str, text: &str) -> Result<FileSet, AllocError>
     ensures { IfOk result (λ files. map (λ f. f.name) files ≡ name.now ∷ []) }
 {
     let mut files = FileSet::new(alloc);

@@ -1,5 +1,5 @@
-//! Tests of what no case in a file says: sets of files by themselves, their diffs, commits of several files, and the texts of the command line.
-//! Expected values are written out by hand.
+//! Tests of what no case in a file says: sets of files by themselves, their diffs and edits, commits of several files, buffered writers, and
+//! the texts of the command line. Expected values are written by hand.
 #![tactic(auto)]
 
 #[cfg(test)]
@@ -10,3 +10,7 @@ mod committing;
 mod diffs;
 #[cfg(test)]
 mod file_sets;
+#[cfg(test)]
+mod outputs;
+#[cfg(test)]
+mod ranges;

@@ -1,9 +1,9 @@
--- What a list ends as, where its elements are lent for writing.
+-- What a list ends as, if its elements are borrowed for writing.
 use Rattle.std.specs.Prelude.{List, ◌++◌, length, take, drop}
 use Rattle.std.specs.Borrow.{Lends, Fml, RattleType, MutBor, Array}
 use Rattle.meson_values.specs.contracts.many.Many.{the_row}
 
--- the elements with others in their places from the first on (as many are lent as there are)
+-- the elements with others in their places from the first on (as many are borrowed as there are)
 abbrev pub with_all : {A : Type 0} → List A → List A → List A
 with_all elements others = take (length elements) (others ++ drop (length others) elements)
 

@@ -20,21 +20,21 @@ impl Model for Bytes {
 }
 
 impl Bytes {
-    /// The bytes of a vector, without memory.
+    /// The bytes of a vector. Does not allocate.
     pub fn of(vec: Vec<u8>) -> Self
         ensures { result ≡ vec.items }
     {
         Bytes { vec }
     }
 
-    /// The bytes, lent.
+    /// The bytes, borrowed.
     pub fn get(&self) -> &[u8]
         ensures { result.now ≡ self.now }
     {
         self.vec.as_slice()
     }
 
-    /// The bytes, given back as a vector without memory.
+    /// The bytes, given back as a vector. Does not allocate.
     pub fn take(self) -> Vec<u8>
         ensures { result.items ≡ self }
     {

@@ -24,7 +24,7 @@ impl<T> Model for Many<T> {
     ghost view = { λ m. m.vec.items };
 }
 
-/// Written by hand, so that what a tree holds goes by a call of this function.
+/// Written by hand, so that what a tree holds is dropped by a call of this function.
 impl<T: Drop> Drop for Many<T> {
     fn drop(self) {
         let Many { vec: _ } = self;
@@ -32,7 +32,7 @@ impl<T: Drop> Drop for Many<T> {
 }
 
 impl<T> Many<T> {
-    /// No elements. Takes no memory.
+    /// No elements. Does not allocate.
     pub fn new(alloc: Global) -> Self
         ensures { result ≡ [] }
     {
@@ -41,21 +41,21 @@ impl<T> Many<T> {
         }
     }
 
-    /// The elements of a vector, without memory.
+    /// The elements of a vector. Does not allocate.
     pub fn of(vec: Vec<T>) -> Self
         ensures { result ≡ vec.items }
     {
         Many { vec }
     }
 
-    /// The elements, lent.
+    /// The elements, borrowed.
     pub fn get(&self) -> &[T]
         ensures { result.now ≡ self.now }
     {
         self.vec.as_slice()
     }
 
-    /// The elements, lent for writing.
+    /// The elements, borrowed for writing.
     pub fn get_mut(&mut self) -> &mut [T]
         ensures* writes_back { sem 𝓛 (LendsItems T.row self.entry result) }
         ensures value { result.now ≡ self.old }
@@ -63,7 +63,7 @@ impl<T> Many<T> {
         self.vec.as_mut_slice()
     }
 
-    /// The elements, given back as a vector without memory.
+    /// The elements, given back as a vector. Does not allocate.
     pub fn take(self) -> Vec<T>
         ensures { result.items ≡ self }
     {
@@ -78,7 +78,7 @@ impl<T> Many<T> {
         self.vec.as_slice().last()
     }
 
-    /// Puts an element behind the others. Hands it back where memory is refused.
+    /// Adds an element after the others. Hands it back when out of memory.
     pub fn push(&mut self, item: T) -> Result<(), AllocFailed<T>>
         ensures ok { OnOk result (self.new ≡ self.old ++ item ∷ []) }
         ensures err { IfErr result (λ e. (e.value ≡ item) × (self.new ≡ self.old)) }
@@ -86,7 +86,7 @@ impl<T> Many<T> {
         self.vec.push(item)
     }
 
-    /// Moves the last element behind those of `to`.
+    /// Moves the last element to the end of `to`.
     pub fn move_last(&mut self, to: &mut Many<T>) -> Result<(), AllocError>
         requires { 0 < length self.old }
         ensures ok { OnOk result ((x : T) × (self.old ≡ self.new ++ x ∷ []) × (to.new ≡ to.old ++ x ∷ [])) }
@@ -107,8 +107,7 @@ impl<T: Drop> Many<T> {
         self.vec.clear();
     }
 
-    /// Puts an element behind the others, or lets it go where memory is refused. For lists that mostly have one element or two:
-    /// their memory is doubled from there on.
+    /// Adds an element after the others, or drops it when out of memory. For lists that mostly have one element or two: their memory is doubled from there on.
     pub fn push_sparing(&mut self, item: T) -> Result<(), AllocError>
         ensures ok { OnOk result (self.new ≡ self.old ++ item ∷ []) }
         ensures err { OnErr result (self.new ≡ self.old) }
@@ -117,7 +116,7 @@ impl<T: Drop> Many<T> {
         self.push_with_room(item, room)
     }
 
-    /// The same of an element behind which others are expected, or none: the last one takes no more memory than it needs.
+    /// The same for an element after which others are expected, or none: the last one takes no more memory than it needs.
     pub fn push_expecting(&mut self, item: T, others: bool) -> Result<(), AllocError>
         ensures ok { OnOk result (self.new ≡ self.old ++ item ∷ []) }
         ensures err { OnErr result (self.new ≡ self.old) }
@@ -126,7 +125,7 @@ impl<T: Drop> Many<T> {
         self.push_with_room(item, room)
     }
 
-    /// Where no memory is left, it is made for so many more.
+    /// If no memory is left, it is allocated for `room` more.
     fn push_with_room(&mut self, item: T, room: usize) -> Result<(), AllocError>
         ensures ok { OnOk result (self.new ≡ self.old ++ item ∷ []) }
         ensures err { OnErr result (self.new ≡ self.old) }

@@ -21,21 +21,21 @@ impl Model for Text {
 }
 
 impl Text {
-    /// The text of a string, without memory.
+    /// The text of a string. Does not allocate.
     pub fn of(string: String) -> Self
         ensures { result ≡ string_bytes string }
     {
         Text { string }
     }
 
-    /// The text, lent.
+    /// The text, borrowed.
     pub fn get(&self) -> &str
         ensures { result.now ≡ self.now }
     {
         self.string.as_str()
     }
 
-    /// The text, given back as a string without memory.
+    /// The text, given back as a string. Does not allocate.
     pub fn take(self) -> String
         ensures { string_bytes result ≡ self }
     {

@@ -1,4 +1,4 @@
--- What the code's values of variables stand for.
+-- What the code's values of variables mean.
 use Rattle.std.specs.Prelude.{ℕ, List, [], ◌∷◌, bytes_eq, Option, Some, None, option_map}
 use Rattle.std.specs.Option.{option_flatten}
 use Rattle.std.specs.HashMap.{get_by}
@@ -13,7 +13,7 @@ use Rattle.meson_variables.specs.Variables.{Assigned, only_value}
 abbrev pub value_view : Value → Placed (Expression Span)
 value_view v = placed (child (place v.file (v.statement ∷ [])) 0) (expr_view v.source.now v.value.now)
 
--- ---- assignments that were met: nothing where there was none, else the value of the only one, or that it has none
+-- ---- assignments that were met: nothing if there was none, else the value of the only one, or that it has none
 
 abbrev pub taken : List (Placed (Assigned Span)) → Option (Option (Placed (Expression Span)))
 taken [] = None

@@ -1,4 +1,4 @@
--- The project of which the code's variables are, and which of their values it has at hand.
+-- The project of the code's variables, and which of their values are at hand.
 use Rattle.std.specs.Prelude.{◌≡◌, ℕ, Bool, true, List}
 use Rattle.meson_lex.specs.declared.kinds.Span.{Span}
 use Rattle.meson_variables.specs.declared.variables.Sought.{Sought}
@@ -20,8 +20,8 @@ abbrev pub is_sought : Sought → List ℕ → Bool
 is_sought sought.All x = true
 is_sought (sought.These names) x = is_among names.items x
 
--- The strings in the project's notes are strings of their kinds, what is kept of the files is so, and each variable whose value is at hand has the one that it
--- stands for.
+-- The strings in the project's notes are strings of their kinds, and what is kept of the files is right. Each variable whose value is at hand has its right
+-- value.
 pub record AreVariables (v : Variables) : Type 0 where
   pub whole : IsProject (loaded_from v.files.now v.trees.now)
   pub good : NotesGood (notes (project_of v))

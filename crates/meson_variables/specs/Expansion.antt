@@ -1,5 +1,5 @@
--- What a list of sources holds. Meson manual, Reference manual, `files` and the functions that make targets: sources are strings, `files()` and lists of
--- these; a variable stands for its one value; a sum that begins with a list holds what its operands hold. All else is opaque: what it holds is not known.
+-- What a list of sources holds. Meson manual, Reference manual, `files` and the functions that make targets: sources are strings, `files()` and lists of these.
+-- A variable means its one value. A sum that begins with a list holds what its operands hold. All else is opaque: what it holds is not known.
 use Rattle.std.specs.Prelude.{ℕ, zero, suc, ◌+◌, Bool, true, false, not, ◌&&◌, List, [], ◌∷◌, ◌++◌, if◌then◌else◌, bytes_eq, codes, Option, Some, None}
 use Rattle.meson_syntax.specs.declared.operator.Operator.{Operator}
 use Rattle.meson_syntax.specs.declared.operator.Operator.TheVariants as operator
@@ -37,7 +37,7 @@ pub record Expansion (S : Type 0) : Type 0 where
   pub marks : List (Mark S)
   pub followed : List (List ℕ)
 
--- where an expression stands
+-- the place of an expression
 pub record Stand : Type 0 where
   pub place : CallRef
   pub slot : Slot
@@ -60,7 +60,7 @@ then_expand e more = both_expanded e (more e.followed)
 abbrev pub element : Stand → ℕ → Stand
 element s n = record { place = child s.place n; slot = in_list s.place n; variable = s.variable }
 
--- the n-th operand of a row, which stands in no list
+-- the n-th operand of a row, which is in no list
 abbrev pub operand_at : Stand → ℕ → Stand
 operand_at s n = record { place = child s.place n; slot = fixed; variable = s.variable }
 
@@ -84,7 +84,7 @@ are_named (listing s trailing list) = has_names list
 abbrev pub is_files : {S : Type 0} → List ℕ → Listing S → Bool
 is_files f l = bytes_eq f (codes "files") && not (are_named l)
 
--- ---- which rows are sums of lists. Meson manual, Syntax, "Arrays": `+` puts a list, or one more element, behind a list.
+-- ---- which rows are sums of lists. Meson manual, Syntax, "Arrays": `+` adds a list, or one more element, at the end of a list.
 
 abbrev pub is_plus : Operator → Bool
 is_plus operator.Plus = true
@@ -112,12 +112,12 @@ abbrev pub is_single_by : {S : Type 0} → (Expression S → Bool) → Option (P
 is_single_by is_list None = false
 is_single_by is_list (Some v) = is_value_by is_list v.it
 
--- by a chain of at most so many variables, whatever was followed before
+-- by a chain of at most this number of variables, whatever was followed before
 abbrev pub is_list_variable : {S : Type 0} → Project S → ℕ → List ℕ → Bool
 is_list_variable p zero x = false
 is_list_variable p (suc left) x = is_single_by (is_operand_by (is_list_variable p left)) (single p x)
 
--- so many variables make such a chain, and so many may be followed inside one another
+-- this number of variables makes such a chain, and this number may be followed inside one another
 abbrev pub max_followed : ℕ
 max_followed = 64
 
@@ -131,7 +131,7 @@ abbrev pub literal_item : {S : Type 0} → S → Stand → List (List ℕ) → O
 literal_item at_ s followed (Some text) = met (known (record { text = text; stands = at_; place = s.place; slot = s.slot; variable = s.variable })) followed
 literal_item at_ s followed None = met opaque followed
 
--- by which operands are lists, and what a variable gives that was not followed before
+-- depending on which operands are lists, and what a variable gives that was not followed before
 module _ {S : Type 0} (is_list : Expression S → Bool) (follow : List ℕ → List (List ℕ) → Expansion S) where
   abbrev mutual
     pub expand_by : Expression S → Stand → List (List ℕ) → Expansion S
@@ -161,7 +161,7 @@ module _ {S : Type 0} (is_list : Expression S → Bool) (follow : List ℕ → L
     expand_argument (named at_ x e) s followed = met opaque followed
     expand_argument (pair at_ e f) s followed = met opaque followed
 
--- the value of a variable, which stands in no list itself
+-- the value of a variable, which is in no list itself
 abbrev pub of_variable : List ℕ → CallRef → Stand
 of_variable x p = record { place = p; slot = fixed; variable = Some x }
 
@@ -170,7 +170,7 @@ abbrev pub follow_single : {S : Type 0} → (Expression S → Stand → List (Li
 follow_single inner x followed None = met opaque followed
 follow_single inner x followed (Some v) = inner v.it (of_variable x v.place) (x ∷ followed)
 
--- so many variables may be followed inside one another
+-- this number of variables may be followed inside one another
 abbrev pub expand : {S : Type 0} → Project S → ℕ → Expression S → Stand → List (List ℕ) → Expansion S
 expand p zero = expand_by (is_list_operand p) (λ x followed. met opaque followed)
 expand p (suc left) = expand_by (is_list_operand p) (λ x followed. follow_single (expand p left) x followed (single p x))

@@ -17,7 +17,7 @@ abbrev pub number_of_slot : Slot → Option ℕ
 number_of_slot (in_list p n) = Some n
 number_of_slot fixed = None
 
--- the items with their numbers, the number of opaque marks, the list of the first item that stands in one, and the first list that holds nothing
+-- the items with their numbers, the number of opaque marks, the list of the first item that is in one, and the first empty list
 pub record Tally : Type 0 where
   pub items : List SourceItem
   pub numbers : List (Option ℕ)
@@ -56,7 +56,7 @@ no_marks = record { tally = record { items = []; numbers = []; unknown = 0; list
 abbrev pub followed_names : Followed → List (List ℕ)
 followed_names f = reverse (map (λ x. x.now) f.names.items)
 
--- what the code's marks stand for
+-- what the code's marks mean
 abbrev pub gathered : Marks → Gathered
 gathered m = record {
   tally = record {
@@ -69,11 +69,11 @@ gathered m = record {
   followed = followed_names m.followed;
 }
 
--- the code's marks get what an expansion meets behind what was followed before
+-- the code's marks get what an expansion meets after what was followed before
 abbrev pub Meets : Marks → (List (List ℕ) → Expansion Span) → Marks → Type 0
 Meets old more new = gathered new ≡ expanded (gathered old) more
 
--- ---- where an expression stands: the n-th child of a list at a path, or at the path itself and in no list
+-- ---- the place of an expression: the n-th child of a list at a path, or at the path itself and in no list
 
 abbrev pub stand : ℕ → List ℕ → Option (List ℕ) → Option ℕ → Stand
 stand file path variable None = record { place = place file path; slot = fixed; variable = variable }
@@ -88,7 +88,7 @@ abbrev pub follow_of : {S : Type 0} → Project S → ℕ → List ℕ → List 
 follow_of p zero x followed = met opaque followed
 follow_of p (suc left) x followed = follow_single (expand p left) x followed (single p x)
 
--- ---- expansions where so many variables may still be followed inside one another
+-- ---- expansions if this number of variables may still be followed inside one another
 
 abbrev pub expand_left : Project Span → ℕ → Expression Span → Stand → List (List ℕ) → Expansion Span
 expand_left p left = expand_by (is_list_operand p) (follow_of p left)

@@ -1,4 +1,4 @@
--- The sources of a target: its arguments without a name behind the first, and `sources:`. Meson manual, Reference manual, `executable`.
+-- The sources of a target: its arguments without a name after the first, and `sources:`. Meson manual, Reference manual, `executable`.
 use Rattle.std.specs.Prelude.{ℕ, suc, List, [], ◌∷◌, ◌++◌, map, Option, Some, None, option_map, Result}
 use Rattle.meson_lex.specs.declared.kinds.Span.{Span}
 use Rattle.meson_syntax.specs.Tree.{Expression}
@@ -14,7 +14,7 @@ use Rattle.meson_calls.specs.NamedArguments.{kwargs_key, once, rest, sources_key
 
 -- ---- the expansion of arguments of the call at a place
 
--- an argument without a name stands in the call's list; a keyword's value in none
+-- an argument without a name is in the call's list; a keyword's value in none
 abbrev pub expand_arguments : {S : Type 0} → Project S → CallRef → (ℕ → Slot) → List (Numbered (Expression S)) → List (List ℕ) → Expansion S
 expand_arguments p c slot [] followed = nothing_met followed
 expand_arguments p c slot (a ∷ more) followed =
@@ -55,14 +55,14 @@ abbrev pub or_option : {X : Type 0} → Option X → Option X → Option X
 or_option None y = y
 or_option (Some x) y = Some x
 
--- the list of the first item that stands in one
+-- the list of the first item that is in one
 abbrev pub first_list : {S : Type 0} → List (Mark S) → Option CallRef
 first_list [] = None
 first_list (known i ∷ marks) = or_option (list_of_slot i.slot) (first_list marks)
 first_list (opaque ∷ marks) = first_list marks
 first_list (empty p ∷ marks) = first_list marks
 
--- the first list that holds nothing
+-- the first empty list
 abbrev pub first_empty : {S : Type 0} → List (Mark S) → Option CallRef
 first_empty [] = None
 first_empty (known i ∷ marks) = first_empty marks
@@ -73,7 +73,7 @@ abbrev pub or_call : CallRef → Option CallRef → CallRef
 or_call c None = c
 or_call c (Some p) = p
 
--- where a further source goes
+-- where a further source is added
 abbrev pub home : {S : Type 0} → CallRef → List (Mark S) → CallRef
 home c marks = or_call c (or_option (first_list marks) (first_empty marks))
 

@@ -1,5 +1,5 @@
--- What a variable stands for. A build file is run from top to bottom (Meson manual, Syntax, "Variables"), so a variable stands for one expression only
--- where nothing else can set it.
+-- What a variable means. A build file is run from top to bottom (Meson manual, Syntax, "Variables"). So a variable means one expression only if nothing else
+-- can set it.
 use Rattle.std.specs.Prelude.{ℕ, Bool, true, false, not, ◌&&◌, ◌||◌, List, [], ◌∷◌, if◌then◌else◌, bytes_eq, codes, Option, Some, None, is_none}
 use Rattle.std.specs.List.{list_any}
 use Rattle.meson_syntax.specs.Tree.{Name, Expression, Statement, assign, iteration}
@@ -28,13 +28,13 @@ part_assigned x (a_statement s) = assigned_by x s
 abbrev pub assignments : {S : Type 0} → Project S → List ℕ → List (Placed (Assigned S))
 assignments p x = all_chosen (part_assigned x) (parts p)
 
--- a statement of a file's own block stands outside `if` and `foreach`
+-- a statement of a file's own block is outside `if` and `foreach`
 abbrev pub is_outermost : List ℕ → Bool
 is_outermost [] = false
 is_outermost (n ∷ []) = true
 is_outermost (n ∷ m ∷ more) = false
 
--- the value of the only one, where it is given with `=` outside `if` and `foreach`
+-- the value of the only one, if it is given with `=` outside `if` and `foreach`
 abbrev pub only_value : {S : Type 0} → List (Placed (Assigned S)) → Option (Placed (Expression S))
 only_value [] = None
 only_value (a ∷ []) = if a.it.sets && is_outermost a.place.path.steps then Some (placed (child a.place 0) a.it.value) else None
@@ -56,7 +56,7 @@ sets_variable x c = calls_function (codes "set_variable") c && is x (first_liter
 abbrev pub is_set_otherwise : {S : Type 0} → Project S → List ℕ → Bool
 is_set_otherwise p x = list_any (λ q. is_iterated x q.it) (parts p) || list_any (λ c. sets_variable x c.it) (calls p)
 
--- ---- what may set any variable: a `set_variable` of a name that isn't a literal, and a `subdir` of a file that isn't there
+-- ---- what may set any variable: a `set_variable` of a name that isn't a literal, and a `subdir` of a file that does not exist
 
 abbrev pub sets_unknown : {S : Type 0} → Call S → Bool
 sets_unknown c = calls_function (codes "set_variable") c && is_none (first_literal c)
@@ -64,7 +64,7 @@ sets_unknown c = calls_function (codes "set_variable") c && is_none (first_liter
 abbrev pub all_known : {S : Type 0} → Project S → Bool
 all_known p = not (list_any (λ c. sets_unknown c.it || enters_unknown p c) (calls p))
 
--- ---- the one expression that a variable stands for
+-- ---- the one expression that a variable means
 
 abbrev pub single : {S : Type 0} → Project S → List ℕ → Option (Placed (Expression S))
 single p x = if all_known p && not (is_set_otherwise p x) then only_value (assignments p x) else None

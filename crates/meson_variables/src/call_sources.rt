@@ -1,4 +1,4 @@
-//! The sources of a call, and the list where a further one goes.
+//! The sources of a call, and the list to which a further one is added.
 
 ghost use Rattle.std.specs.Prelude.{◌≡◌, Ok, IfOk, OnOk};
 ghost use Rattle.meson_syntax.specs.View.{list_view};
@@ -21,10 +21,10 @@ use meson_splice::{Many, Text};
 use meson_syntax::{Arg, List};
 use std::alloc::{AllocError, Global};
 
-/// So many variables may be followed inside one another.
+/// The number of variables that may be followed inside one another.
 pub const MAX_FOLLOWED: usize = 64;
 
-/// Meets what the arguments of a call hold, which has this path, where nothing was met before.
+/// Meets what the arguments of a call with this path hold, if nothing was met before.
 fn meet_arguments<'t>(
     variables: &Variables<'t>,
     left: usize,
@@ -55,7 +55,7 @@ fn meet_arguments<'t>(
     Ok(())
 }
 
-/// What the arguments of a call hold: those without a name behind the first, `sources:`, and, not known, `kwargs:`.
+/// What the arguments of a call hold: those without a name after the first, `sources:`, and, not known, `kwargs:`.
 pub fn met<'t>(
     variables: &Variables<'t>,
     left: usize,
@@ -73,7 +73,7 @@ pub fn met<'t>(
     Ok(marks)
 }
 
-/// The list of the first item that stands in one, else the first list that holds nothing, else the call.
+/// The list of the first item that is in one, else the first empty list, else the call.
 pub fn home_of(
     alloc: Global,
     call: &CallRef,
@@ -94,7 +94,7 @@ pub fn home_of(
 /// The sources of the call at a place.
 ///
 /// # Errors
-/// `sources:` is there twice, or memory is refused.
+/// `sources:` is there twice, or out of memory.
 pub(crate) fn sources_of<'t>(
     variables: &Variables<'t>,
     call: &CallRef,

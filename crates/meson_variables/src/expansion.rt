@@ -20,7 +20,7 @@ use meson_syntax::{Arg, Expr, List, Operand};
 use std::alloc::AllocError;
 
 impl<'t> Variables<'t> {
-    /// Meets what an expression holds, where so many variables may still be followed inside one another.
+    /// Meets what an expression holds, if `left` variables may still be followed inside one another.
     #[cycle(expansion)]
     pub fn expand(
         &self,
@@ -63,7 +63,7 @@ impl<'t> Variables<'t> {
         }
     }
 
-    /// Those of the list of an array or a call that stands there.
+    /// Those of the list of an array or a call at this place.
     #[cycle(expansion)]
     fn expand_list(
         &self,
@@ -160,7 +160,7 @@ impl<'t> Variables<'t> {
         }
     }
 
-    /// Those of the operands of a row, where it is a sum.
+    /// Those of the operands of a row, if it is a sum.
     #[cycle(expansion)]
     fn expand_row(
         &self,
@@ -216,7 +216,7 @@ impl<'t> Variables<'t> {
         Ok(())
     }
 
-    /// Those of the n-th operand of a sum at the path, which stands in no list.
+    /// Those of the n-th operand of a sum at the path, which is in no list.
     #[cycle(expansion)]
     fn expand_operand(
         &self,

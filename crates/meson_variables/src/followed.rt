@@ -19,7 +19,7 @@ impl<'t> Followed<'t> {
     ghost use Rattle.std.specs.Prelude.{[], ◌∷◌, OnErr, OnOk};
     ghost use Rattle.meson_variables.specs.Tallies.{followed_names};
 
-    /// None so far. Takes no memory.
+    /// None so far. Does not allocate.
     pub fn new(alloc: Global) -> Self
         ensures { followed_names result ≡ [] }
     {
@@ -39,7 +39,7 @@ impl<'t> Followed<'t> {
     /// Follows a variable.
     ///
     /// # Errors
-    /// Memory was refused.
+    /// Out of memory.
     pub fn put(&mut self, name: &'t [u8]) -> Result<(), AllocError>
         ensures put { OnOk result (followed_names self.new ≡ name.entry.now ∷ followed_names self.old) }
         ensures kept { OnErr result (followed_names self.new ≡ followed_names self.old) }

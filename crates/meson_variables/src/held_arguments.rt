@@ -1,4 +1,4 @@
-//! What the arguments of a call stand for, one after another.
+//! The values of the arguments of a call, one after another.
 
 ghost use Rattle.std.specs.Prelude.{◌≡◌, None, OnOk, drop};
 ghost use Rattle.meson_syntax.specs.Grammar.{argument_words};
@@ -20,7 +20,7 @@ use meson_syntax::Arg;
 use std::alloc::AllocError;
 
 impl<'t> Variables<'t> {
-    /// What an argument without a name holds, which stands in the list at the path.
+    /// What an argument without a name holds, which is in the list at the path.
     fn expand_plain(
         &self,
         left: usize,
@@ -43,7 +43,7 @@ impl<'t> Variables<'t> {
         }
     }
 
-    /// What an argument of this name holds, which stands in no list.
+    /// What an argument of this name holds, which is in no list.
     fn expand_named(
         &self,
         left: usize,

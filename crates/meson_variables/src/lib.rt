@@ -1,4 +1,4 @@
-//! What variables stand for, and the sources of a target.
+//! The values of variables, and the sources of a target.
 #![tactic(auto)]
 
 pub mod call_sources;

@@ -18,8 +18,8 @@ pub struct Site<'t> {
     pub variable: Option<&'t str>,
 }
 
-/// The items, their numbers in their lists, the file of each opaque mark (of which only how many there are is asked), the list of the first
-/// item that stands in one, the first list that holds nothing, and the variables that were followed.
+/// What was met. The items, their numbers in their lists, and the file of each opaque mark (only their number is used). The list of the first item that is in
+/// one, the first empty list, and the variables that were followed.
 #[derive(Drop)]
 pub struct Marks<'t> {
     pub items: Vec<SourceItem>,
@@ -34,7 +34,7 @@ impl<'t> Marks<'t> {
     ghost use Rattle.meson_variables.specs.Expansion.{opaque, empty};
     ghost use Rattle.meson_variables.specs.Tallies.{gathered, no_marks, with_mark, with_item};
 
-    /// Nothing so far. Takes no memory.
+    /// None so far. Does not allocate.
     pub fn new(alloc: Global) -> Self
         ensures { gathered result ≡ no_marks }
     {
@@ -74,7 +74,7 @@ impl<'t> Marks<'t> {
         Ok(())
     }
 
-    /// Meets a list that holds nothing.
+    /// Meets an empty list.
     pub fn meet_vacant(
         &mut self,
         alloc: Global,

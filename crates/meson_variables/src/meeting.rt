@@ -1,4 +1,4 @@
-//! What stands in a list of sources: literals, and whether elements have names.
+//! What is in a list of sources: literals, and whether elements have names.
 
 ghost use Rattle.std.specs.Prelude.{◌≡◌, Option, IfOk, OnOk, option_map};
 ghost use Rattle.meson_syntax.specs.Grammar.{expression_words};
@@ -53,7 +53,7 @@ pub fn is_files(source: &[u8], function: Span, arguments: &List) -> bool
     text_of(source, function) == b"files".as_slice() && !are_named(arguments)
 }
 
-/// The list in which something stands, if it stands in one.
+/// The list of an item, if it is in one.
 pub fn list_of(
     alloc: Global,
     file: usize,
@@ -71,7 +71,7 @@ pub fn list_of(
     }
 }
 
-/// A copy of a variable's name, where there is one.
+/// A copy of a variable's name, if there is one.
 fn copy_name(alloc: Global, name: Option<&str>) -> Result<Option<Text>, AllocError>
     ensures { IfOk result (λ copy. copy ≡ option_map (λ x. x.now) name.entry) }
 {

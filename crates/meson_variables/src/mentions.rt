@@ -6,17 +6,17 @@ use meson_calls::roles::{is_among, text_of};
 use meson_syntax::{Arg, Expr, List};
 use std::alloc::{AllocError, Global};
 
-/// So many variables are looked for one by one; where there are more, all are.
+/// Up to this number, variables are looked for one by one; if there are more, all are.
 const MOST_NAMES: usize = 16;
 
-/// Variables that are named, each once, and none that was known before.
+/// Variables that are named, each once, but for those that were known before.
 #[derive(Drop)]
 pub(crate) struct Mentions<'t> {
     found: Vec<&'t [u8]>,
 }
 
 impl<'t> Mentions<'t> {
-    /// None so far. Takes no memory.
+    /// None so far. Does not allocate.
     pub(crate) fn new(alloc: Global) -> Self {
         Mentions {
             found: Vec::new(alloc),
@@ -28,7 +28,7 @@ impl<'t> Mentions<'t> {
         self.found.as_slice()
     }
 
-    /// Whether there are more than are looked for one by one.
+    /// Whether there are too many to search for them one by one.
     pub(crate) fn are_many(&self) -> bool {
         self.found.len() > MOST_NAMES
     }

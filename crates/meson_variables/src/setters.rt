@@ -20,7 +20,7 @@ use meson_lex::Span;
 use meson_syntax::List;
 use std::alloc::{AllocError, Global};
 
-/// Whether a text is one of some spans'.
+/// Whether a text is that of one of some spans.
 pub fn one_of(source: &[u8], spans: &[Span], name: &[u8]) -> bool
     ensures { result ≡ one_of_names (names_at source.now spans.now) name.now }
 {
@@ -32,7 +32,7 @@ pub fn one_of(source: &[u8], spans: &[Span], name: &[u8]) -> bool
     false
 }
 
-/// The name that a call sets, where it is a `set_variable` of a literal.
+/// The name that a call sets, if it is a `set_variable` of a literal.
 fn set_name(
     alloc: Global,
     source: &[u8],
@@ -114,7 +114,7 @@ impl<'t> Values<'t> {
     /// The values of the variables that notes assign, each once, and set in no other way.
     ///
     /// # Errors
-    /// Memory was refused.
+    /// Out of memory.
     pub fn by_notes(alloc: Global, notes: &[Note<'_, 't>]) -> Result<Values<'t>, AllocError>
         requires { NotesGood (note_views notes.now) }
         ensures { IfOk result (λ values. (x : Source) → value_in values x

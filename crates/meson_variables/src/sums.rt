@@ -40,7 +40,7 @@ impl<'t> Variables<'t> {
     /// Whether a row is a sum of lists: all its operators are `+`, and its first operand is a list.
     ///
     /// # Errors
-    /// Memory was refused.
+    /// Out of memory.
     pub fn is_sum(&self, source: &[u8], first: &Expr, rest: &[Operand]) -> Result<bool, AllocError>
         requires { AreVariables self.now }
         ensures { IfOk result (λ is. is
@@ -53,7 +53,7 @@ impl<'t> Variables<'t> {
         }
     }
 
-    /// Whether an operand is a list, by a chain of at most so many variables.
+    /// Whether an operand is a list, by a chain of at most this number of variables.
     #[cycle(operands)]
     fn is_list_operand(
         &self,

@@ -30,7 +30,7 @@ pub(crate) fn arguments_of(expr: &Expr) -> Option<&List>
 /// The sources of the target at a place.
 ///
 /// # Errors
-/// `sources:` is there twice, or memory is refused.
+/// `sources:` is there twice, or out of memory.
 pub fn sources_at(variables: &Variables<'_>, call: &CallRef) -> Result<Sources, Refusal>
     requires holds { AreVariables variables.now }
     requires parsed { AreParsed variables.now.files.now variables.now.trees.now }

@@ -24,7 +24,7 @@ use meson_syntax::List;
 use std::alloc::{AllocError, Global};
 use std::collections::HashSet;
 
-/// Whether a call is a `set_variable` of a name that is no literal.
+/// Whether a call is a `set_variable` of a name that is not a literal.
 fn sets_unknown(
     alloc: Global,
     source: &[u8],
@@ -63,7 +63,7 @@ fn is_entered(
     }
 }
 
-/// Whether a call is a `subdir` that means none of the files.
+/// Whether a call is a `subdir` that enters none of the files.
 fn enters_none(
     alloc: Global,
     files: &FileSet,

@@ -25,20 +25,20 @@ pub struct Value<'t> {
     pub value: &'t Expr,
 }
 
-/// The variables that are assigned, by name: each with its value, or with none where it stands for no single expression.
+/// The variables that are assigned, by name: each with its value, or with none if it has no single expression.
 #[derive(Drop)]
 pub struct Values<'t> {
     by_name: HashMap<&'t [u8], Option<Value<'t>>>,
 }
 
-/// Whether an assignment stands outside `if` and `foreach`.
+/// Whether an assignment is outside `if` and `foreach`.
 fn is_outermost(place: BorrowedPlace<'_>) -> bool
     ensures { result ≡ is_outermost place.entry.path.now }
 {
     place.path.len() == 1
 }
 
-/// The value that a variable has where this is its only assignment: one that is given with `=` outside `if` and `foreach`.
+/// The value of a variable whose only assignment this is: one with `=`, outside `if` and `foreach`.
 fn outermost<'t>(note: &Note<'_, 't>, sets: bool, value: &'t Expr) -> Option<Value<'t>>
     ensures { option_map value_view result ≡ only_value (assignment note.now sets (expr_view note.now.source.now value.now) ∷ []) }
 {
@@ -55,7 +55,7 @@ fn outermost<'t>(note: &Note<'_, 't>, sets: bool, value: &'t Expr) -> Option<Val
 }
 
 impl<'t> Values<'t> {
-    /// No variables. Takes no memory.
+    /// No variables. Does not allocate.
     pub fn new(alloc: Global) -> Self
         ensures { (x : List ℕ) → met_in result x ≡ None }
     {
@@ -64,10 +64,10 @@ impl<'t> Values<'t> {
         }
     }
 
-    /// Meets an assignment to a variable: its value is kept where it is the first, and none where it is not.
+    /// Meets an assignment to a variable: its value is kept if it is the first, and none if it is not.
     ///
     /// # Errors
-    /// Memory was refused.
+    /// Out of memory.
     fn put(&mut self, name: &'t [u8], value: Option<Value<'t>>) -> Result<(), AllocError>
         ensures { OnOk result ((x : List ℕ) → met_in self.new x
             ≡ (if bytes_eq name.entry.now x then Some (merged (met_in self.old x) (option_map value_view value.entry)) else met_in self.old x)) }
@@ -96,7 +96,7 @@ impl<'t> Values<'t> {
     /// The variables that notes assign.
     ///
     /// # Errors
-    /// Memory was refused.
+    /// Out of memory.
     pub fn assigned(alloc: Global, notes: &[Note<'_, 't>]) -> Result<Values<'t>, AllocError>
         ensures { IfOk result (λ values. (x : List ℕ) → met_in values x ≡ taken (assigned_notes x (note_views notes.now))) }
     {

@@ -1,4 +1,4 @@
-//! What the variables of a project stand for.
+//! The values of the variables of a project.
 
 ghost use Rattle.std.specs.Prelude.{◌≡◌, ℕ, List, not, true, All, IfOk, IfSome, IsTrue, option_map};
 ghost use Rattle.meson_variables.specs.CodeVariables.{AreVariables, is_sought, project_of};
@@ -28,7 +28,7 @@ use meson_splice::FileSet;
 use meson_syntax::Parsed;
 use std::alloc::{AllocError, Global};
 
-/// Of which variables the values are at hand.
+/// The variables whose values are at hand.
 #[derive(Drop)]
 pub enum Sought<'t> {
     All,
@@ -47,19 +47,19 @@ impl<'t> Sought<'t> {
     }
 }
 
-/// The variables of a project. The values of those that a command follows are at hand; others are looked for when they are asked for.
+/// The variables of a project. The values of those that a command follows are at hand; others are searched for on request.
 #[derive(Drop)]
 pub struct Variables<'t> {
     pub alloc: Global,
     pub files: &'t FileSet,
     pub trees: &'t [Parsed],
-    /// What is kept of each file, where that is known.
+    /// What is kept of each file, if that is known.
     pub kept: &'t [Kept],
     sought: Sought<'t>,
     values: Values<'t>,
 }
 
-/// The values by the notes of files: none where a call may set any variable.
+/// The values by the notes of files: none if a call may set any variable.
 fn known_values<'t>(
     alloc: Global,
     files: &FileSet,
@@ -92,8 +92,8 @@ fn all_values<'t>(
     known_values(alloc, files, notes.as_slice())
 }
 
-/// The values of all variables by notes of a project, where these are all of them. Of a file all notes are taken or none, so
-/// those of a project of one file are all where there is one.
+/// The values of all variables by notes of a project, if these are all its notes. Of a file all notes are taken or none. So those of a project of one file are
+/// all, if there is any.
 fn noted_values<'t>(alloc: Global, noted: &Noted<'t>) -> Result<Option<Values<'t>>, AllocError>
     requires { (role : Role) × (id : List ℕ) × IsNotedFor role id noted.now }
     ensures { IfOk result (λ o. IfSome o (λ values. (x : List ℕ) → value_in values x ≡ single (project_in noted.now) x)) }
@@ -117,7 +117,7 @@ fn has_any(values: &Values<'_>, names: &[&[u8]]) -> bool
     false
 }
 
-/// The values of these variables by the notes of files. Whether a call may set any variable is asked where one has a value.
+/// The values of these variables by the notes of files. Whether a call may set any variable is checked only if one has a value.
 fn values_named<'t>(
     alloc: Global,
     files: &FileSet,
@@ -140,7 +140,7 @@ fn values_named<'t>(
     }
 }
 
-/// The values of these variables. Of others no value is meant.
+/// The values of these variables. It says nothing about others.
 fn some_values<'t>(
     alloc: Global,
     files: &'t FileSet,
@@ -158,7 +158,7 @@ fn some_values<'t>(
     values_named(alloc, files, notes.as_slice(), names)
 }
 
-/// The variables that are followed from the arguments of the call at a place on; none where there is none.
+/// The variables that are followed from the arguments of the call at a place on; none if there is no call.
 fn mentioned<'t>(
     alloc: Global,
     files: &'t FileSet,
@@ -214,7 +214,7 @@ impl<'t> Variables<'t> {
         }
     }
 
-    /// Those of a project. The values of these variables are at hand, and of those that they lead to.
+    /// Those of a project. The values of these variables are at hand, and of those to which they lead.
     fn mentioning(
         alloc: Global,
         files: &'t FileSet,
@@ -244,10 +244,10 @@ impl<'t> Variables<'t> {
         }
     }
 
-    /// Those of a project. The values are at hand of all variables that are followed from the arguments of a call on.
+    /// Those of a project. The values of all variables that are followed from the arguments of a call on are at hand.
     ///
     /// # Errors
-    /// Memory was refused.
+    /// Out of memory.
     pub fn near(
         alloc: Global,
         files: &'t FileSet,
@@ -265,10 +265,10 @@ impl<'t> Variables<'t> {
         Self::mentioning(alloc, files, trees, kept, &mentions)
     }
 
-    /// The same of a project with notes of it, which serve again where they are all.
+    /// The same for a project with notes of it, which are used again if they are all.
     ///
     /// # Errors
-    /// Memory was refused.
+    /// Out of memory.
     pub fn near_noted(
         alloc: Global,
         noted: &Noted<'t>,
@@ -295,10 +295,10 @@ impl<'t> Variables<'t> {
         Self::mentioning(alloc, noted.files, noted.trees, noted.kept, &mentions)
     }
 
-    /// The one expression that a variable stands for.
+    /// The one expression that is the value of a variable.
     ///
     /// # Errors
-    /// Memory was refused.
+    /// Out of memory.
     pub fn single(&self, name: &[u8]) -> Result<Option<Value<'t>>, AllocError>
         requires { AreVariables self.now }
         ensures { IfOk result (λ found. option_map value_view found ≡ single (project_of self.now) name.now) }

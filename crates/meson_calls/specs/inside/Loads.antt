@@ -7,7 +7,7 @@ use Rattle.meson_calls.specs.declared.load_fault.LoadFault.{LoadFault}
 use Rattle.meson_calls.specs.declared.load_fault.LoadFault.TheVariants.{TooManyFiles, BadFileName, Parse, OutOfMemory}
 use Rattle.meson_calls.specs.Loading.{IsFirstUnread}
 
--- the fault of the file with this number, or want of memory
+-- the fault of the file with this number, or out of memory
 abbrev pub TellsFault : ℕ → ParseFault → LoadFault → Type 0
 TellsFault index fault TooManyFiles = ⊥
 TellsFault index fault (BadFileName i) = ⊥

@@ -1,4 +1,4 @@
--- Notes of setters, as they come behind others.
+-- Notes of setters, as they are added after others.
 use Rattle.std.specs.Prelude.{◌≡◌, ℕ, ◌-◌, Bool, false, List, ◌++◌, length, take, if◌then◌else◌, Option, None, option_map}
 use Rattle.std.specs.Borrow.{Bor}
 use Rattle.meson_lex.specs.declared.kinds.Span.{Span}
@@ -10,7 +10,7 @@ use Rattle.meson_calls.specs.Notes.{Note, an_assignment}
 use Rattle.meson_calls.specs.Project.{Placed, place, placed}
 use Rattle.meson_calls.specs.Setters.{NoCallSets, is_among, notes_asked}
 
--- Behind notes come those of the n-th file: all of them, or its setters, where no call in it sets a variable.
+-- After notes the list has those of the n-th file: all of them, or its setters, if no call in it sets a variable.
 pub record ComeBehind (names : List (Bor (List ℕ))) (n : ℕ) (bytes : List ℕ) (t : Parsed) (before after : List (Placed (Note Span))) : Type 0 where
   pub all : Bool
   pub few : all ≡ false → NoCallSets n bytes t

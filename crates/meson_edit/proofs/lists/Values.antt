@@ -1,27 +1,36 @@
 -- Edits of the value of an element, laid out: it becomes another one, or the array of it.
-use Rattle.std.proofs.Common.{◌≡◌, ℕ, List, [], ◌∷◌, ◌++◌, Some, refl, sym, ap, ap₂, subst, ◌∙◌, append_assoc, inl, inr}
+use Rattle.std.proofs.Common.{◌≡◌, ℕ, ◌+◌, List, [], ◌∷◌, ◌++◌, length, length-append, Some, Result, Ok, Err, refl, sym, ap, ap₂, subst, ◌∙◌, append_assoc, arith, inl, inr}
 use Rattle.std.proofs.lemmas.List.{append-nil}
 use Rattle.std.specs.Prelude.{option_map}
 use Rattle.meson_lex.specs.declared.kinds.Kind.TheVariants as k
 use Rattle.meson_lex.specs.declared.kinds.Span.{Span}
-use Rattle.meson_lex.specs.Items.{Lexeme}
+use Rattle.meson_lex.specs.Items.{Lexeme, joined, IsItemList}
 use Rattle.meson_lex.specs.Significant.{Word}
 use Rattle.meson_lex.specs.Words.{spoken}
+use Rattle.meson_lex.proofs.OneList.{one_list}
+use Rattle.meson_splice.specs.declared.fault.SpliceFault.{SpliceFault}
+use Rattle.meson_splice.specs.declared.splice.Splice.{Splice}
+use Rattle.meson_splice.specs.Patch.{Patches, patched, then_ok}
+use Rattle.meson_splice.proofs.Inverses.{patched-means-patches}
+use Rattle.meson_layout.specs.declared.primitive.Primitive.{Primitive}
 use Rattle.meson_layout.specs.declared.primitive.Primitive.TheVariants as layout
 use Rattle.meson_layout.specs.Words.{remarks, IsBehindElement, IsBeforeElement, IsBeforeValue}
-use Rattle.meson_layout.specs.Edited.{PartIn, Edited}
+use Rattle.meson_layout.specs.Edited.{PartIn, Edited, patched_by}
 use Rattle.meson_layout.specs.Layout.{layout_of}
-use Rattle.meson_layout.proofs.ValueLaws.{replacement-law, wrap-law}
+use Rattle.meson_layout.proofs.ValueLaws.{replacement-law, wrap-keeps, wrap-law}
 use Rattle.meson_syntax.specs.declared.source.Limits.{Limits}
-use Rattle.meson_syntax.specs.Tree.{Nowhere, Plain, Expression, Argument, plain, named, pair, File, erase_expression, erase_argument, erase_listing}
+use Rattle.meson_syntax.specs.Tree.{Nowhere, Plain, Expression, Argument, plain, named, pair, File, erase, erase_expression, erase_argument, erase_listing}
 use Rattle.meson_syntax.specs.Grammar.{expression_words, argument_words}
 use Rattle.meson_syntax.specs.Reads.{IsSpannedWithin}
 use Rattle.meson_syntax.specs.Paths.{ElementAt, element_at, value_of, words_ahead, inner_words}
 use Rattle.meson_edit.specs.Standing.{expression_span, ValueStands, ListPlaces}
 use Rattle.meson_syntax.proofs.parsing.Erased.{expression-words-erased}
+use Rattle.meson_syntax.proofs.parsing.Steps.{some-injective}
+use Rattle.meson_syntax.proofs.places.Pairs.{joined-lengths}
 use Rattle.meson_edit.proofs.places.Standing.{lists-stand}
-use Rattle.meson_edit.specs.Edits.{Written, Edit, Replace, Wrap, elements, with_elements, with_value, array_of}
-use Rattle.meson_edit.specs.Places.{value_span}
+use Rattle.meson_edit.specs.Edits.{Written, Edit, Replace, Wrap, edited, elements, with_elements, with_value, array_of}
+use Rattle.meson_edit.specs.Kept.{WrapsValue}
+use Rattle.meson_edit.specs.Places.{primitive_of, value_span}
 use Rattle.meson_edit.proofs.lists.Cuts.{cut-at}
 use Rattle.meson_edit.proofs.lists.Found.{Found, now_list, found, Valued, valued, value-there}
 use Rattle.meson_edit.proofs.lists.Places.{list_among, part_among, span-there}
@@ -156,4 +165,45 @@ wrap-lays path n limits bytes f s name writes t is =
       notes = remarks l.inner;
       touches = (v.at, v.is_at, v.value, v.is_value, v.part, refl, refl, refl);
       edited = subst (λ ws. Edited bytes items l v.part.left v.part.right ss ws (remarks l.inner)) words law;
+    }
+
+-- ---- the value that is wrapped
+
+spliced : (bytes text : List ℕ) (s : Splice) → patched_by bytes (s ∷ []) ≡ Ok text → Patches bytes s text
+spliced bytes text s is = (patched-means-patches bytes s text).0 (one (patched bytes s) is) where
+  one : (r : Result (List ℕ) SpliceFault) → then_ok r (λ next. patched_by next []) ≡ Ok text → r ≡ Ok text
+  one (Ok next) is = is
+  one (Err e) is = absurd cc
+
+bracketed : (a b own : List ℕ) (x y : ℕ) → (a ++ (x ∷ (own ++ y ∷ []))) ++ b ≡ a ++ ((x ∷ []) ++ (own ++ ((y ∷ []) ++ b)))
+bracketed a b own x y = append_assoc a (x ∷ (own ++ y ∷ [])) b ∙ ap (λ l. a ++ x ∷ l) (append_assoc own (y ∷ []) b)
+
+part-long : (a b c : List Lexeme) (o : Lexeme) → length (joined (a ++ o ∷ (b ++ c))) ≡ length (joined (a ++ o ∷ b)) + length (joined c)
+part-long a b c o = ap (λ xs. length (joined xs)) (sym (append_assoc a (o ∷ b) c)) ∙ joined-lengths (a ++ o ∷ b) c
+
+pub wraps-value : (path : List ℕ) (n : ℕ) (limits : Limits) (bytes : List ℕ) (f : File Span) → IsSpannedWithin limits bytes f → (items : List Lexeme) → IsItemList bytes items
+    → (name : List ℕ) (t : Plain) → edited (Wrap path n) (erase f) ≡ Some t → (primitive : Primitive) → primitive_of f (Wrap path n) ≡ Some primitive
+    → (text : List ℕ) → patched_by bytes (layout_of name items primitive) ≡ Ok text → WrapsValue bytes text f path n
+wraps-value path n limits bytes f s items are name t is primitive is_primitive text patches =
+    let own = s.reads.spells.items in
+    let o = found f (Wrap path n) path t is in
+    let v = value-at limits bytes f s path n array_of (Wrap path n) t o (valued array_of n (elements (erase_listing o.p.list)) o.list o.is_list) in
+    let span = expression_span v.value in
+    let l = list_among own o.p v.places.list in
+    let part = among f own path n array_of (Wrap path n) t o v in
+    let same : layout.Wrap span ≡ primitive = some-injective (layout.Wrap span) primitive (sym (ap (option_map layout.Wrap) v.is_span) ∙ is_primitive) in
+    let one = one_list bytes own items s.reads.spells.are_items are in
+    let laid = sym (ap₂ (layout_of name) one same) ∙ wrap-keeps name bytes own s.reads.spells.are_items l span part in
+    let p = spliced bytes text _ (subst (λ ss. patched_by bytes ss ≡ Ok text) laid patches) in
+    let wide = part-long l.front part.left part.own l.open_item in
+    record {
+      span = span;
+      is_span = v.is_span;
+      front = p.p;
+      value = joined part.own;
+      back = p.q;
+      old = p.before ∙ append_assoc p.p (joined part.own) p.q;
+      from = p.place;
+      to = omega (arith, length-append p.p (joined part.own), p.place, part.from, part.to, wide);
+      new = p.after ∙ bracketed p.p p.q (joined part.own) 91 93;
     }

@@ -1,4 +1,4 @@
--- The depth of a condition and the block behind it.
+-- The depth of a condition and the block after it.
 use Rattle.std.specs.Prelude.{ℕ, max}
 use Rattle.meson_syntax.specs.Tree.{Expression, Block}
 use Rattle.meson_syntax.specs.Grammar.{expression_depth, block_depth}

@@ -17,14 +17,14 @@ pub data IsNotEntered (content : Content) (folder : Option (List ℕ)) (names : 
   past_limit : files_entered content folder names files ≡ None → IsNotEntered content folder names files too_many
   at_name : (name : List ℕ) → IsNextFile content folder names files name → IsNotEntered content folder names files (unread name)
 
--- the files with more build files behind them, and not too many
+-- the files with more build files after them, and not too many
 pub record Grows (old new : List File) : Type 0 where
   pub more : List File
   pub is_more : new ≡ old ++ more
   pub named : All HasFileName more
   pub few : length new ≤ max_files
 
--- why a file is not put behind the others
+-- why a file is not added after the others
 abbrev pub IsNotAdded : List File → File → GatherFault → Type 0
 IsNotAdded files f (Parse name fault) = ⊥
 IsNotAdded files f TooManyFiles = with_more files f ≡ None

@@ -8,7 +8,7 @@ use Rattle.meson_calls.specs.Notes.{Note, a_call, an_assignment, a_loop, notes}
 use Rattle.meson_calls.specs.Project.{Placed}
 use Rattle.meson_details.specs.Details.{is_call}
 
--- a call stands at the place
+-- a call is at the place
 abbrev pub IsCall : Loaded → CallRef → Type 0
 IsCall l c = IsTrue (is_call (project l) c)
 

@@ -1,4 +1,4 @@
--- The tasks of the code: which are meant, and the element that one is about.
+-- The tasks of the code: which are meant, and the element that a task is about.
 use Rattle.std.specs.Prelude.{◌≡◌, ℕ, Bool, List, [], ◌∷◌, ◌++◌, Result, Ok}
 use Rattle.meson_lex.specs.declared.kinds.Span.{Span}
 use Rattle.meson_syntax.specs.Tree.{Expression, Argument}
@@ -34,7 +34,7 @@ pub record AreTasksBehind (meant : Result (List Task) Refusal) (before after : L
 abbrev pub found_argument : List ℕ → NumberedValue → Numbered (Expression Span)
 found_argument source f = record { number = f.number; value = expr_view source f.value.now }
 
--- the arguments of the call in hand, and the value of one of them
+-- the arguments of the present call, and the value of one of them
 abbrev pub args_of : Subject → List (Argument Span)
 args_of s = args_view s.source.now s.args.now
 

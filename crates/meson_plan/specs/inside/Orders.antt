@@ -15,7 +15,7 @@ use Rattle.meson_plan.specs.declared.order.Order.TheVariants as order
 use Rattle.meson_plan.specs.declared.order.Plan.{Plan}
 use Rattle.meson_plan.specs.declared.order.Plan.TheVariants as plan
 
--- the role and the name or variable of the call that is looked for
+-- the role and the name or variable of the call that is searched for
 abbrev pub sought : Plan → Role × List ℕ
 sought (plan.OnTarget target change names) = (role.Target, target.now)
 sought (plan.AddTarget new) = (role.Target, new.name.now)

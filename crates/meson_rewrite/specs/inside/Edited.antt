@@ -25,7 +25,7 @@ pub record IsEdited (old : Session) (log : List ℕ) (step : Step) (edit : Edit)
   pub after : edit.after ≡ with_log new.project.files new_log
   pub said : edit.said ≡ said_of step report
 
--- a step that only tells
+-- a step that only reports
 pub record OnlyTells (old : Session) (step : Step) (said : Said) : Type 0 where
   pub new : Session
   pub report : Report
@@ -39,7 +39,7 @@ pub record IsShown (old : Session) (step : Step) (said : Said) : Type 0 where
   pub does : Does step old report new
   pub shows : Shows old report new said
 
--- the number of a file that would be none is that of one of so many files
+-- the number of a file that would not be valid is that of one of this number of files
 abbrev pub IsWithin : UndoFault → ℕ → Type 0
 IsWithin (undo.Load (load.Parse place fault)) many = place < many
 IsWithin _ many = ⊤

@@ -14,7 +14,7 @@ names_file (action.ScriptFile name) = true
 names_file (action.UndoChecked count name) = true
 names_file _ = false
 
--- a run that is asked for has a title
+-- a run that is requested has a title
 abbrev pub StepsTitled : ProgramRequest → Type 0
 StepsTitled (request.Step step) = IsTitled step
 StepsTitled (request.List what) = ⊤

@@ -32,7 +32,7 @@ abbrev pub all_there : List (Option Spot) → Option (List Spot)
 all_there [] = Some []
 all_there (s ∷ more) = option_and_then (λ spot. option_map (λ spots. spot ∷ spots) (all_there more)) s
 
--- of which there has to be one
+-- there must be at least one
 abbrev pub spots_from : ℕ → List (Option Spot) → Result (List Spot) Refusal
 spots_from unknown [] = Err (none_found unknown)
 spots_from unknown (s ∷ more) = ok_or (all_there (s ∷ more)) NotRemovable
@@ -48,11 +48,11 @@ spots_of_names items numbers unknown (name ∷ more) =
 abbrev pub spots_in : Marks → List ℕ → List (Option Spot)
 spots_in m name = spots_at name m.items.items m.numbers.items
 
--- those of names, each of which has one, and all of which stand in lists
+-- those of names, each of which has one, and all of which are in lists
 abbrev pub all_spots_in : Marks → List (List ℕ) → Result (List Spot) Refusal
 all_spots_in m names = spots_of_names m.items.items m.numbers.items (length m.unknown.items) names
 
--- ---- spots gathered behind others
+-- ---- spots gathered after others
 
 abbrev pub before_all : List Spot → Option (List Spot) → Option (List Spot)
 before_all first more = option_map (λ later. first ++ later) more

@@ -20,7 +20,7 @@ use Rattle.meson_variables.specs.Tallies.{Gathered, expanded, no_marks}
 abbrev pub extra_gathered : Project Span → ℕ → CallRef → List ℕ → List Arg → Gathered
 extra_gathered p left c source args = expanded no_marks (arguments_by p left c (λ n. fixed) (kept_args source (value_with_name extra_key) 0 args))
 
--- the first into a new list behind so many arguments, and the others behind it
+-- the first into a new list after this number of arguments, and the others after it
 abbrev pub new_list_steps : CallRef → ℕ → List (List ℕ) → List Step
 new_list_steps c n [] = []
 new_list_steps c n (name ∷ more) = step_in c (After c.path.steps (n - 1) (written_keyword name)) ∷ insertion_steps (child c n) 1 more

@@ -1,4 +1,4 @@
--- The splice that is lent.
+-- The splice that is borrowed.
 use Rattle.meson_splice.specs.declared.splice.Borrowed.{Borrowed}
 use Rattle.meson_splice.specs.declared.splice.Splice.{Splice}
 

@@ -33,7 +33,7 @@ settled (Some h) w = record (standing w) {
   saved = saved.List h.list ∷ w.saved.items;
 }
 
--- A list is held back that the file has by now, and that may take the place of the one in the file's tree, `t`.
+-- A list is held back that the file already has, and that may take the place of the one in the file's tree, `t`.
 pub record IsHeldOf (t : Parsed) (bytes : List ℕ) (h : HeldList) : Type 0 where
   pub of : MayTakeMoved t h.list
   pub bracket : h.bracket ≡ of.takes.p.bracket
@@ -51,7 +51,7 @@ MayHold w (Some h) = IsHeld w h
 abbrev pub IsHeldThen : Standing → Work → CallRef → List Splice → Parsed → HeldList → Type 0
 IsHeldThen old new place splices t h = IsChanged old (settled (Some h) new) place.file splices (list_again old.files new.files place t)
 
--- Whatever step that is meant is the code's: where it comes next, it is done.
+-- Whatever step that is meant is the code's: where it is the next one, it is done.
 abbrev pub DoesStep : ListStep → Standing → Result (Option HeldList) Refusal → Work → Type 0
 DoesStep step now result new = (old : Loaded) (before rest : List Step) (s : Step) → bare s ≡ Some step → HasReached old before (s ∷ rest) now
     → IfOk result (λ h. HasReached old (before ++ s ∷ []) rest (settled h new))
@@ -64,7 +64,7 @@ pub record IsSettled (old : Work) (h : HeldList) (new : Work) : Type 0 where
   pub files : new.files ≡ old.files
   pub relexed : new.relexed ≡ old.relexed
 
--- Splices are made, and a list is read of its new text, moved to its place; so many bytes it has.
+-- Splices are made, and a list is parsed from its new text, moved to its place; it has this number of bytes.
 pub record IsReadAgain (old new : Work) (file : ℕ) (splices : List Splice) (spot : ListSpot) (m : MayReadList old.files file splices spot) (list : rust.List)
     (bytes : ℕ) : Type 0 where
   pub are_files : patched_all old.files splices ≡ Ok new.files

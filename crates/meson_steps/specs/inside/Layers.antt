@@ -1,4 +1,4 @@
--- The block that a path names, as the code goes down to it: from blocks to statements and back, past expressions.
+-- The block that a path names, as the code reaches it: from blocks to statements and back, past expressions.
 use Rattle.std.specs.Prelude.{ℕ, List, Option, Some, None, option_map, option_and_then}
 use Rattle.meson_lex.specs.declared.kinds.Span.{Span}
 use Rattle.meson_edit.specs.Blocks.{statement_in}
@@ -19,7 +19,7 @@ abbrev pub layer_view : List ℕ → Layer → Any Span
 layer_view source (layer.Block b) = a_block (block_view source b.now)
 layer_view source (layer.Stmt s) = a_statement (stmt_view source s.now)
 
--- The next step on the way: from a block to a statement, from a statement to a block. No block stands in an expression.
+-- The next step on the way: from a block to a statement, from a statement to a block. No block is in an expression.
 abbrev pub next_layer : {S : Type 0} → Any S → ℕ → Option (Any S)
 next_layer (an_expression e) n = None
 next_layer (a_statement s) n = option_map a_block (option_and_then block_any (nth (statement_parts s) n))

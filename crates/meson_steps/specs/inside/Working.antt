@@ -1,4 +1,4 @@
--- One step of the code: what it lays out, what it may change, and what stands then.
+-- One step of the code: what it lays out, what it may change, and the state after it.
 use Rattle.std.specs.Prelude.{◌≡◌, ℕ, ◌+◌, ◌<◌, ◌≤◌, List, ◌∷◌, ◌++◌, length, slice_index_or, slice_set, Bool, true, Option, Some, None, option_map, option_and_then, Ok, if◌then◌else◌}
 use Rattle.meson_lex.specs.declared.kinds.Span.{Span}
 use Rattle.meson_layout.specs.declared.primitive.Primitive.{Primitive}
@@ -52,7 +52,7 @@ placed_in l (code.Wrap n) = option_map layout.Wrap (option_map expression_span (
 placed_in l (code.RemoveStatement n) = None
 placed_in l (code.Append new) = None
 
--- the list that alone is looked at, where an edit is one of a list
+-- the list that alone is read, if an edit is one of a list
 abbrev pub looked_at : tree.File Span → List ℕ → Bool → Option Span
 looked_at f path of_list = if of_list then option_map (λ (p : ListAt Span). list_span p.list) (list_at f path) else None
 
@@ -61,7 +61,7 @@ abbrev pub MayBeLaid : List ℕ → Option Span → Primitive → Type 0
 MayBeLaid bytes (Some list) primitive = IsReadyIn bytes list primitive
 MayBeLaid bytes None primitive = IsReady bytes primitive
 
--- The splices of a file can be made, and the file then reads as a tree.
+-- The splices of a file can be made, and the file then parses as a tree.
 pub record MayChange (before : List File) (file : ℕ) (splices : List Splice) : Type 0 where
   pub files : List File
   pub is : patched_all before splices ≡ Ok files
@@ -71,7 +71,7 @@ pub record MayChange (before : List File) (file : ℕ) (splices : List Splice) :
 abbrev pub spot_in : ListIn Span → ListSpot
 spot_in l = record { bracket = l.bracket; span = list_span l.list }
 
--- What the splices of a file make of the files, and the tree that stands there, for which so many bytes were read.
+-- What the splices of a file make of the files, and the new tree, for which this number of bytes was read.
 pub record IsChanged (old new : Standing) (file : ℕ) (splices : List Splice) (bytes : ℕ) : Type 0 where
   pub tree : Parsed
   pub are_files : patched_all old.files splices ≡ Ok new.files
@@ -81,7 +81,7 @@ pub record IsChanged (old new : Standing) (file : ℕ) (splices : List Splice) (
   pub is_read : IsSpannedWithin wide (bytes_at file new.files) (view (bytes_at file new.files) tree)
   pub is_relexed : new.relexed ≡ saturated (old.relexed + bytes)
 
--- the tree of the file of a place, or another one where there is no such file
+-- the tree of the file of a place, or another one if there is no such file
 abbrev pub tree_of : List Parsed → CallRef → Parsed → Parsed
 tree_of trees place d = slice_index_or trees place.file d
 
@@ -101,6 +101,6 @@ pub record IsNext (old : Loaded) (now : Standing) (step : ListStep) : Type 0 whe
 abbrev pub IsShallow : Parsed → Type 0
 IsShallow t = (source : List ℕ) → file_depth (view source t) ≤ max_depth
 
--- the trees that were exchanged nest no deeper than they may
+-- the trees of changed files nest no deeper than they may
 abbrev pub AreShallowSoFar : List Saved → List Parsed → Type 0
 AreShallowSoFar saved trees = (k : ℕ) → k < length trees → is_saved k saved ≡ true → (d : Parsed) → IsShallow (slice_index_or trees k d)

@@ -6,7 +6,7 @@ use Rattle.meson_edit.specs.Edits.{Written}
 use Rattle.meson_edit.specs.Places.{IsWritten}
 use Rattle.meson_calls.specs.declared.refusal.Refusal.{Refusal}
 
--- The bytes are written for an expression in which no construct stands in another, and which may stand as the value of an argument.
+-- The bytes are written for an expression in which no construct is in another, and which may be the value of an argument.
 pub record WrittenFor (bytes : List ℕ) : Type 0 where
   pub node : Expression Nowhere
   pub writes : IsWritten bytes (expression_words node)
@@ -16,7 +16,7 @@ pub record WrittenFor (bytes : List ℕ) : Type 0 where
 abbrev pub value_written : (bytes : List ℕ) → WrittenFor bytes → Written (Expression Nowhere)
 value_written bytes w = record { bytes = bytes; node = w.node }
 
--- what is set are these bytes
+-- these bytes are set
 pub record IsSet (set : Result (Written (Expression Nowhere)) Refusal) (bytes : List ℕ) : Type 0 where
   pub new : WrittenFor bytes
   pub is : set ≡ Ok (value_written bytes new)

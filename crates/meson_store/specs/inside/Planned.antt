@@ -1,4 +1,4 @@
--- What a planned replace stands for.
+-- What a planned replace means.
 use Rattle.std.specs.Prelude.{string_bytes}
 use Rattle.meson_store.specs.Commit.{Put}
 use Rattle.meson_store.specs.declared.committing.Planned.{Planned}

@@ -1,4 +1,4 @@
--- What stands alone: an expression of one token, and one without method calls and indexes. No public contract names this.
+-- What is alone: an expression of one token, and one without method calls and indexes. No public contract names this.
 use Rattle.std.specs.Prelude.{ℕ, Bool, true, false, if◌then◌else◌, List, [], ◌∷◌}
 use Rattle.meson_lex.specs.declared.kinds.Kind.{Kind}
 use Rattle.meson_lex.specs.declared.kinds.Kind.TheVariants as k
@@ -8,7 +8,7 @@ use Rattle.meson_syntax.specs.inside.Input.{Input, Parser, ◌>>=◌, pure, sinc
 use Rattle.meson_syntax.specs.inside.Reading.{tails, with_tails}
 use Rattle.meson_syntax.specs.Tree.{Expression}
 
--- a token of this kind is an expression, where no bracket follows
+-- a token of this kind is an expression, if no bracket follows
 abbrev pub is_single : Kind → Bool
 is_single k.Identifier = true
 is_single k.WordTrue = true
@@ -17,7 +17,7 @@ is_single k.Integer = true
 is_single k.PlainString = true
 is_single _ = false
 
--- no expression goes on with a token of this kind
+-- no expression continues with a token of this kind
 abbrev pub ends_expression : Kind → Bool
 ends_expression k.LineEnd = true
 ends_expression k.CloseRound = true
@@ -35,11 +35,11 @@ abbrev pub begins_alone : List Token → Bool
 begins_alone [] = false
 begins_alone (t ∷ ts) = if is_single t.kind then begins_end ts else false
 
--- whether the next token is an expression by itself, and none goes on with the one behind it
+-- whether the next token is an expression by itself, and the token after it cannot continue an expression
 unfoldable pub is_alone : Input → Bool
 is_alone i = begins_alone i.rest
 
--- Inner reads one level deeper, where there is room.
+-- Inner parses one level deeper, if there is room.
 module _ (room : Bool) (inner : Parser (Expression Span)) where
   -- an expression that was read and began at start, with the method calls and indexes that come next
   unfoldable pub tailed : ℕ → Expression Span → Parser (Expression Span)

@@ -79,7 +79,7 @@ abbrev pub node_at : {S : Type 0} → Any S → List ℕ → Option (Any S)
 node_at x [] = Some x
 node_at x (n ∷ path) = option_and_then (λ y. node_at y path) (nth (child_nodes x) n)
 
--- the n-th of the nodes, or how much of n is left behind the last of them
+-- the n-th of the nodes, or how much of n is left after the last of them
 pub data Found (X : Type 0) : Type 0 where
   found : X → Found X
   left : ℕ → Found X

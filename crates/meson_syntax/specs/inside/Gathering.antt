@@ -66,7 +66,7 @@ gathered_with g x = record {
 abbrev pub closed : GatheredTokens → List Token
 closed g = g.tokens ++ closing_at g.state.fresh g.end
 
--- with all that the lexer still gives
+-- with all that the lexer gives from here on
 abbrev pub gathered_tokens : GatheredTokens → List (Result Item LexFault) → Result (List Token) LexFault
 gathered_tokens g [] = Ok (closed g)
 gathered_tokens g (Ok x ∷ more) = gathered_tokens (gathered_with g x) more

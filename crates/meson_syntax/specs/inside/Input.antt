@@ -52,7 +52,7 @@ text_ahead i = text_of i.rest
 unfoldable pub from : Input → ℕ
 from i = from_of i.last i.rest
 
--- behind it
+-- after it
 unfoldable pub next : Input → Input
 next i = next_of i.last i.rest
 

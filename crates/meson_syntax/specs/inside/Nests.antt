@@ -16,7 +16,7 @@ use Rattle.meson_syntax.specs.inside.Reading.{room, expression}
 use Rattle.meson_syntax.specs.inside.ReadingFiles.{block_within}
 use Rattle.meson_syntax.specs.Tree.{Argument, Block, Expression}
 
--- a fault by which a token is refused, or want of memory
+-- a fault by which a token is refused, or out of memory
 abbrev pub IsGrammatical : ParseFault → Type 0
 IsGrammatical (Unexpected at) = ⊤
 IsGrammatical (TooDeep at) = ⊤
@@ -27,26 +27,26 @@ IsGrammatical _ = ⊥
 abbrev pub AnswersAs : {X Y : Type 0} → Parser Y → (Bytes → X → Y) → Bytes → Cursor → Result X ParseFault → Cursor → Type 0
 AnswersAs rule view source old result new = Gives (view source) (rule (input source old)) result (input source new) × IfErr result IsGrammatical
 
--- the same for a rule of expressions, where so many constructs may still stand inside one another
+-- the same for a rule of expressions, if this number of constructs may still be inside one another
 abbrev pub Follows : {X Y : Type 0} → (Bool → Parser (Expression Span) → Parser Y) → (Bytes → X → Y) → Bytes → ℕ → Cursor → Result X ParseFault → Cursor
     → Type 0
 Follows rule view source depth old result new = AnswersAs (rule (room depth) (expression depth)) view source old result new
 
--- the same for a rule of statements, whose conditions and bodies stand one level deeper
+-- the same for a rule of statements, whose conditions and bodies are one level deeper
 abbrev pub Proceeds : {X Y : Type 0} → (Bool → Parser (Expression Span) → Parser (Expression Span) → Parser (Block Span) → Parser Y) → (Bytes → X → Y)
     → Bytes → ℕ → Cursor → Result X ParseFault → Cursor → Type 0
 Proceeds rule view source depth old result new = AnswersAs (rule (room depth) (expression (suc depth)) (expression depth)
     (block_within depth)) view source old result new
 
--- A function with this precondition and postcondition reads expressions in which fewer than so many constructs stand inside one another.
+-- A function with this precondition and postcondition reads expressions in which fewer than this number of constructs are inside one another.
 pub record Nests (depth : ℕ) (pre : Global → Bor Bytes → MutBor Cursor → ℕ → Type 0)
     (post : Global → Bor Bytes → MutBor Cursor → ℕ → Result Expr ParseFault → MutBor Cursor → Type 0) : Type 0 where
   pub callable : (alloc : Global) (source : Bor Bytes) (old : MutBor Cursor) → pre alloc source old depth
   pub reads : (alloc : Global) (source : Bor Bytes) (old new : MutBor Cursor) (r : Result Expr ParseFault) → post alloc source old depth r new
       → AnswersAs (expression depth) expr_view source.now old.now r new.now
 
--- A function with this precondition and postcondition reads blocks in which fewer than so many constructs stand inside one another, and one
--- more can be counted.
+-- A function with this precondition and postcondition reads blocks in which fewer than this number of constructs are inside one another. One more can be
+-- counted.
 pub record NestsBlocks (depth : ℕ) (pre : Global → Bor Bytes → MutBor Cursor → ℕ → Type 0)
     (post : Global → Bor Bytes → MutBor Cursor → ℕ → Result rust.Block ParseFault → MutBor Cursor → Type 0) : Type 0 where
   pub countable : depth + 1 < 2 ^ 64
@@ -54,7 +54,7 @@ pub record NestsBlocks (depth : ℕ) (pre : Global → Bor Bytes → MutBor Curs
   pub reads : (alloc : Global) (source : Bor Bytes) (old new : MutBor Cursor) (r : Result rust.Block ParseFault) → post alloc source old depth r new
       → AnswersAs (block_within depth) block_view source.now old.now r new.now
 
--- elements, with whether a comma stands behind the last
+-- elements, with whether a comma is after the last
 abbrev pub elements_view : Bytes → Bool × List Arg → Bool × List (Argument Span)
 elements_view source p = (p.0, args_view source p.1)
 

@@ -1,5 +1,5 @@
--- What a tree becomes where a list is put where a path names one. Each answer has the list that stood there, and the tree with the new one; where no list
--- is named, it has the new list, and the tree as it was. No public contract names it.
+-- What a tree becomes when a list is put where a path names one. Each answer has the list that was there, and the tree with the new one. If no list is named,
+-- it has the new list, and the tree as it was. No public contract names it.
 use Rattle.std.specs.Prelude.{ℕ, ◌+◌, ◌≡◌, ◌<◌, ◌≤◌, zero, suc, List, [], ◌∷◌, length, get_or, Option, Some, None}
 use Rattle.meson_syntax.specs.declared.operator.Operator.{Operator}
 use Rattle.meson_syntax.specs.Tree.{Expression, Listing, Statement, Block}
@@ -49,7 +49,7 @@ branch_child b = expression_in [] b.0 [] (λ x. (x, b.1)) ∷ block_in [] b.1 []
 
 -- ---- elements with several parts each
 
--- how many parts the first so many elements have
+-- how many parts the first n elements have
 abbrev pub ahead : {A : Type 0} → (A → ℕ) → List A → ℕ → ℕ
 ahead count xs zero = 0
 ahead count [] (suc i) = 0

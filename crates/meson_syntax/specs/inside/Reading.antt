@@ -15,12 +15,12 @@ use Rattle.meson_syntax.specs.Operators.{closes}
 use Rattle.meson_syntax.specs.Tree.{Expression, identifier, boolean, integer, string, paren, array, dictionary, call, unary, row, postfix, conditional, operands_of, Tail, method, index, tails_of, Listing, listing, Argument, plain, named, pair, is_named, arguments_of}
 use Rattle.meson_syntax.specs.inside.Input.{Parser, ◌>>=◌, ◌>>◌, pure, refuse, peek, saw, saw_two, take_token, take_name, here, since, eat, expect, left}
 
--- whether a construct may stand one level deeper
+-- whether a construct may be one level deeper
 abbrev pub room : ℕ → Bool
 room zero = false
 room (suc depth) = true
 
--- the level of the rows that go on with a token of this kind; 0 of none
+-- the level of the rows that continue with a token of this kind; 0 if no row does
 abbrev pub row_of : Option Kind → ℕ
 row_of (Some k.Star) = 1
 row_of (Some k.Slash) = 1
@@ -79,7 +79,7 @@ unfoldable pub with_operands : Span → Expression Span → List (Operator × Ex
 with_operands at e [] = e
 with_operands at e (o ∷ os) = row at e (operands_of (o ∷ os))
 
--- Inner reads one level deeper, where there is room.
+-- Inner parses one level deeper, if there is room.
 module _ (room : Bool) (inner : Parser (Expression Span)) where
   -- ---- lists
 
@@ -93,7 +93,7 @@ module _ (room : Bool) (inner : Parser (Expression Span)) where
     at ← since start
     pure (named at name value)
 
-  -- an element without a name, where none with a name came before
+  -- an element without a name, if none with a name came before
   unfoldable pub without_name : Bool → Parser (Argument Span)
   without_name seen = if seen then refuse else (do value ← inner; pure (plain value))
 
@@ -115,7 +115,7 @@ module _ (room : Bool) (inner : Parser (Expression Span)) where
   listed_element bracket.Square seen = without_name seen
   listed_element bracket.Curly seen = paired
 
-  -- the elements up to the closing bracket, with whether a comma stands before it. The number bounds the turns.
+  -- the elements up to the closing bracket, with whether a comma is before it. The number bounds the turns.
   unfoldable pub elements_from : Bracket → ℕ → Bool → List (Argument Span) → Parser (Bool × List (Argument Span))
   elements_from b zero seen found = refuse
   elements_from b (suc n) seen found = do
@@ -288,7 +288,7 @@ module _ (room : Bool) (inner : Parser (Expression Span)) where
 
   -- ---- conditionals
 
-  -- from the question mark behind the condition, which began at start
+  -- from the question mark after the condition, which began at start
   unfoldable pub answered : ℕ → Expression Span → Parser (Expression Span)
   answered start condition = if room then (do
     take_token
@@ -305,7 +305,7 @@ module _ (room : Bool) (inner : Parser (Expression Span)) where
     asked ← saw k.Question
     if asked then answered start e else pure e
 
--- an expression in which fewer than so many constructs stand inside one another
+-- an expression in which fewer than this number of constructs are inside one another
 unfoldable pub expression : ℕ → Parser (Expression Span)
 expression zero = refuse
 expression (suc depth) = choice (room depth) (expression depth)

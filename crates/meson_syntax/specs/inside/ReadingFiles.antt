@@ -30,7 +30,7 @@ name = do
   is_name ← saw k.Identifier
   if is_name then take_name else refuse
 
--- names behind commas. The number bounds the turns.
+-- names after commas. The number bounds the turns.
 unfoldable pub names_from : ℕ → List (Name Span) → Parser (List (Name Span))
 names_from zero found = pure found
 names_from (suc n) found = do
@@ -42,9 +42,9 @@ names = do
   x ← name
   λ i. names_from (left i) (x ∷ []) i
 
--- Expr reads an expression that stands here; inner and body read an expression and a block one level deeper, where there is room.
+-- Expr reads an expression that begins here; inner and body read an expression and a block one level deeper, if there is room.
 module _ (room : Bool) (expr inner : Parser (Expression Span)) (body : Parser (Block Span)) where
-  -- from a name and the sign behind it, which come next
+  -- from a name and the sign after it, which come next
   unfoldable pub assigned : Assignment → Parser (Statement Span)
   assigned a = do
     start ← here
@@ -67,7 +67,7 @@ module _ (room : Bool) (expr inner : Parser (Expression Span)) (body : Parser (B
       adds ← saw_two k.Identifier k.PlusAssign
       if adds then assigned assigns.Add else evaluated)
 
-  -- a block behind a line end
+  -- a block after a line end
   unfoldable pub bodied : Parser (Block Span)
   bodied = do
     expect k.LineEnd
@@ -172,7 +172,7 @@ module _ (room : Bool) (expr inner : Parser (Expression Span)) (body : Parser (B
     found ← statement_lines
     λ i. Some (block (block_span start found i) (statements_of found), i)
 
--- a block in which fewer than so many constructs stand inside one another
+-- a block in which fewer than this number of constructs are inside one another
 unfoldable pub block_within : ℕ → Parser (Block Span)
 block_within zero = refuse
 block_within (suc depth) = blocked (room depth) (expression (suc depth)) (expression depth) (block_within depth)
@@ -187,6 +187,6 @@ abbrev pub file_of_block : ℕ → Outcome (Block Span) → Option (File Span)
 file_of_block len None = None
 file_of_block len (Some p) = if_over (file (record { from = 0; to = len }) p.0) p.1.rest
 
--- the file of so many bytes whose tokens these are, where at most depth constructs stand inside one another
+-- the file of this number of bytes with these tokens, if at most depth constructs are inside one another
 unfoldable pub whole : ℕ → ℕ → List Token → Option (File Span)
 whole depth len ts = file_of_block len (block_within (suc depth) (record { last = 0; rest = ts }))

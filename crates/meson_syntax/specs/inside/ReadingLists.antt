@@ -9,7 +9,7 @@ use Rattle.meson_syntax.specs.inside.Input.{Outcome, Parser, ◌>>=◌, refuse, 
 use Rattle.meson_syntax.specs.Paths.{list_span}
 use Rattle.meson_syntax.specs.inside.Reading.{room, expression, listed}
 
--- a list in these brackets, where at most depth constructs stand inside one another
+-- a list in these brackets, if at most depth constructs are inside one another
 unfoldable pub bracketed : ℕ → Bracket → Parser (Listing Span)
 bracketed depth b = do
   begins ← saw (opens b)
@@ -22,6 +22,6 @@ abbrev pub list_read : ℕ → Outcome (Listing Span) → Option (Listing Span)
 list_read len None = None
 list_read len (Some p) = if covers_all len (list_span p.0) then Some p.0 else None
 
--- the list that is all of a text of so many bytes whose tokens these are
+-- the list that is all of a text of this number of bytes with these tokens
 unfoldable pub whole_list : ℕ → Bracket → ℕ → List Token → Option (Listing Span)
 whole_list depth b len ts = list_read len (bracketed depth b (record { last = 0; rest = ts }))

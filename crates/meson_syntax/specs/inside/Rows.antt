@@ -7,11 +7,11 @@ use Rattle.meson_syntax.specs.inside.Reading.{operands_from, row_at, with_operan
 use Rattle.meson_syntax.specs.Tree.{Expression}
 
 module _ (room : Bool) (inner : Parser (Expression Span)) where
-  -- the operands of a row of this level behind its first
+  -- the operands of a row of this level after its first
   unfoldable pub operands : ℕ → Parser (List (Operator × Expression Span))
   operands level = λ i. operands_from room inner level (row_at room inner (level - 1)) (left i) [] i
 
-  -- this operand, which is read and began at start, with the operands of a row of this level behind it
+  -- this operand, which is read and began at start, with the operands of a row of this level after it
   abbrev pub longer : ℕ → ℕ → Expression Span → Parser (Expression Span)
   longer level start first = λ i. and_then (operands level i) (λ os j. Some (with_operands (span_from start j) first os, j))
 

@@ -1,4 +1,4 @@
--- The token that a value of the code stands for over its source.
+-- The token of a value of the code over its source.
 use Rattle.std.specs.Prelude.{ℕ, List, map}
 use Rattle.meson_lex.specs.Located as spec
 use Rattle.meson_syntax.specs.declared.token.Token.{Token}

@@ -1,4 +1,4 @@
--- Uses of a variable as the code looks for them: the places where it is read (`read_in`), and the notes that name it.
+-- Uses of a variable as the code searches for them: the places where it is read (`read_in`), and the notes that name it.
 use Rattle.std.specs.Prelude.{ℕ, Bool, not, ◌&&◌, List, bytes_eq}
 use Rattle.std.specs.List.{list_any}
 use Rattle.meson_calls.specs.declared.call.CallRef.{CallRef}

@@ -1,4 +1,4 @@
--- How the code tells what variables stand for: by notes, which nest so deep at most.
+-- How the code finds the values of variables: by notes, which nest to this depth at most.
 use Rattle.std.specs.Prelude.{ℕ, suc, ◌+◌, max, Bool, not, ◌&&◌, List, [], ◌∷◌, Option, None, if◌then◌else◌}
 use Rattle.meson_syntax.specs.Tree.{Expression, array, call, row, Operands, no_operands, operand, Listing, listing, Argument, plain, Arguments, no_arguments, argument}
 use Rattle.meson_calls.specs.Project.{Placed}
@@ -6,11 +6,11 @@ use Rattle.meson_variables.specs.Variables.{only_value}
 use Rattle.meson_calls.specs.Notes.{Note, a_call, an_assignment, a_loop}
 use Rattle.meson_variables.specs.Noted.{assigned_notes, is_set_by}
 
--- the one expression that a variable stands for, if it is known what sets variables
+-- the one expression that a variable means, if it is known what sets variables
 abbrev pub by_notes : {S : Type 0} → List ℕ → Bool → List (Placed (Note S)) → Option (Placed (Expression S))
 by_notes x known ns = if known && not (is_set_by x ns) then only_value (assigned_notes x ns) else None
 
--- how many arrays, calls and rows stand inside one another, as far as an expansion goes into them
+-- how many arrays, calls and rows are inside one another, as far as an expansion enters them
 abbrev mutual
   pub rank : {S : Type 0} → Expression S → ℕ
   rank (array l) = listing_rank l
@@ -33,7 +33,7 @@ abbrev mutual
   arguments_rank no_arguments = 0
   arguments_rank (argument a more) = max (argument_rank a) (arguments_rank more)
 
--- that of all the values of assignments, one after another: no single one has more
+-- the sum of these numbers for all assigned values: no single value has more
 abbrev pub note_rank : {S : Type 0} → Note S → ℕ
 note_rank (a_call c) = 0
 note_rank (an_assignment y sets e) = rank e

@@ -1,4 +1,4 @@
--- What is met in an expression where so many variables may still be followed.
+-- What is met in an expression if this number of variables may still be followed.
 use Rattle.std.specs.Prelude.{ℕ, ◌&&◌, List, if◌then◌else◌}
 use Rattle.meson_lex.specs.declared.kinds.Span.{Span}
 use Rattle.meson_syntax.specs.Tree.{Expression, Operands, Listing, Argument, Arguments}
@@ -7,7 +7,7 @@ use Rattle.meson_variables.specs.Expansion.{opaque, Expansion, Stand, met, then_
 use Rattle.meson_calls.specs.Roles.{one_of}
 use Rattle.meson_variables.specs.Tallies.{follow_of, expand_left}
 
--- what it gives where it is followed once at most
+-- what it gives if it is followed once at most
 abbrev pub variable_left : Project Span → ℕ → List ℕ → List (List ℕ) → Expansion Span
 variable_left p left x followed = if one_of followed x then met opaque followed else follow_of p left x followed
 

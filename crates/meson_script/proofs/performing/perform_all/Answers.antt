@@ -1,8 +1,8 @@
-use Rattle.std.proofs.Common.{◌++◌, map, subst, ap, ◌∙◌, arith}
+use Rattle.std.proofs.Common.{◌++◌, ◌<◌, length, map, subst, ap, ◌∙◌, arith}
 use Rattle.std.proofs.lemmas.List.{take_all}
 use Rattle.serde_json.specs.View.{view}
 use Rattle.meson_script.specs.Running.{Runs}
-use Rattle.meson_script.proofs.RunFacts.{nothing-run, one-more, reaches, stops-there}
+use Rattle.meson_script.proofs.RunFacts.{nothing-run, one-more, reaches, stops-after, stops-there}
 use Rattle.meson_script.proofs.performing.perform_all.Goals as goal
 
 pub loop-index-init : goal.loop-index-init
@@ -31,4 +31,16 @@ returns-clause-done c =
 pub returns-in-Err-clause-index : goal.returns-in-Err-clause-index
 returns-in-Err-clause-index c =
     let l = c.loop-index in
-    reaches c.args.project.now l.project c.args.commands.now l.index l.ran.splices.items l.ran.relexed (map view l.ran.listings.items) l.invariant (omega (arith, c.loop-index-test.true))
+    reaches c.args.project.now l.project c.args.commands.now l.index l.ran.splices.items l.ran.relexed (map view l.ran.listings.items) l.invariant (let below : l.index < length c.args.commands.now = c.loop-index-test.true in omega arith) (λ some. c.loop-index-test.true)
+
+pub returns-in-Err-append-clause-during : goal.returns-in-Err-append-clause-during
+returns-in-Err-append-clause-during c =
+    let l = c.loop-index in
+    stops-after c.args.project.now l.project c.answer.new.self c.args.commands.now l.index l.ran.splices.items l.ran.relexed l.ran.listings.items c.in-Ok.answer.listings.items
+    c.index-commands-index.result c.in-Ok.answer.done l.invariant c.reads.ensures c.loop-index-test.true c.index-commands-index.is c.in-Ok.ensures.told c.in-Ok.ensures.done
+
+pub returns-in-Err-append-2-clause-during : goal.returns-in-Err-append-2-clause-during
+returns-in-Err-append-2-clause-during c =
+    let l = c.loop-index in
+    stops-after c.args.project.now l.project c.answer.new.self c.args.commands.now l.index l.ran.splices.items l.ran.relexed l.ran.listings.items c.in-Ok.answer.listings.items
+    c.index-commands-index.result c.in-Ok.answer.done l.invariant c.reads.ensures c.loop-index-test.true c.index-commands-index.is c.in-Ok.ensures.told c.in-Ok.ensures.done

@@ -28,7 +28,7 @@ the_former former = former
 abbrev pub the_weighed : {former : Former {0}} → Weighed former → Weighed (the_former former)
 the_weighed weighed = weighed
 
--- a `Box` of the heap, by where it lies and what lies there
+-- a `Box` of the heap, by its address and the value there
 abbrev box_at : {X : Type 0} → Ptr × Global → X → Box X Global
 box_at place value = record { ptr = place.0; alloc = place.1; value = value }
 

@@ -13,8 +13,8 @@ returns-in-Ok-counted-clause-done c =
     let made : Change = record { splices = done.change.splices; title = c.args.title.now } in
     let pushed = c.titled.result in
     let is : pushed ≡ made = c.titled.ensures ∙ ap (λ t. let x : Change = record { splices = done.change.splices; title = t } in x) (ap (λ b. b.0) c.in-Ok.ensures) in
-    let past : c.of-in-Ok-counted.result ≡ old.history.past ++ made ∷ [] =
-    c.of-in-Ok-counted.ensures ∙ c.push_reserved.ensures.items ∙ ap (λ cs. cs ++ pushed ∷ []) (c.reserve.ensures.items ∙ c.take-past.ensures ∙ c.replace.ensures.value) ∙ ap (λ x. old.history.past ++ x ∷ []) is in
+    let past : c.of.result ≡ old.history.past ++ made ∷ [] =
+    c.of.ensures ∙ c.push_reserved.ensures.items ∙ ap (λ cs. cs ++ pushed ∷ []) c.in-Ok-past_with_room.ensures.past ∙ ap (λ x. old.history.past ++ x ∷ []) is in
     record {
       splices = done.change.splices;
       listings = map view c.in-Ok-counted.answer.listings.items;

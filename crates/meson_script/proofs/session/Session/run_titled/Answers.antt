@@ -3,6 +3,7 @@ use Rattle.std.proofs.lemmas.Grind.{common_steps}
 use Rattle.std.proofs.lemmas.Result.{IfErr-weaker}
 use Rattle.meson_script.proofs.Keeping.{if_ok, keeps-stands, keeps-text}
 use Rattle.meson_script.proofs.RunFacts.{reaches-none}
+use Rattle.meson_script.proofs.Untouched.{keeps-untouched}
 use Rattle.meson_script.proofs.session.Session.run_titled.Goals as goal
 
 pub returns-in-len1-clause-step : goal.returns-in-len1-clause-step
@@ -34,3 +35,9 @@ returns-in-len1-clause-done c = grind (arith, common_steps)
 
 pub returns-in-len1-clause-refused : goal.returns-in-len1-clause-refused
 returns-in-len1-clause-refused c = grind (arith, common_steps)
+
+pub returns-in-len1-clause-untouched : goal.returns-in-len1-clause-untouched
+returns-in-len1-clause-untouched c = keeps-untouched c.args.self.now c.run_one.new.self c.args.script.now.commands c.args.title.now c.run_one.result (returns-in-len1-clause-done c)
+
+pub returns-in_default-clause-untouched : goal.returns-in_default-clause-untouched
+returns-in_default-clause-untouched c = keeps-untouched c.args.self.now c.run_all.new.self c.args.script.now.commands c.args.title.now c.run_all.result (returns-in_default-clause-done c)

@@ -1,0 +1,10 @@
+pub mod Counted
+pub mod Longest
+pub mod Runs
+pub mod Making
+pub mod Characters
+pub mod Ranged
+pub mod Compared
+pub mod FilesMade
+pub mod LineEnds
+pub mod FilesUtf8
