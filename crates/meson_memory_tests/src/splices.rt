@@ -64,7 +64,7 @@ impl Call for Revert {
     }
 }
 
-/// A history, and a change that is kept in it.
+/// A history, and a change that is kept in it. There is no room for it among the changes that were done, and one can be redone.
 #[derive(Debug, Drop)]
 struct Keeping {
     history: History,
@@ -83,7 +83,12 @@ impl Call for Keep {
     fn given(alloc: Global, row: Row<'_>) -> Option<Keeping> {
         let (_, change) = row.changed(alloc)?;
         let Session { history, .. } = row.session(alloc)?;
-        Some(Keeping { history, change })
+        let History { past: future, .. } = history;
+        let past = Many::new(alloc);
+        Some(Keeping {
+            history: History { past, future },
+            change,
+        })
     }
 
     fn make(alloc: Global, given: &mut Keeping) -> Result<(), SpliceFault> {
