@@ -6,7 +6,7 @@ use Rattle.meson_splice.specs.declared.file_set.File.{File}
 use Rattle.meson_splice.specs.Files.{bytes_at}
 use Rattle.meson_calls.specs.Loading.{Loaded, name_of_file}
 use Rattle.meson_listing.specs.Entries.{text_or_null}
-use Rattle.meson_inventory.specs.Holdings.{holdings}
+use Rattle.meson_inventory.specs.Holdings.{calls_held, holdings}
 use Rattle.meson_inventory.specs.declared.holdings.HeldCall.{HeldCall}
 
 -- ---- as JSON
@@ -30,6 +30,10 @@ project_data l =
     object (member (codes "files") (array (items_of (map file_data l.files)))
     (member (codes "not_entered") (array (items_of (map (spot_data l.files) (holdings l).not_entered)))
     (member (codes "targets") (array (items_of (map (held_data l.files) (holdings l).targets))) no_members)))
+
+-- the calls of a function
+abbrev pub calls_data : Loaded → List ℕ → Data
+calls_data l f = object (member (codes "calls") (array (items_of (map (held_data l.files) (calls_held l f)))) no_members)
 
 -- ---- as lines
 
@@ -59,3 +63,7 @@ abbrev pub project_lines : Loaded → List ℕ
 project_lines l =
     flat_map (call_line l.files []) (holdings l).targets ++ (flat_map file_line l.files
     ++ flat_map (call_line l.files (codes ", not entered")) (holdings l).not_entered)
+
+-- a line for each call of a function
+abbrev pub calls_lines : Loaded → List ℕ → List ℕ
+calls_lines l f = flat_map (call_line l.files []) (calls_held l f)

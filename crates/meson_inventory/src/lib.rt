@@ -1,11 +1,13 @@
-//! What a project holds: its files, its targets, and the `subdir` calls that enter none of its files, as JSON and as lines.
+//! What a project holds: its files, its targets, the `subdir` calls that enter none of its files, and the calls of any function; as JSON and as lines.
 #![tactic(auto)]
 
+mod calls;
 mod holdings;
 mod inventory;
 pub mod laws;
 mod line_counter;
 mod lines;
 
+pub use calls::{calls_lines, calls_object};
 pub use inventory::project_object;
 pub use lines::project_lines;

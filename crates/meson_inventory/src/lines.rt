@@ -56,7 +56,7 @@ fn call_line(
 }
 
 /// The lines of some calls; each says more at its end.
-fn call_lines(
+pub(crate) fn call_lines(
     alloc: Global,
     files: &FileSet,
     more: &str,
