@@ -29,10 +29,10 @@ IsPlain Version = ⊥
 IsPlain _ = Unit {0}
 
 -- what it answers, if it answers, is so
-record Answers {A E : Type 0} (P : A → Type 0) (r : Result A E) : Type 0 where
-  so : IfOk r P
+pub record Answers {A E : Type 0} (P : A → Type 0) (r : Result A E) : Type 0 where
+  pub so : IfOk r P
 
-after : {A B E : Type 0} {P : B → Type 0} (r : Result A E) (f : A → Result B E) → ((x : A) → Answers P (f x)) → Answers P (then_ok r f)
+pub after : {A B E : Type 0} {P : B → Type 0} (r : Result A E) (f : A → Result B E) → ((x : A) → Answers P (f x)) → Answers P (then_ok r f)
 after (Ok x) f h = h x
 after (Err e) f h = record { so = tt }
 
@@ -40,14 +40,14 @@ after_some : {A B E : Type 0} (Q : A → Type 0) {P : B → Type 0} (r : Result 
 after_some Q (Ok x) f q h = h x q.so
 after_some Q (Err e) f q h = record { so = tt }
 
-either : {A E : Type 0} {P : A → Type 0} (b : Bool) (x y : Result A E) → Answers P x → Answers P y → Answers P (if b then x else y)
+pub either : {A E : Type 0} {P : A → Type 0} (b : Bool) (x y : Result A E) → Answers P x → Answers P y → Answers P (if b then x else y)
 either true x y h k = h
 either false x y h k = k
 
-ok : {A E : Type 0} {P : A → Type 0} (x : A) → P x → Answers {E = E} P (Ok x)
+pub ok : {A E : Type 0} {P : A → Type 0} (x : A) → P x → Answers {E = E} P (Ok x)
 ok x h = record { so = h }
 
-err : {A E : Type 0} {P : A → Type 0} (e : E) → Answers P (Err e)
+pub err : {A E : Type 0} {P : A → Type 0} (e : E) → Answers P (Err e)
 err e = record { so = tt }
 
 target-plain : (o : TargetOperation) (w : TargetMembers) → IsPlain (target_by o w)

@@ -14,7 +14,7 @@ use Rattle.clap.specs.declared.error.kind.ErrorKind.TheVariants.{DisplayHelp, Di
 use Rattle.meson_calls.specs.declared.call.Role.{Role}
 use Rattle.meson_splice.specs.Patch.{then_ok}
 use Rattle.meson_command.specs.Actions.{action_of, count_in, history_by, kwargs_action, kwargs_by, list_by, options_action, other_action, target_action, undo_of, word_at, words_at}
-use Rattle.meson_command.specs.Asking.{answer, asked_from, asked_of, help, is_dry, names_no_folder, title_in, version, with_title}
+use Rattle.meson_command.specs.Asking.{answer, asked_from, asked_of, help, is_dry, is_json_answer, names_no_folder, title_in, version, with_title}
 use Rattle.meson_command.specs.Counts.{count_of}
 use Rattle.meson_command.specs.Laws.{HelpWhereAsked, IsNoCount, IsUnknown, UsageMeansUnknown, VersionWhereAsked}
 use Rattle.meson_json.specs.Titles.{is_title}
@@ -229,7 +229,7 @@ abbrev wrong : Result Asked UsageFault
 wrong = Err Usage
 
 -- a title that is none is no wrong usage
-by_title : (rows : List Row) (a : Action) (b : Bool) → (if b then Ok (record { dir = first_of (codes "DIR") rows; title = title_in rows; dry_run = is_dry rows; action = a }) else Err BadTitle) ≡ wrong → ⊥
+by_title : (rows : List Row) (a : Action) (b : Bool) → (if b then Ok (record { dir = first_of (codes "DIR") rows; title = title_in rows; dry_run = is_dry rows; json = is_json_answer rows; action = a }) else Err BadTitle) ≡ wrong → ⊥
 by_title rows a true e = cc
 by_title rows a false e = cc
 

@@ -1,6 +1,7 @@
 -- The request of a command line.
-use Rattle.std.specs.Prelude.{Bool, false, List, [], ◌∷◌, length, ◌==◌, codes, if◌then◌else◌, Option, None, ok_or, Result, Ok, Err}
+use Rattle.std.specs.Prelude.{Bool, false, ◌&&◌, List, [], ◌∷◌, length, ◌==◌, codes, if◌then◌else◌, Option, None, ok_or, Result, Ok, Err}
 use Rattle.std.specs.Option.{option_map_or}
+use Rattle.clap.specs.Walk.{is_empty}
 use Rattle.clap.specs.Words.{Kinds, Row, Text, fault_of, first_of, matches_of, subcommand_of}
 use Rattle.clap.specs.declared.error.kind.ErrorKind.{ErrorKind}
 use Rattle.clap.specs.declared.error.kind.ErrorKind.TheVariants.{DisplayHelp, DisplayVersion}
@@ -26,10 +27,15 @@ title_in rows = word_at (codes "TEXT") rows
 abbrev pub is_dry : List Row → Bool
 is_dry rows = has_flag (codes "dry-run") rows
 
+-- whether it is answered in JSON
+abbrev pub is_json_answer : List Row → Bool
+is_json_answer rows = has_flag (codes "json") rows
+
 -- this action, in the given folder and with the given title
 abbrev pub with_title : List Row → Action → Result Asked UsageFault
 with_title rows action =
-    if is_title (title_in rows) then Ok (record { dir = first_of (codes "DIR") rows; title = title_in rows; dry_run = is_dry rows; action = action })
+    if is_title (title_in rows)
+    then Ok (record { dir = first_of (codes "DIR") rows; title = title_in rows; dry_run = is_dry rows; json = is_json_answer rows; action = action })
     else Err BadTitle
 
 -- the request of the words before the subcommand, and of its name and words
@@ -45,11 +51,11 @@ asked_of words = asked_from (matches_of program words) (subcommand_of program wo
 
 -- `--help`; nothing is said of its text
 abbrev pub help : Asked
-help = record { dir = None; title = []; dry_run = false; action = Help [] }
+help = record { dir = None; title = []; dry_run = false; json = false; action = Help [] }
 
 -- `--version`
 abbrev pub version : Asked
-version = record { dir = None; title = []; dry_run = false; action = Version }
+version = record { dir = None; title = []; dry_run = false; json = false; action = Version }
 
 -- by a kind of fault that clap finds: it shows help or the version, or refuses the words
 abbrev pub answer_by : ErrorKind → Result Asked UsageFault
@@ -73,3 +79,8 @@ without_help_text other = other
 
 abbrev pub without_text : Asked → Asked
 without_text a = record a { action = without_help_text a.action }
+
+-- whether any words are answered in JSON: `--json` is before the subcommand, and clap takes the words. It does not where it refuses them, or shows help or the
+-- version
+abbrev pub wants_json : List Text → Bool
+wants_json words = is_empty (fault_of program words) && is_json_answer (matches_of program words)

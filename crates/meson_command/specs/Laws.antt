@@ -4,12 +4,13 @@ use Rattle.std.specs.List.{AllPairs}
 use Rattle.clap.specs.Words.{Row, Text, fault_of, first_of, matches_of, subcommand_of}
 use Rattle.clap.specs.declared.error.kind.ErrorKind.TheVariants.{DisplayHelp, DisplayVersion}
 use Rattle.meson_command.specs.Actions.{has_flag, word_at}
-use Rattle.meson_command.specs.Asking.{asked_by, help, names_no_folder, version}
+use Rattle.meson_command.specs.Asking.{asked_by, help, names_no_folder, version, wants_json}
 use Rattle.meson_json.specs.Operations.{kwargs_operation, options_operation, role_of}
 use Rattle.meson_command.specs.Counts.{count_of}
 use Rattle.meson_command.specs.Operations.{operation_of_word}
 use Rattle.meson_command.specs.Pairs.{pair_names, pairs_of}
 use Rattle.meson_command.specs.Program.{program}
+use Rattle.meson_command.specs.declared.asked.Asked.{Asked}
 use Rattle.meson_command.specs.declared.fault.UsageFault.TheVariants.{Usage, OddWords}
 
 -- ---- words in pairs
@@ -35,6 +36,10 @@ HelpWhereAsked = (words : List Text) → (asked_by words ≡ Ok help) ↔ (fault
 -- and so is the version
 abbrev pub VersionWhereAsked : Type 0
 VersionWhereAsked = (words : List Text) → (asked_by words ≡ Ok version) ↔ (fault_of program words ≡ DisplayVersion ∷ [])
+
+-- a request is answered in JSON exactly where the words want it
+abbrev pub JsonWhereWanted : Type 0
+JsonWhereWanted = (words : List Text) (asked : Asked) → asked_by words ≡ Ok asked → asked.json ≡ wants_json words
 
 -- the given word is not a number
 abbrev pub IsNoCount : Option Text → Text → Type 0

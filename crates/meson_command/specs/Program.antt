@@ -71,13 +71,13 @@ bare_command name = record (new_app name) {
   top = record (new_app name).top { subcommand_required = true; disable_help_flag = true; disable_help_subcommand = true };
 }
 
--- meson_rewrite [--sourcedir DIR] [--title TEXT] [--dry-run]
+-- meson_rewrite [--sourcedir DIR] [--title TEXT] [--dry-run] [--json]
 abbrev pub own_words : App
 own_words =
     fold with_rule (bare_command (codes "meson_rewrite")) (option (codes "DIR") (codes "sourcedir") ∷ option (codes "TEXT") (codes "title")
-    ∷ flag (codes "dry-run") (codes "dry-run") ∷ help ∷ version ∷ [])
+    ∷ flag (codes "dry-run") (codes "dry-run") ∷ flag (codes "json") (codes "json") ∷ help ∷ version ∷ [])
 
--- meson_rewrite [--sourcedir DIR] [--title TEXT] [--dry-run] SUBCOMMAND
+-- meson_rewrite [--sourcedir DIR] [--title TEXT] [--dry-run] [--json] SUBCOMMAND
 unfoldable pub program : App
 program = fold (λ a s. with_subcommand a s.top) own_words (target ∷ kwargs ∷ default_options ∷ command ∷ undo ∷ redo ∷ history ∷ list ∷ [])
 

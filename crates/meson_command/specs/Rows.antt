@@ -1,10 +1,10 @@
 -- Command lines, each with its request.
-use Rattle.std.specs.Prelude.{◌≡◌, ℕ, ◌==◌, false, true, List, [], ◌∷◌, ◌++◌, codes, if◌then◌else◌, Some, None, Result, Ok, Err}
+use Rattle.std.specs.Prelude.{◌≡◌, ℕ, ◌==◌, Bool, false, true, List, [], ◌∷◌, ◌++◌, codes, if◌then◌else◌, Some, None, Result, Ok, Err}
 use Rattle.meson_calls.specs.declared.call.Role.TheVariants as role
 use Rattle.meson_steps.specs.declared.command.Command.TheVariants as command
 use Rattle.meson_steps.specs.declared.command.Setting.TheVariants as setting
 use Rattle.meson_command.specs.Actions.{run}
-use Rattle.meson_command.specs.Asking.{asked_by, help, version}
+use Rattle.meson_command.specs.Asking.{asked_by, help, version, wants_json}
 use Rattle.meson_command.specs.declared.asked.Action.{Action}
 use Rattle.meson_command.specs.declared.asked.Action.TheVariants as action
 use Rattle.meson_command.specs.declared.asked.Action.TheVariants.{Info, ScriptText, ScriptFile, Undo, UndoTo, UndoChecked, Redo, History, ForgetOldest, ForgetAll, Sums}
@@ -23,17 +23,21 @@ words_in [] = [] ∷ []
 words_in (b ∷ bytes) = if b == 32 then [] ∷ words_in bytes else onto b (words_in bytes)
 
 abbrev in_place : Action → Result Asked UsageFault
-in_place action = Ok (record { dir = None; title = []; dry_run = false; action = action })
+in_place action = Ok (record { dir = None; title = []; dry_run = false; json = false; action = action })
 
 abbrev there : List ℕ → Action → Result Asked UsageFault
-there dir action = Ok (record { dir = Some dir; title = []; dry_run = false; action = action })
+there dir action = Ok (record { dir = Some dir; title = []; dry_run = false; json = false; action = action })
 
 abbrev named : List ℕ → Action → Result Asked UsageFault
-named title action = Ok (record { dir = None; title = title; dry_run = false; action = action })
+named title action = Ok (record { dir = None; title = title; dry_run = false; json = false; action = action })
 
 -- the same, shown and not done
 abbrev shown : Action → Result Asked UsageFault
-shown action = Ok (record { dir = None; title = []; dry_run = true; action = action })
+shown action = Ok (record { dir = None; title = []; dry_run = true; json = false; action = action })
+
+-- the same, in place and answered in JSON
+abbrev in_json : Action → Result Asked UsageFault
+in_json action = Ok (record { dir = None; title = []; dry_run = false; json = true; action = action })
 
 -- a line after the program's name has this request
 abbrev asks : List ℕ → Result Asked UsageFault → Type 0
@@ -78,7 +82,7 @@ Done =
 abbrev pub Titled : Type 0
 Titled =
     asks (codes "--title more target e rm a.c") (named (codes "more") (run (command.SourcesRemove (codes "e") (codes "a.c" ∷ []))))
-    × asks (codes "--title a --sourcedir d redo") (Ok (record { dir = Some (codes "d"); title = codes "a"; dry_run = false; action = Redo }))
+    × asks (codes "--title a --sourcedir d redo") (Ok (record { dir = Some (codes "d"); title = codes "a"; dry_run = false; json = false; action = Redo }))
     × asks_titled (codes "add B") (named (codes "add B") Undo)
     × asks_titled [] (in_place Undo)
     × asks_titled (codes "a\tb") (Err BadTitle)
@@ -92,13 +96,40 @@ abbrev pub Shown : Type 0
 Shown =
     asks (codes "--dry-run undo") (shown Undo)
     × asks (codes "--dry-run target e rm a.c") (shown (run (command.SourcesRemove (codes "e") (codes "a.c" ∷ []))))
-    × asks (codes "--sourcedir d --dry-run --title a redo") (Ok (record { dir = Some (codes "d"); title = codes "a"; dry_run = true; action = Redo }))
+    × asks (codes "--sourcedir d --dry-run --title a redo") (Ok (record { dir = Some (codes "d"); title = codes "a"; dry_run = true; json = false; action = Redo }))
     × asks (codes "--dry-run undo --to 2") (shown (UndoTo 2))
     × asks (codes "--dry-run undo --check sums") (shown (UndoChecked 1 (codes "sums")))
     × asks (codes "--dry-run list --json") (shown (action.List true))
     × asks (codes "undo --dry-run") (Err Usage)
     × asks (codes "--dry-run --dry-run undo") (Err Usage)
     × asks (codes "--dry-run=true undo") (Err Usage)
+
+-- a line after the program's name is answered in JSON, or is not
+abbrev wants : List ℕ → Bool → Type 0
+wants line json = wants_json (codes "T" ∷ words_in line) ≡ json
+
+-- what is answered in JSON, the faults of words that clap takes too
+abbrev pub Json : Type 0
+Json =
+    asks (codes "--json undo") (in_json Undo)
+    × asks (codes "--json list") (in_json (action.List false))
+    × asks (codes "--json list --json") (in_json (action.List true))
+    × asks (codes "--sourcedir d --json --dry-run --title a redo")
+    (Ok (record { dir = Some (codes "d"); title = codes "a"; dry_run = true; json = true; action = Redo }))
+    × asks (codes "undo --json") (Err Usage)
+    × asks (codes "--json --json undo") (Err Usage)
+    × asks (codes "--json=true undo") (Err Usage)
+    × asks (codes "--json --help") (Ok help)
+    × asks (codes "--json --version") (Ok version)
+    × wants (codes "--json list") true
+    × wants (codes "list --json") false
+    × wants (codes "--json undo --to 0") true
+    × wants (codes "--json kwargs set project / version") true
+    × wants (codes "--json --sourcedir= undo") true
+    × wants (codes "--json undo now") false
+    × wants (codes "--json --help") false
+    × wants (codes "--json") false
+    × wants (codes "undo") false
 
 -- what is listed, which scripts are meant, help and the version
 abbrev pub Other : Type 0
@@ -152,7 +183,6 @@ Refused =
     × asks (codes "list --sums --json") (Err Usage)
     × asks (codes "list --sums sums") (Err Usage)
     × asks (codes "list --sums=sums") (Err Usage)
-    × asks (codes "--json list") (Err Usage)
     × asks (codes "help") (Err Usage)
     × asks (codes "-h") (Err Usage)
     × asks (codes "-V") (Err Usage)

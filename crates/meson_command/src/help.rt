@@ -26,6 +26,8 @@ pub(crate) const DIR: &str = "Folder of the root file [default: the working fold
 
 pub(crate) const DRY_RUN: &str = "Show the changes as a unified diff, and write nothing";
 
+pub(crate) const ANSWER_JSON: &str = "Print what is done, or the refusal, as one line of JSON";
+
 pub(crate) const TITLE: &str = "\
 What the run is for, in at most 200 bytes;
 undo, redo and history print it";
@@ -34,7 +36,7 @@ pub(crate) const TARGET: &str = "Edit, list, add or remove a target";
 
 pub(crate) const BELOW_TARGET: &str = "\
 Options of the program, before the subcommand (see meson_rewrite --help):
-  --sourcedir DIR, --title TEXT, --dry-run
+  --sourcedir DIR, --title TEXT, --dry-run, --json
 
 Operations:
   add, rm                          add sources, remove sources
@@ -66,7 +68,7 @@ pub(crate) const KWARGS: &str = "Edit or list keyword arguments";
 
 pub(crate) const BELOW_KWARGS: &str = "\
 Options of the program, before the subcommand (see meson_rewrite --help):
-  --sourcedir DIR, --title TEXT, --dry-run
+  --sourcedir DIR, --title TEXT, --dry-run, --json
 
 Operations:
   set     give each key its value
@@ -104,7 +106,7 @@ pub(crate) const DEFAULT_OPTIONS: &str = "Edit the default options of the projec
 
 pub(crate) const BELOW_DEFAULT_OPTIONS: &str = "\
 Options of the program, before the subcommand (see meson_rewrite --help):
-  --sourcedir DIR, --title TEXT, --dry-run
+  --sourcedir DIR, --title TEXT, --dry-run, --json
 
 Operations:
   set     give each option its value
@@ -121,7 +123,7 @@ pub(crate) const COMMAND: &str = "Run the commands of a script";
 
 pub(crate) const BELOW_COMMAND: &str = "\
 Options of the program, before the subcommand (see meson_rewrite --help):
-  --sourcedir DIR, --title TEXT, --dry-run
+  --sourcedir DIR, --title TEXT, --dry-run, --json
 
 JSON is the script, or says where it is:
   [.. or {..      a word that begins so is the script itself
@@ -149,7 +151,7 @@ pub(crate) const UNDO: &str = "Take back the newest run";
 
 pub(crate) const BELOW_UNDO: &str = "\
 Options of the program, before the subcommand (see meson_rewrite --help):
-  --sourcedir DIR, --title TEXT, --dry-run
+  --sourcedir DIR, --title TEXT, --dry-run, --json
 
 If the files changed after the run, by hand or by a checkout:
   - Edits by hand stay.
@@ -179,7 +181,7 @@ pub(crate) const REDO: &str = "Do again what the last undo took back";
 
 pub(crate) const BELOW_REDO: &str = "\
 Options of the program, before the subcommand (see meson_rewrite --help):
-  --sourcedir DIR, --title TEXT, --dry-run
+  --sourcedir DIR, --title TEXT, --dry-run, --json
 
 One redo repeats one run; it takes no --to.
 A new run drops what could be redone.
@@ -194,7 +196,7 @@ pub(crate) const HISTORY: &str = "List the runs that can be undone and redone";
 
 pub(crate) const BELOW_HISTORY: &str = "\
 Options of the program, before the subcommand (see meson_rewrite --help):
-  --sourcedir DIR, --title TEXT, --dry-run
+  --sourcedir DIR, --title TEXT, --dry-run, --json
 
 It prints one line for each run:
   undo 1, undo 2, ..  the runs that undo takes back, the newest first
@@ -219,7 +221,7 @@ pub(crate) const LIST: &str = "List the targets and the build files";
 
 pub(crate) const BELOW_LIST: &str = "\
 Options of the program, before the subcommand (see meson_rewrite --help):
-  --sourcedir DIR, --title TEXT, --dry-run
+  --sourcedir DIR, --title TEXT, --dry-run, --json
 
 It prints one line for each target, then one for each build file, then one for
 each subdir call that is not entered:

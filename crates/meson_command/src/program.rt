@@ -220,6 +220,7 @@ fn own_words<'h>(alloc: Global) -> Result<Command<'h>, AllocError>
     let program = with_option(alloc, Ok(bare), "DIR", "sourcedir", help::DIR);
     let program = with_option(alloc, program, "TEXT", "title", help::TITLE);
     let program = with_flag(alloc, program, "dry-run", "dry-run", help::DRY_RUN);
+    let program = with_flag(alloc, program, "json", "json", help::ANSWER_JSON);
     let program = with_help(alloc, program);
     with_version(alloc, program)
 }

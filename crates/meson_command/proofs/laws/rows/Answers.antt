@@ -19,10 +19,14 @@ pub returns-clause-shown : goal.returns-clause-shown
 unfolding clap_on_literals program target kwargs default_options command undo redo history list asked_from action_of other_action target_action kwargs_action kwargs_by options_action script_action pairs_of count_of
 returns-clause-shown c = (refl, refl, refl, refl, refl, refl, refl, refl, refl)
 
+pub returns-clause-json : goal.returns-clause-json
+unfolding clap_on_literals program target kwargs default_options command undo redo history list asked_from action_of other_action target_action kwargs_action kwargs_by options_action script_action pairs_of count_of
+returns-clause-json c = (refl, refl, refl, refl, refl, refl, refl, refl, refl, refl, refl, refl, refl, refl, refl, refl, refl, refl)
+
 pub returns-clause-other : goal.returns-clause-other
 unfolding clap_on_literals program target kwargs default_options command undo redo history list asked_from action_of other_action target_action kwargs_action kwargs_by options_action script_action pairs_of count_of
 returns-clause-other c = (refl, refl, refl, refl, refl, refl, refl, refl, refl, refl, refl, refl, refl, refl, refl, refl)
 
 pub returns-clause-refused : goal.returns-clause-refused
 unfolding clap_on_literals program target kwargs default_options command undo redo history list asked_from action_of other_action target_action kwargs_action kwargs_by options_action script_action pairs_of count_of
-returns-clause-refused c = (refl, refl, refl, refl, refl, refl, refl, refl, refl, refl, refl, refl, refl, refl, refl, refl, refl, refl, refl, refl, refl, refl, refl, refl, refl, refl, refl, refl, refl, refl, refl, refl, refl, refl, refl, refl, refl, refl, refl, refl, refl, refl, refl)
+returns-clause-refused c = (refl, refl, refl, refl, refl, refl, refl, refl, refl, refl, refl, refl, refl, refl, refl, refl, refl, refl, refl, refl, refl, refl, refl, refl, refl, refl, refl, refl, refl, refl, refl, refl, refl, refl, refl, refl, refl, refl, refl, refl, refl, refl)
