@@ -295,7 +295,7 @@ asks-only title action.Version held step is t = absurd (let no : ⊥ = cc in no)
 asks-same : (a : Asked) → IsTrue (only_asks (without_text a).action) → IsTrue (only_asks a.action)
 asks-same a t = go a.action t
   where
-    go : (x : Action) → IsTrue (only_asks (without_text (record { dir = None; title = []; dry_run = false; action = x })).action) → IsTrue (only_asks x)
+    go : (x : Action) → IsTrue (only_asks (without_text (record { dir = None; title = []; dry_run = false; json = false; action = x })).action) → IsTrue (only_asks x)
     go (action.Run s) t = t
     go (action.Info c) t = t
     go (action.ScriptText text) t = t
