@@ -114,13 +114,14 @@ Options of the program, before the subcommand (see meson_rewrite --help):
 Operations:
   set     give each option its value
   delete  remove each option; give any word as its value
+  unset   remove each option; its words are the options alone
 
 In the build file the options may be one text, an array of texts, or a
 dictionary whose keys are texts. No option may be given twice.
 
 Examples:
   meson_rewrite default-options set c_std c17 werror true
-  meson_rewrite default-options delete warning_level x";
+  meson_rewrite default-options unset warning_level c_std";
 
 pub(crate) const COMMAND: &str = "Run the commands of a script";
 

@@ -194,7 +194,7 @@ fn default_options<'h>(alloc: Global) -> Result<Command<'h>, AllocError>
         alloc,
         command,
         "OPTION VALUE",
-        "Options, each with its value",
+        "Options, each with its value; of unset options alone",
     );
     with_help(alloc, command)
 }
