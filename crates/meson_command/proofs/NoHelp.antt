@@ -4,7 +4,7 @@ use Rattle.std.specs.Prelude.{IfOk, bytes_eq, if◌then◌else◌, ok_or}
 use Rattle.clap.specs.Words.{Row, Text, first_of}
 use Rattle.meson_calls.specs.declared.call.Role.{Role}
 use Rattle.meson_splice.specs.Patch.{then_ok}
-use Rattle.meson_command.specs.Actions.{action_of, count_in, kwargs_action, history_by, kwargs_by, has_flag, list_by, options_action, options_by, is_json, other_action, script_action, target_action, target_by, target_words, undo_of, word_at, words_at}
+use Rattle.meson_command.specs.Actions.{action_of, count_in, kwargs_action, history_by, kwargs_by, has_flag, list_by, options_action, options_by, is_json, other_action, script_action, target_action, target_by, target_words, undo_of, unknown_members, word_at, words_at}
 use Rattle.meson_command.specs.Asking.{asked_from, names_no_folder, title_in, with_title, without_help_text, without_text}
 use Rattle.meson_command.specs.declared.asked.Action.{Action}
 use Rattle.meson_command.specs.declared.asked.Action.TheVariants as action
@@ -16,6 +16,7 @@ use Rattle.meson_command.specs.Counts.{count_of}
 use Rattle.meson_command.specs.Operations.{options_word}
 use Rattle.meson_command.specs.Pairs.{lone_names, pairs_of}
 use Rattle.meson_command.specs.declared.fault.UsageFault.TheVariants.{Usage, BadTitle}
+use Rattle.meson_json.specs.declared.member_check.UnknownMembers.{UnknownMembers}
 use Rattle.meson_json.specs.declared.names.KwargsOperation.{KwargsOperation}
 use Rattle.meson_json.specs.declared.names.KwargsOperation.TheVariants as kwargs
 use Rattle.meson_command.specs.declared.operations.OptionsWord.{OptionsWord}
@@ -75,9 +76,9 @@ options-plain options.Set words = after (pairs_of words) _ (λ _. ok _ tt)
 options-plain options.Delete words = after (pairs_of words) _ (λ _. ok _ tt)
 options-plain options.Unset words = after (lone_names words) _ (λ _. ok _ tt)
 
-script-plain : (b : Bool) (word : Text) → IsPlain (if b then ScriptText word else ScriptFile word)
-script-plain true word = tt
-script-plain false word = tt
+script-plain : (b : Bool) (word : Text) (unknown : UnknownMembers) → IsPlain (if b then ScriptText word unknown else ScriptFile word unknown)
+script-plain true word unknown = tt
+script-plain false word unknown = tt
 
 target_action-plain : (rows : List Row) → Answers IsPlain (target_action rows)
 unfolding target_action
@@ -96,7 +97,7 @@ options_action-plain rows = after (ok_or (options_word (word_at (codes "OPERATIO
 
 script_action-plain : (rows : List Row) → IsPlain (script_action rows)
 unfolding script_action
-script_action-plain rows = script-plain (is_json (word_at (codes "JSON") rows)) (word_at (codes "JSON") rows)
+script_action-plain rows = script-plain (is_json (word_at (codes "JSON") rows)) (word_at (codes "JSON") rows) (unknown_members (has_flag (codes "strict") rows))
 
 undo_of-plain : (count : Option ℕ) (check : Option Text) → IsPlain (undo_of count check)
 undo_of-plain None None = tt
@@ -143,8 +144,8 @@ not_help rows subcommand a is = subst (λ r. IfOk r (λ x. IsPlain x.action)) is
 same : (a : Action) → IsPlain a → without_help_text a ≡ a
 same (Run script) h = refl
 same (Info command) h = refl
-same (ScriptText text) h = refl
-same (ScriptFile name) h = refl
+same (ScriptText text unknown) h = refl
+same (ScriptFile name unknown) h = refl
 same Undo h = refl
 same (UndoTo count) h = refl
 same (UndoChecked count name) h = refl

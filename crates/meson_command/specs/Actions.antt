@@ -20,6 +20,8 @@ use Rattle.meson_command.specs.declared.fault.UsageFault.{UsageFault}
 use Rattle.meson_command.specs.declared.operations.OptionsWord.{OptionsWord}
 use Rattle.meson_command.specs.declared.operations.OptionsWord.TheVariants as options
 use Rattle.meson_command.specs.declared.fault.UsageFault.TheVariants.{Usage, Unsupported}
+use Rattle.meson_json.specs.declared.member_check.UnknownMembers.{UnknownMembers}
+use Rattle.meson_json.specs.declared.member_check.UnknownMembers.TheVariants.{Ignored, Refused}
 use Rattle.meson_json.specs.declared.names.KwargsOperation.{KwargsOperation}
 use Rattle.meson_json.specs.declared.names.KwargsOperation.TheVariants as kwargs
 use Rattle.meson_json.specs.declared.target.TargetMembers.{TargetMembers}
@@ -96,7 +98,7 @@ unfoldable pub options_action : List Row → Result Action UsageFault
 options_action rows =
     then_ok (ok_or (options_word (word_at (codes "OPERATION") rows)) Usage) (λ word. options_by word (words_at (codes "OPTION VALUE") rows))
 
--- ---- command JSON
+-- ---- command [--strict] JSON
 
 -- a space (32) or a tab (9)
 abbrev pub is_space : ℕ → Bool
@@ -106,8 +108,16 @@ is_space b = b == 32 || b == 9
 abbrev pub is_json : Text → Bool
 is_json word = option_map_or (λ b. b == 91 || b == 123) (find (λ b. not (is_space b)) word) false
 
+-- what is done about members that are not known, by whether the script is read strictly
+abbrev pub unknown_members : Bool → UnknownMembers
+unknown_members true = Refused
+unknown_members false = Ignored
+
 unfoldable pub script_action : List Row → Action
-script_action rows = let word = word_at (codes "JSON") rows in if is_json word then ScriptText word else ScriptFile word
+script_action rows =
+    let word = word_at (codes "JSON") rows in
+    let unknown = unknown_members (has_flag (codes "strict") rows) in
+    if is_json word then ScriptText word unknown else ScriptFile word unknown
 
 -- ---- undo [--to N] [--check FILE]
 

@@ -59,9 +59,9 @@ kwargs = of_words (new_app (codes "kwargs")) (required_word (codes "OPERATION") 
 unfoldable pub default_options : App
 default_options = of_words (with_alias (codes "def") (new_app (codes "default-options"))) (required_word (codes "OPERATION") ∷ many (codes "OPTION VALUE") ∷ help ∷ [])
 
--- command JSON
+-- command [--strict] JSON
 unfoldable pub command : App
-command = of_words (with_alias (codes "cmd") (new_app (codes "command"))) (required_word (codes "JSON") ∷ help ∷ [])
+command = of_words (with_alias (codes "cmd") (new_app (codes "command"))) (required_word (codes "JSON") ∷ flag (codes "strict") (codes "strict") ∷ help ∷ [])
 
 -- undo [--to N] [--check FILE]
 unfoldable pub undo : App

@@ -3,6 +3,7 @@ use Rattle.std.specs.Prelude.{◌≡◌, ℕ, ◌==◌, Bool, false, true, List,
 use Rattle.meson_calls.specs.declared.call.Role.TheVariants as role
 use Rattle.meson_steps.specs.declared.command.Command.TheVariants as command
 use Rattle.meson_steps.specs.declared.command.Setting.TheVariants as setting
+use Rattle.meson_json.specs.declared.member_check.UnknownMembers.TheVariants as unknown
 use Rattle.meson_command.specs.Actions.{run}
 use Rattle.meson_command.specs.Asking.{asked_by, help, version, wants_json}
 use Rattle.meson_command.specs.declared.asked.Action.{Action}
@@ -77,7 +78,7 @@ Done =
     (there (codes "d") (run (command.TargetAdd (codes "l") (codes "jar") (codes "sub") (codes "a.c" ∷ []))))
     × asks (codes "tgt e rm -s sub a.c") (in_place (run (command.SourcesRemove (codes "e") (codes "a.c" ∷ []))))
     × asks (codes "def delete cpp_std c++20") (in_place (run (command.OptionsDelete (codes "cpp_std" ∷ []))))
-    × asks (codes "cmd -") (in_place (ScriptFile (codes "-")))
+    × asks (codes "cmd -") (in_place (ScriptFile (codes "-") unknown.Ignored))
     × asks (codes "-V undo") (in_place Undo)
     × asks (codes "--verbose undo") (in_place Undo)
     × asks (codes "-Vs d undo") (there (codes "d") Undo)
@@ -154,10 +155,12 @@ Other =
     × asks (codes "list") (in_place (action.List false))
     × asks (codes "--sourcedir d list --json") (there (codes "d") (action.List true))
     × asks (codes "--sourcedir d list --sums") (there (codes "d") Sums)
-    × asks (codes "command [1]") (in_place (ScriptText (codes "[1]")))
-    × (asked_by (codes "T" ∷ codes "command" ∷ codes " \t{" ∷ []) ≡ in_place (ScriptText (codes " \t{")))
-    × asks (codes "command changes.json") (in_place (ScriptFile (codes "changes.json")))
-    × asks (codes "command -") (in_place (ScriptFile (codes "-")))
+    × asks (codes "command [1]") (in_place (ScriptText (codes "[1]") unknown.Ignored))
+    × (asked_by (codes "T" ∷ codes "command" ∷ codes " \t{" ∷ []) ≡ in_place (ScriptText (codes " \t{") unknown.Ignored))
+    × asks (codes "command changes.json") (in_place (ScriptFile (codes "changes.json") unknown.Ignored))
+    × asks (codes "command -") (in_place (ScriptFile (codes "-") unknown.Ignored))
+    × asks (codes "command --strict [1]") (in_place (ScriptText (codes "[1]") unknown.Refused))
+    × asks (codes "command - --strict") (in_place (ScriptFile (codes "-") unknown.Refused))
     × asks (codes "--help") (Ok help)
     × asks (codes "target e add --help") (Ok help)
     × asks (codes "def --help") (Ok help)
@@ -198,6 +201,11 @@ Refused =
     × asks (codes "list --sums --json") (Err Usage)
     × asks (codes "list --sums sums") (Err Usage)
     × asks (codes "list --sums=sums") (Err Usage)
+    × asks (codes "command --strict") (Err Usage)
+    × asks (codes "command --strict --strict -") (Err Usage)
+    × asks (codes "command --strict=true -") (Err Usage)
+    × asks (codes "--strict command -") (Err Usage)
+    × asks (codes "target e add --strict") (Err Usage)
     × asks (codes "help") (Err Usage)
     × asks (codes "-h") (Err Usage)
     × asks (codes "-V") (Err Usage)

@@ -18,7 +18,7 @@ use crate::target::target_action;
 use crate::words::{is_set, word_or};
 use clap::ArgMatches;
 use clap::error::ErrorKind;
-use meson_json::{Script, is_title, owned};
+use meson_json::{Script, UnknownMembers, is_title, owned};
 use meson_splice::Text;
 use meson_steps::command::Command;
 use std::alloc::{AllocError, Global};
@@ -31,9 +31,9 @@ pub enum Action {
     /// List what this command reports, and change nothing.
     Info(Command),
     /// Run the commands of this JSON text.
-    ScriptText(Text),
+    ScriptText { text: Text, unknown: UnknownMembers },
     /// Run the commands in the file of this name; a folder reads `-` from standard input.
-    ScriptFile(Text),
+    ScriptFile { name: Text, unknown: UnknownMembers },
     /// Take back the newest change.
     Undo,
     /// Take back this number of the newest changes: all of them or none.

@@ -147,9 +147,11 @@ log as it is.
 
 Examples:
   meson_rewrite command changes.json
-  meson_rewrite command - <changes.json
+  meson_rewrite command --strict - <changes.json
   meson_rewrite command '[{\"type\":\"target\",\"operation\":\"src_add\",
     \"target\":\"tide\",\"sources\":[\"moon.c\"]}]'";
+
+pub(crate) const STRICT: &str = "Refuse members of the script that have no effect";
 
 pub(crate) const UNDO: &str = "Take back the newest run";
 

@@ -211,6 +211,7 @@ fn command<'h>(alloc: Global) -> Result<Command<'h>, AllocError>
         "JSON",
         "Script, or name of its file, or - for standard input",
     );
+    let command = with_flag(alloc, command, "strict", "strict", help::STRICT);
     with_help(alloc, command)
 }
 

@@ -25,8 +25,8 @@ returns-clause-json c = (refl, refl, refl, refl, refl, refl, refl, refl, refl, r
 
 pub returns-clause-other : goal.returns-clause-other
 unfolding clap_on_literals program target kwargs default_options command undo redo history list asked_from action_of other_action target_action kwargs_action kwargs_by options_action options_by script_action lone_names pairs_of count_of
-returns-clause-other c = (refl, refl, refl, refl, refl, refl, refl, refl, refl, refl, refl, refl, refl, refl, refl, refl, refl)
+returns-clause-other c = (refl, refl, refl, refl, refl, refl, refl, refl, refl, refl, refl, refl, refl, refl, refl, refl, refl, refl, refl)
 
 pub returns-clause-refused : goal.returns-clause-refused
 unfolding clap_on_literals program target kwargs default_options command undo redo history list asked_from action_of other_action target_action kwargs_action kwargs_by options_action options_by script_action lone_names pairs_of count_of
-returns-clause-refused c = (refl, refl, refl, refl, refl, refl, refl, refl, refl, refl, refl, refl, refl, refl, refl, refl, refl, refl, refl, refl, refl, refl, refl, refl, refl, refl, refl, refl, refl, refl, refl, refl, refl, refl, refl, refl, refl, refl, refl, refl, refl, refl, refl, refl, refl, refl, refl, refl, refl, refl, refl, refl, refl, refl, refl, refl, refl, refl, refl, refl)
+returns-clause-refused c = (refl, refl, refl, refl, refl, refl, refl, refl, refl, refl, refl, refl, refl, refl, refl, refl, refl, refl, refl, refl, refl, refl, refl, refl, refl, refl, refl, refl, refl, refl, refl, refl, refl, refl, refl, refl, refl, refl, refl, refl, refl, refl, refl, refl, refl, refl, refl, refl, refl, refl, refl, refl, refl, refl, refl, refl, refl, refl, refl, refl, refl, refl, refl, refl, refl)
