@@ -1,6 +1,7 @@
 pub mod Reading
 pub mod Counting
 pub mod NoHelp
+pub mod Json
 pub mod HelpAlone
 pub mod Taken
 pub mod WordsInPairs

@@ -4,21 +4,23 @@ use Rattle.std.specs.Prelude.{IfOk, bytes_eq, if◌then◌else◌, ok_or}
 use Rattle.clap.specs.Words.{Row, Text, first_of}
 use Rattle.meson_calls.specs.declared.call.Role.{Role}
 use Rattle.meson_splice.specs.Patch.{then_ok}
-use Rattle.meson_command.specs.Actions.{action_of, count_in, kwargs_action, history_by, kwargs_by, has_flag, list_by, options_action, options_by, is_json, other_action, script_action, target_action, target_by, target_words, undo_of, word_at, words_at}
+use Rattle.meson_command.specs.Actions.{action_of, count_in, kwargs_action, history_by, kwargs_by, has_flag, list_by, options_action, options_by, is_json, other_action, script_action, target_action, target_by, target_words, undo_of, unknown_members, word_at, words_at}
 use Rattle.meson_command.specs.Asking.{asked_from, names_no_folder, title_in, with_title, without_help_text, without_text}
 use Rattle.meson_command.specs.declared.asked.Action.{Action}
 use Rattle.meson_command.specs.declared.asked.Action.TheVariants as action
 use Rattle.meson_command.specs.declared.asked.Action.TheVariants.{Run, Info, ScriptText, ScriptFile, Undo, UndoTo, UndoChecked, Redo, History, ForgetOldest, ForgetAll, Sums, Help, Version}
 use Rattle.meson_command.specs.declared.asked.Asked.{Asked}
 use Rattle.meson_json.specs.Titles.{is_title}
-use Rattle.meson_json.specs.Operations.{kwargs_operation, options_operation, role_of}
+use Rattle.meson_json.specs.Operations.{kwargs_operation, role_of}
 use Rattle.meson_command.specs.Counts.{count_of}
-use Rattle.meson_command.specs.Pairs.{pairs_of}
+use Rattle.meson_command.specs.Operations.{options_word}
+use Rattle.meson_command.specs.Pairs.{lone_names, pairs_of}
 use Rattle.meson_command.specs.declared.fault.UsageFault.TheVariants.{Usage, BadTitle}
+use Rattle.meson_json.specs.declared.member_check.UnknownMembers.{UnknownMembers}
 use Rattle.meson_json.specs.declared.names.KwargsOperation.{KwargsOperation}
 use Rattle.meson_json.specs.declared.names.KwargsOperation.TheVariants as kwargs
-use Rattle.meson_json.specs.declared.names.OptionsOperation.{OptionsOperation}
-use Rattle.meson_json.specs.declared.names.OptionsOperation.TheVariants as options
+use Rattle.meson_command.specs.declared.operations.OptionsWord.{OptionsWord}
+use Rattle.meson_command.specs.declared.operations.OptionsWord.TheVariants as options
 use Rattle.meson_json.specs.declared.target.TargetOperation.{TargetOperation}
 use Rattle.meson_json.specs.declared.target.TargetOperation.TheVariants as target
 use Rattle.meson_json.specs.declared.target.TargetMembers.{TargetMembers}
@@ -29,10 +31,10 @@ IsPlain Version = ⊥
 IsPlain _ = Unit {0}
 
 -- what it answers, if it answers, is so
-record Answers {A E : Type 0} (P : A → Type 0) (r : Result A E) : Type 0 where
-  so : IfOk r P
+pub record Answers {A E : Type 0} (P : A → Type 0) (r : Result A E) : Type 0 where
+  pub so : IfOk r P
 
-after : {A B E : Type 0} {P : B → Type 0} (r : Result A E) (f : A → Result B E) → ((x : A) → Answers P (f x)) → Answers P (then_ok r f)
+pub after : {A B E : Type 0} {P : B → Type 0} (r : Result A E) (f : A → Result B E) → ((x : A) → Answers P (f x)) → Answers P (then_ok r f)
 after (Ok x) f h = h x
 after (Err e) f h = record { so = tt }
 
@@ -40,14 +42,14 @@ after_some : {A B E : Type 0} (Q : A → Type 0) {P : B → Type 0} (r : Result 
 after_some Q (Ok x) f q h = h x q.so
 after_some Q (Err e) f q h = record { so = tt }
 
-either : {A E : Type 0} {P : A → Type 0} (b : Bool) (x y : Result A E) → Answers P x → Answers P y → Answers P (if b then x else y)
+pub either : {A E : Type 0} {P : A → Type 0} (b : Bool) (x y : Result A E) → Answers P x → Answers P y → Answers P (if b then x else y)
 either true x y h k = h
 either false x y h k = k
 
-ok : {A E : Type 0} {P : A → Type 0} (x : A) → P x → Answers {E = E} P (Ok x)
+pub ok : {A E : Type 0} {P : A → Type 0} (x : A) → P x → Answers {E = E} P (Ok x)
 ok x h = record { so = h }
 
-err : {A E : Type 0} {P : A → Type 0} (e : E) → Answers P (Err e)
+pub err : {A E : Type 0} {P : A → Type 0} (e : E) → Answers P (Err e)
 err e = record { so = tt }
 
 target-plain : (o : TargetOperation) (w : TargetMembers) → IsPlain (target_by o w)
@@ -68,13 +70,15 @@ kwargs-plain kwargs.Remove r id words = after (pairs_of words) _ (λ _. ok _ tt)
 kwargs-plain kwargs.RemoveRegex r id words = after (pairs_of words) _ (λ _. err _)
 kwargs-plain kwargs.Info r id words = ok _ tt
 
-options-plain : (o : OptionsOperation) (pairs : List (Text × Text)) → IsPlain (options_by o pairs)
-options-plain options.Set pairs = tt
-options-plain options.Delete pairs = tt
+options-plain : (o : OptionsWord) (words : List Text) → Answers IsPlain (options_by o words)
+unfolding options_by
+options-plain options.Set words = after (pairs_of words) _ (λ _. ok _ tt)
+options-plain options.Delete words = after (pairs_of words) _ (λ _. ok _ tt)
+options-plain options.Unset words = after (lone_names words) _ (λ _. ok _ tt)
 
-script-plain : (b : Bool) (word : Text) → IsPlain (if b then ScriptText word else ScriptFile word)
-script-plain true word = tt
-script-plain false word = tt
+script-plain : (b : Bool) (word : Text) (unknown : UnknownMembers) → IsPlain (if b then ScriptText word unknown else ScriptFile word unknown)
+script-plain true word unknown = tt
+script-plain false word unknown = tt
 
 target_action-plain : (rows : List Row) → Answers IsPlain (target_action rows)
 unfolding target_action
@@ -89,13 +93,11 @@ kwargs_action-plain rows =
 
 options_action-plain : (rows : List Row) → Answers IsPlain (options_action rows)
 unfolding options_action
-options_action-plain rows =
-    after (ok_or (options_operation (word_at (codes "OPERATION") rows)) Usage) _ (λ o.
-    after (pairs_of (words_at (codes "OPTION VALUE") rows)) _ (λ pairs. ok _ (options-plain o pairs)))
+options_action-plain rows = after (ok_or (options_word (word_at (codes "OPERATION") rows)) Usage) _ (λ o. options-plain o (words_at (codes "OPTION VALUE") rows))
 
 script_action-plain : (rows : List Row) → IsPlain (script_action rows)
 unfolding script_action
-script_action-plain rows = script-plain (is_json (word_at (codes "JSON") rows)) (word_at (codes "JSON") rows)
+script_action-plain rows = script-plain (is_json (word_at (codes "JSON") rows)) (word_at (codes "JSON") rows) (unknown_members (has_flag (codes "strict") rows))
 
 undo_of-plain : (count : Option ℕ) (check : Option Text) → IsPlain (undo_of count check)
 undo_of-plain None None = tt
@@ -142,8 +144,8 @@ not_help rows subcommand a is = subst (λ r. IfOk r (λ x. IsPlain x.action)) is
 same : (a : Action) → IsPlain a → without_help_text a ≡ a
 same (Run script) h = refl
 same (Info command) h = refl
-same (ScriptText text) h = refl
-same (ScriptFile name) h = refl
+same (ScriptText text unknown) h = refl
+same (ScriptFile name unknown) h = refl
 same Undo h = refl
 same (UndoTo count) h = refl
 same (UndoChecked count name) h = refl

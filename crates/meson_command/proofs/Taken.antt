@@ -1,7 +1,7 @@
 -- What the matches of the program's words are, and what they ask for.
 use Rattle.std.proofs.Common.{◌≡◌, ◌≢◌, ◌∙◌, ◌∷◌, ◌⊎◌, inl, inr, Bool, List, [], Option, Some, None, true, false, Result, Ok, Err, option_map, codes, Box, refl, sym, ap, ap₂, subst}
 use Rattle.std.specs.Box.{box_value}
-use Rattle.clap.specs.Words.{App, HasMatchesOf, Row, Text, fault_of, first_of, found_of, is_simple, is_simple_and_free, rows_of, subcommand_rows, subcommand_rows_of, takes}
+use Rattle.clap.specs.Words.{App, HasMatchesOf, Row, Text, fault_of, first_of, found_of, is_simple, is_simple_and_free, matches_of, rows_of, subcommand_rows, subcommand_rows_of, takes}
 use Rattle.clap.specs.Kinds.{IsAmong, Kinds}
 use Rattle.clap.specs.Simple.{argument_words, built}
 use Rattle.clap.specs.Walk.{nothing_held}
@@ -13,7 +13,7 @@ use Rattle.clap.specs.declared.error.kind.ErrorKind.{ErrorKind}
 use Rattle.clap.specs.declared.error.kind.ErrorKind.TheVariants as kind
 use Rattle.clap.specs.declared.error.kind.ErrorKind.TheVariants.{DisplayHelp, DisplayVersion, OutOfMemory}
 use Rattle.meson_json.specs.Titles.{is_title}
-use Rattle.meson_command.specs.Asking.{answer, answer_by, asked_from, asked_of, help, is_dry, names_no_folder, title_in, version}
+use Rattle.meson_command.specs.Asking.{answer, answer_by, asked_from, asked_of, help, is_dry, is_json_answer, names_no_folder, title_in, version}
 use Rattle.meson_command.specs.Program.{command, default_options, history, kwargs, list, program, redo, target, undo}
 use Rattle.meson_command.proofs.HelpAlone.{Clean, clean}
 use Rattle.meson_command.specs.declared.asked.Action.{Action}
@@ -30,6 +30,9 @@ pub program_is_free : is_simple_and_free program ≡ true
 unfolding program target kwargs default_options command undo redo history list
 program_is_free = refl
 
+pub rows-of : (a : App) (ws : List Text) (m : ArgMatches) → a ≡ program → HasMatchesOf a ws m → rows_of (found_of m) ≡ matches_of program ws
+rows-of a ws m e h = (subst (λ (z : App). HasMatchesOf z ws m) e h program_is_simple).0
+
 pub asked-of : (a : App) (ws : List Text) (m : ArgMatches) → a ≡ program → HasMatchesOf a ws m → asked_of ws ≡ asked_from (rows_of (found_of m)) (subcommand_rows_of m)
 asked-of a ws m e h =
     let is = subst (λ (z : App). HasMatchesOf z ws m) e h program_is_simple in
@@ -44,11 +47,12 @@ module _ {Z : Type 0} where
       let at : rows ≡ rows_of (found_of (out-SubCommand (box_value b)).matches) = cc in
       ap₂ (λ (n : Text) (r : List Row). Some (n, r)) (sym same) (sym at)
 
-pub asks : (rows : List Row) (sub : Option (Text × List Row)) (name : Text) (inner : List Row) (dir : Option Text) (title : Text) (dry : Bool) (a : Action) → sub ≡ Some (name, inner)
+pub asks : (rows : List Row) (sub : Option (Text × List Row)) (name : Text) (inner : List Row) (dir : Option Text) (title : Text) (dry json : Bool) (a : Action) → sub ≡ Some (name, inner)
     → names_no_folder (first_of (codes "DIR") rows) ≡ false → dir ≡ first_of (codes "DIR") rows → action_of name inner ≡ Ok a
-    → is_title (title_in rows) ≡ true → title ≡ title_in rows → dry ≡ is_dry rows → asked_from rows sub ≡ Ok (record { dir = dir; title = title; dry_run = dry; action = a })
+    → is_title (title_in rows) ≡ true → title ≡ title_in rows → dry ≡ is_dry rows → json ≡ is_json_answer rows
+    → asked_from rows sub ≡ Ok (record { dir = dir; title = title; dry_run = dry; json = json; action = a })
 unfolding asked_from
-asks rows sub name inner dir title dry a is folder at action good same flagged = rw (is, folder, action, good, at, same, flagged) refl
+asks rows sub name inner dir title dry json a is folder at action good same flagged answered = rw (is, folder, action, good, at, same, flagged, answered) refl
 
 pub refuses : (rows : List Row) (sub : Option (Text × List Row)) (name : Text) (inner : List Row) (e : UsageFault) → sub ≡ Some (name, inner)
     → names_no_folder (first_of (codes "DIR") rows) ≡ false → action_of name inner ≡ Err e → asked_from rows sub ≡ Err e

@@ -26,10 +26,15 @@ title_in rows = word_at (codes "TEXT") rows
 abbrev pub is_dry : List Row → Bool
 is_dry rows = has_flag (codes "dry-run") rows
 
+-- whether it is answered in JSON
+abbrev pub is_json_answer : List Row → Bool
+is_json_answer rows = has_flag (codes "json") rows
+
 -- this action, in the given folder and with the given title
 abbrev pub with_title : List Row → Action → Result Asked UsageFault
 with_title rows action =
-    if is_title (title_in rows) then Ok (record { dir = first_of (codes "DIR") rows; title = title_in rows; dry_run = is_dry rows; action = action })
+    if is_title (title_in rows)
+    then Ok (record { dir = first_of (codes "DIR") rows; title = title_in rows; dry_run = is_dry rows; json = is_json_answer rows; action = action })
     else Err BadTitle
 
 -- the request of the words before the subcommand, and of its name and words
@@ -45,11 +50,11 @@ asked_of words = asked_from (matches_of program words) (subcommand_of program wo
 
 -- `--help`; nothing is said of its text
 abbrev pub help : Asked
-help = record { dir = None; title = []; dry_run = false; action = Help [] }
+help = record { dir = None; title = []; dry_run = false; json = false; action = Help [] }
 
 -- `--version`
 abbrev pub version : Asked
-version = record { dir = None; title = []; dry_run = false; action = Version }
+version = record { dir = None; title = []; dry_run = false; json = false; action = Version }
 
 -- by a kind of fault that clap finds: it shows help or the version, or refuses the words
 abbrev pub answer_by : ErrorKind → Result Asked UsageFault
@@ -73,3 +78,12 @@ without_help_text other = other
 
 abbrev pub without_text : Asked → Asked
 without_text a = record a { action = without_help_text a.action }
+
+-- whether words are answered in JSON, by all faults that clap finds and by what the words say: where it finds one, it refuses them, or shows help or the version
+abbrev pub json_by : Kinds → Bool → Bool
+json_by [] json = json
+json_by (kind ∷ kinds) json = false
+
+-- for any words: clap takes them, and `--json` is before the subcommand
+abbrev pub wants_json : List Text → Bool
+wants_json words = json_by (fault_of program words) (is_json_answer (matches_of program words))

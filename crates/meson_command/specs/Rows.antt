@@ -1,10 +1,11 @@
 -- Command lines, each with its request.
-use Rattle.std.specs.Prelude.{◌≡◌, ℕ, ◌==◌, false, true, List, [], ◌∷◌, ◌++◌, codes, if◌then◌else◌, Some, None, Result, Ok, Err}
+use Rattle.std.specs.Prelude.{◌≡◌, ℕ, ◌==◌, Bool, false, true, List, [], ◌∷◌, ◌++◌, codes, if◌then◌else◌, Some, None, Result, Ok, Err}
 use Rattle.meson_calls.specs.declared.call.Role.TheVariants as role
 use Rattle.meson_steps.specs.declared.command.Command.TheVariants as command
 use Rattle.meson_steps.specs.declared.command.Setting.TheVariants as setting
+use Rattle.meson_json.specs.declared.member_check.UnknownMembers.TheVariants as unknown
 use Rattle.meson_command.specs.Actions.{run}
-use Rattle.meson_command.specs.Asking.{asked_by, help, version}
+use Rattle.meson_command.specs.Asking.{asked_by, help, version, wants_json}
 use Rattle.meson_command.specs.declared.asked.Action.{Action}
 use Rattle.meson_command.specs.declared.asked.Action.TheVariants as action
 use Rattle.meson_command.specs.declared.asked.Action.TheVariants.{Info, ScriptText, ScriptFile, Undo, UndoTo, UndoChecked, Redo, History, ForgetOldest, ForgetAll, Sums}
@@ -23,17 +24,21 @@ words_in [] = [] ∷ []
 words_in (b ∷ bytes) = if b == 32 then [] ∷ words_in bytes else onto b (words_in bytes)
 
 abbrev in_place : Action → Result Asked UsageFault
-in_place action = Ok (record { dir = None; title = []; dry_run = false; action = action })
+in_place action = Ok (record { dir = None; title = []; dry_run = false; json = false; action = action })
 
 abbrev there : List ℕ → Action → Result Asked UsageFault
-there dir action = Ok (record { dir = Some dir; title = []; dry_run = false; action = action })
+there dir action = Ok (record { dir = Some dir; title = []; dry_run = false; json = false; action = action })
 
 abbrev named : List ℕ → Action → Result Asked UsageFault
-named title action = Ok (record { dir = None; title = title; dry_run = false; action = action })
+named title action = Ok (record { dir = None; title = title; dry_run = false; json = false; action = action })
 
 -- the same, shown and not done
 abbrev shown : Action → Result Asked UsageFault
-shown action = Ok (record { dir = None; title = []; dry_run = true; action = action })
+shown action = Ok (record { dir = None; title = []; dry_run = true; json = false; action = action })
+
+-- the same, in place and answered in JSON
+abbrev in_json : Action → Result Asked UsageFault
+in_json action = Ok (record { dir = None; title = []; dry_run = false; json = true; action = action })
 
 -- a line after the program's name has this request
 abbrev asks : List ℕ → Result Asked UsageFault → Type 0
@@ -62,7 +67,21 @@ Done =
     × asks (codes "kwargs delete target e install true") (in_place (run (command.KwargsDelete role.Target (codes "e") (codes "install" ∷ []))))
     × asks (codes "default-options set cpp_std c++20") (in_place (run (command.OptionsSet ((codes "cpp_std", codes "c++20") ∷ []))))
     × asks (codes "default-options delete cpp_std c++20") (in_place (run (command.OptionsDelete (codes "cpp_std" ∷ []))))
+    × asks (codes "default-options unset cpp_std werror") (in_place (run (command.OptionsDelete (codes "cpp_std" ∷ codes "werror" ∷ []))))
+    × asks (codes "default-options unset") (in_place (run (command.OptionsDelete [])))
+    × asks (codes "default-options delete") (in_place (run (command.OptionsDelete [])))
     × asks (codes "--sourcedir d undo") (there (codes "d") Undo)
+    × asks (codes "-s d undo") (there (codes "d") Undo)
+    × asks (codes "-sd undo") (there (codes "d") Undo)
+    × asks (codes "-s=d undo") (there (codes "d") Undo)
+    × asks (codes "-s d target l add_target a.c -s sub --type jar")
+    (there (codes "d") (run (command.TargetAdd (codes "l") (codes "jar") (codes "sub") (codes "a.c" ∷ []))))
+    × asks (codes "tgt e rm -s sub a.c") (in_place (run (command.SourcesRemove (codes "e") (codes "a.c" ∷ []))))
+    × asks (codes "def delete cpp_std c++20") (in_place (run (command.OptionsDelete (codes "cpp_std" ∷ []))))
+    × asks (codes "cmd -") (in_place (ScriptFile (codes "-") unknown.Ignored))
+    × asks (codes "-V undo") (in_place Undo)
+    × asks (codes "--verbose undo") (in_place Undo)
+    × asks (codes "-Vs d undo") (there (codes "d") Undo)
     × asks (codes "redo") (in_place Redo)
     × asks (codes "--sourcedir d undo --to 3") (there (codes "d") (UndoTo 3))
     × asks (codes "undo --to=007") (in_place (UndoTo 7))
@@ -78,7 +97,7 @@ Done =
 abbrev pub Titled : Type 0
 Titled =
     asks (codes "--title more target e rm a.c") (named (codes "more") (run (command.SourcesRemove (codes "e") (codes "a.c" ∷ []))))
-    × asks (codes "--title a --sourcedir d redo") (Ok (record { dir = Some (codes "d"); title = codes "a"; dry_run = false; action = Redo }))
+    × asks (codes "--title a --sourcedir d redo") (Ok (record { dir = Some (codes "d"); title = codes "a"; dry_run = false; json = false; action = Redo }))
     × asks_titled (codes "add B") (named (codes "add B") Undo)
     × asks_titled [] (in_place Undo)
     × asks_titled (codes "a\tb") (Err BadTitle)
@@ -92,13 +111,40 @@ abbrev pub Shown : Type 0
 Shown =
     asks (codes "--dry-run undo") (shown Undo)
     × asks (codes "--dry-run target e rm a.c") (shown (run (command.SourcesRemove (codes "e") (codes "a.c" ∷ []))))
-    × asks (codes "--sourcedir d --dry-run --title a redo") (Ok (record { dir = Some (codes "d"); title = codes "a"; dry_run = true; action = Redo }))
+    × asks (codes "--sourcedir d --dry-run --title a redo") (Ok (record { dir = Some (codes "d"); title = codes "a"; dry_run = true; json = false; action = Redo }))
     × asks (codes "--dry-run undo --to 2") (shown (UndoTo 2))
     × asks (codes "--dry-run undo --check sums") (shown (UndoChecked 1 (codes "sums")))
     × asks (codes "--dry-run list --json") (shown (action.List true))
     × asks (codes "undo --dry-run") (Err Usage)
     × asks (codes "--dry-run --dry-run undo") (Err Usage)
     × asks (codes "--dry-run=true undo") (Err Usage)
+
+-- a line after the program's name is answered in JSON, or is not
+abbrev wants : List ℕ → Bool → Type 0
+wants line json = wants_json (codes "T" ∷ words_in line) ≡ json
+
+-- what is answered in JSON, the faults of words that clap takes too
+abbrev pub Json : Type 0
+Json =
+    asks (codes "--json undo") (in_json Undo)
+    × asks (codes "--json list") (in_json (action.List false))
+    × asks (codes "--json list --json") (in_json (action.List true))
+    × asks (codes "--sourcedir d --json --dry-run --title a redo")
+    (Ok (record { dir = Some (codes "d"); title = codes "a"; dry_run = true; json = true; action = Redo }))
+    × asks (codes "undo --json") (Err Usage)
+    × asks (codes "--json --json undo") (Err Usage)
+    × asks (codes "--json=true undo") (Err Usage)
+    × asks (codes "--json --help") (Ok help)
+    × asks (codes "--json --version") (Ok version)
+    × wants (codes "--json list") true
+    × wants (codes "list --json") false
+    × wants (codes "--json undo --to 0") true
+    × wants (codes "--json kwargs set project / version") true
+    × wants (codes "--json --sourcedir= undo") true
+    × wants (codes "--json undo now") false
+    × wants (codes "--json --help") false
+    × wants (codes "--json") false
+    × wants (codes "undo") false
 
 -- what is listed, which scripts are meant, help and the version
 abbrev pub Other : Type 0
@@ -109,12 +155,15 @@ Other =
     × asks (codes "list") (in_place (action.List false))
     × asks (codes "--sourcedir d list --json") (there (codes "d") (action.List true))
     × asks (codes "--sourcedir d list --sums") (there (codes "d") Sums)
-    × asks (codes "command [1]") (in_place (ScriptText (codes "[1]")))
-    × (asked_by (codes "T" ∷ codes "command" ∷ codes " \t{" ∷ []) ≡ in_place (ScriptText (codes " \t{")))
-    × asks (codes "command changes.json") (in_place (ScriptFile (codes "changes.json")))
-    × asks (codes "command -") (in_place (ScriptFile (codes "-")))
+    × asks (codes "command [1]") (in_place (ScriptText (codes "[1]") unknown.Ignored))
+    × (asked_by (codes "T" ∷ codes "command" ∷ codes " \t{" ∷ []) ≡ in_place (ScriptText (codes " \t{") unknown.Ignored))
+    × asks (codes "command changes.json") (in_place (ScriptFile (codes "changes.json") unknown.Ignored))
+    × asks (codes "command -") (in_place (ScriptFile (codes "-") unknown.Ignored))
+    × asks (codes "command --strict [1]") (in_place (ScriptText (codes "[1]") unknown.Refused))
+    × asks (codes "command - --strict") (in_place (ScriptFile (codes "-") unknown.Refused))
     × asks (codes "--help") (Ok help)
     × asks (codes "target e add --help") (Ok help)
+    × asks (codes "def --help") (Ok help)
     × asks (codes "--version") (Ok version)
     × asks (codes "--title a --version undo") (Ok version)
     × asks (codes "--version now") (Ok version)
@@ -152,17 +201,39 @@ Refused =
     × asks (codes "list --sums --json") (Err Usage)
     × asks (codes "list --sums sums") (Err Usage)
     × asks (codes "list --sums=sums") (Err Usage)
-    × asks (codes "--json list") (Err Usage)
+    × asks (codes "command --strict") (Err Usage)
+    × asks (codes "command --strict --strict -") (Err Usage)
+    × asks (codes "command --strict=true -") (Err Usage)
+    × asks (codes "--strict command -") (Err Usage)
+    × asks (codes "target e add --strict") (Err Usage)
     × asks (codes "help") (Err Usage)
     × asks (codes "-h") (Err Usage)
     × asks (codes "-V") (Err Usage)
+    × asks (codes "-V -V undo") (Err Usage)
+    × asks (codes "-V --verbose undo") (Err Usage)
+    × asks (codes "--verbose=true undo") (Err Usage)
+    × asks (codes "undo -V") (Err Usage)
+    × asks (codes "undo --verbose") (Err Usage)
+    × asks (codes "target") (Err Usage)
+    × asks (codes "tgt") (Err Usage)
+    × asks (codes "tg e rm a.c") (Err Usage)
+    × asks (codes "-S undo") (Err Usage)
     × asks (codes "undo --version") (Err Usage)
     × asks (codes "target e add -x") (Err Usage)
     × asks (codes "--sourcedir a --sourcedir b undo") (Err Usage)
+    × asks (codes "--sourcedir a -s b undo") (Err Usage)
+    × asks (codes "-s a -s b undo") (Err Usage)
+    × asks (codes "-s b") (Err Usage)
+    × asks (codes "-s= undo") (Err Usage)
+    × asks (codes "undo -s b") (Err Usage)
+    × asks (codes "target l add_target -s a --subdir a") (Err Usage)
     × (asked_by (codes "T" ∷ codes "--sourcedir" ∷ [] ∷ codes "undo" ∷ []) ≡ Err Usage)
     × asks (codes "undo --sourcedir d") (Err Usage)
     × asks (codes "kwargs set project / version") (Err OddWords)
     × asks (codes "default-options set a 1 a 2") (Err RepeatedKey)
+    × asks (codes "default-options unset a b a") (Err RepeatedKey)
+    × asks (codes "default-options delete a") (Err OddWords)
+    × asks (codes "default-options unset -x") (Err Usage)
     × asks (codes "kwargs remove_regex target e") (Err Unsupported)
     × asks (codes "kwargs remove_regex target e a") (Err OddWords)
     × asks (codes "kwargs grow target e a") (Err Usage)

@@ -4,7 +4,7 @@ ghost use Rattle.std.specs.Prelude.{◌≡◌, ◌≢◌, [], Err, IfErr, IfOk, 
 ghost use Rattle.clap.specs.Words.{Row, Text as Word, found_of, rows_of, subcommand_rows_of, takes};
 ghost use Rattle.meson_json.specs.Titles.{is_title};
 ghost use Rattle.meson_command.specs.Actions.{action_of, other_action};
-ghost use Rattle.meson_command.specs.Asking.{asked_by, asked_from, asked_of, names_no_folder, without_text};
+ghost use Rattle.meson_command.specs.Asking.{asked_by, asked_from, asked_of, names_no_folder, wants_json, without_text};
 ghost use Rattle.meson_command.specs.Program.{program};
 ghost use Rattle.meson_command.specs.declared.fault.UsageFault.TheVariants.{BadTitle, OutOfMemory, Usage};
 
@@ -18,10 +18,10 @@ use crate::target::target_action;
 use crate::words::{is_set, word_or};
 use clap::ArgMatches;
 use clap::error::ErrorKind;
-use meson_json::{Script, is_title, owned};
+use meson_json::{Script, UnknownMembers, is_title, owned};
 use meson_splice::Text;
 use meson_steps::command::Command;
-use std::alloc::Global;
+use std::alloc::{AllocError, Global};
 
 /// What is to be done.
 #[derive(Drop)]
@@ -31,9 +31,9 @@ pub enum Action {
     /// List what this command reports, and change nothing.
     Info(Command),
     /// Run the commands of this JSON text.
-    ScriptText(Text),
+    ScriptText { text: Text, unknown: UnknownMembers },
     /// Run the commands in the file of this name; a folder reads `-` from standard input.
-    ScriptFile(Text),
+    ScriptFile { name: Text, unknown: UnknownMembers },
     /// Take back the newest change.
     Undo,
     /// Take back this number of the newest changes: all of them or none.
@@ -68,6 +68,8 @@ pub struct Asked {
     pub title: Text,
     /// Whether the change is shown, and not done.
     pub dry_run: bool,
+    /// Whether it is answered in JSON.
+    pub json: bool,
     pub action: Action,
 }
 
@@ -158,28 +160,31 @@ fn asked_from(alloc: Global, matches: &ArgMatches<'_>) -> Result<Asked, UsageFau
     let titled = with_title(alloc, (dir, action), word)?;
     let ((dir, action), title) = titled;
     let dry_run = is_set(matches, "dry-run");
+    let json = is_set(matches, "json");
     Ok(Asked {
         dir,
         title,
         dry_run,
+        json,
         action,
     })
 }
 
 /// The request of words that clap answers itself: without a folder, and without a title.
 fn shown(alloc: Global, action: Action) -> Asked
-    ensures { result ≡ record { dir = None; title = []; dry_run = false; action = action } }
+    ensures { result ≡ record { dir = None; title = []; dry_run = false; json = false; action = action } }
 {
     Asked {
         dir: None,
         title: Text::of(String::new(alloc)),
         dry_run: false,
+        json: false,
         action,
     }
 }
 
 /// The request of the words of a command line, of which the first is the program's name. They are those of the Rewriter page of the Meson manual; `undo`,
-/// `redo`, `history`, `list`, `--title`, `--dry-run`, `--subdir` and `--type` are this program's own. Values, ids and names are passed on as given.
+/// `redo`, `history`, `list`, `--title`, `--dry-run`, `--json`, `--subdir` and `--type` are this program's own. Values, ids and names are passed on as given.
 ///
 /// # Errors
 /// The first of these faults, in this order. A word is missing, unknown or one too many, a number is not valid, two listings are requested, or the folder is
@@ -204,6 +209,24 @@ pub fn command_of(alloc: Global, words: &[String]) -> Result<Asked, UsageFault>
             }
             ErrorKind::DisplayVersion => Ok(shown(alloc, Action::Version)),
             _ => Err(UsageFault::Usage),
+        },
+    }
+}
+
+/// Whether the words of a command line, of which the first is the program's name, want an answer in JSON: clap takes them, and `--json` is before the
+/// subcommand. It says so of words that `command_of` refuses, too. Where clap does not take the words, or where it shows help or the version, they do not.
+///
+/// # Errors
+/// Only when an allocation fails.
+pub fn wants_json(alloc: Global, words: &[String]) -> Result<bool, AllocError>
+    ensures { IfOk result (λ json. json ≡ wants_json (map string_bytes words.now)) }
+{
+    let command = named_program(alloc)?;
+    match command.try_get_matches_from(words) {
+        Ok(matches) => Ok(is_set(&matches, "json")),
+        Err(error) => match error.kind() {
+            ErrorKind::OutOfMemory => Err(AllocError),
+            _ => Ok(false),
         },
     }
 }

@@ -7,6 +7,7 @@ pub(crate) const PROGRAM: &str = "Edit the meson.build files of a project in pla
 
 pub(crate) const BELOW_PROGRAM: &str = "\
 Give these options before the subcommand.
+tgt, def and cmd are other names of target, default-options and command.
 Files change only where the command says: order, comments and layout stay.
 Each accepted run is kept in the file meson.rewrite-log, so undo can take it
 back. Begin with list: it prints the targets and the build files.
@@ -26,6 +27,10 @@ pub(crate) const DIR: &str = "Folder of the root file [default: the working fold
 
 pub(crate) const DRY_RUN: &str = "Show the changes as a unified diff, and write nothing";
 
+pub(crate) const ANSWER_JSON: &str = "Print what is done, or the refusal, as one line of JSON";
+
+pub(crate) const VERBOSE: &str = "Print no more than without it";
+
 pub(crate) const TITLE: &str = "\
 What the run is for, in at most 200 bytes;
 undo, redo and history print it";
@@ -34,7 +39,7 @@ pub(crate) const TARGET: &str = "Edit, list, add or remove a target";
 
 pub(crate) const BELOW_TARGET: &str = "\
 Options of the program, before the subcommand (see meson_rewrite --help):
-  --sourcedir DIR, --title TEXT, --dry-run
+  --sourcedir DIR, --title TEXT, --dry-run, --json
 
 Operations:
   add, rm                          add sources, remove sources
@@ -66,7 +71,7 @@ pub(crate) const KWARGS: &str = "Edit or list keyword arguments";
 
 pub(crate) const BELOW_KWARGS: &str = "\
 Options of the program, before the subcommand (see meson_rewrite --help):
-  --sourcedir DIR, --title TEXT, --dry-run
+  --sourcedir DIR, --title TEXT, --dry-run, --json
 
 Operations:
   set     give each key its value
@@ -104,24 +109,25 @@ pub(crate) const DEFAULT_OPTIONS: &str = "Edit the default options of the projec
 
 pub(crate) const BELOW_DEFAULT_OPTIONS: &str = "\
 Options of the program, before the subcommand (see meson_rewrite --help):
-  --sourcedir DIR, --title TEXT, --dry-run
+  --sourcedir DIR, --title TEXT, --dry-run, --json
 
 Operations:
   set     give each option its value
   delete  remove each option; give any word as its value
+  unset   remove each option; its words are the options alone
 
 In the build file the options may be one text, an array of texts, or a
 dictionary whose keys are texts. No option may be given twice.
 
 Examples:
   meson_rewrite default-options set c_std c17 werror true
-  meson_rewrite default-options delete warning_level x";
+  meson_rewrite default-options unset warning_level c_std";
 
 pub(crate) const COMMAND: &str = "Run the commands of a script";
 
 pub(crate) const BELOW_COMMAND: &str = "\
 Options of the program, before the subcommand (see meson_rewrite --help):
-  --sourcedir DIR, --title TEXT, --dry-run
+  --sourcedir DIR, --title TEXT, --dry-run, --json
 
 JSON is the script, or says where it is:
   [.. or {..      a word that begins so is the script itself
@@ -141,15 +147,17 @@ log as it is.
 
 Examples:
   meson_rewrite command changes.json
-  meson_rewrite command - <changes.json
+  meson_rewrite command --strict - <changes.json
   meson_rewrite command '[{\"type\":\"target\",\"operation\":\"src_add\",
     \"target\":\"tide\",\"sources\":[\"moon.c\"]}]'";
+
+pub(crate) const STRICT: &str = "Refuse members of the script that have no effect";
 
 pub(crate) const UNDO: &str = "Take back the newest run";
 
 pub(crate) const BELOW_UNDO: &str = "\
 Options of the program, before the subcommand (see meson_rewrite --help):
-  --sourcedir DIR, --title TEXT, --dry-run
+  --sourcedir DIR, --title TEXT, --dry-run, --json
 
 If the files changed after the run, by hand or by a checkout:
   - Edits by hand stay.
@@ -179,7 +187,7 @@ pub(crate) const REDO: &str = "Do again what the last undo took back";
 
 pub(crate) const BELOW_REDO: &str = "\
 Options of the program, before the subcommand (see meson_rewrite --help):
-  --sourcedir DIR, --title TEXT, --dry-run
+  --sourcedir DIR, --title TEXT, --dry-run, --json
 
 One redo repeats one run; it takes no --to.
 A new run drops what could be redone.
@@ -194,7 +202,7 @@ pub(crate) const HISTORY: &str = "List the runs that can be undone and redone";
 
 pub(crate) const BELOW_HISTORY: &str = "\
 Options of the program, before the subcommand (see meson_rewrite --help):
-  --sourcedir DIR, --title TEXT, --dry-run
+  --sourcedir DIR, --title TEXT, --dry-run, --json
 
 It prints one line for each run:
   undo 1, undo 2, ..  the runs that undo takes back, the newest first
@@ -219,7 +227,7 @@ pub(crate) const LIST: &str = "List the targets and the build files";
 
 pub(crate) const BELOW_LIST: &str = "\
 Options of the program, before the subcommand (see meson_rewrite --help):
-  --sourcedir DIR, --title TEXT, --dry-run
+  --sourcedir DIR, --title TEXT, --dry-run, --json
 
 It prints one line for each target, then one for each build file, then one for
 each subdir call that is not entered:

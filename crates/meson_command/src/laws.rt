@@ -1,27 +1,34 @@
 //! Laws of the command line. The functions do nothing: what they ensure is the law.
 
-ghost use Rattle.meson_command.specs.Laws.{HelpWhereAsked, OddWordsAreOdd, PairsAreTheWords, UsageMeansUnknown, VersionWhereAsked};
-ghost use Rattle.meson_command.specs.Rows.{Done, Other, Refused, Shown, Titled};
+ghost use Rattle.meson_command.specs.Laws.{HelpWhereAsked, JsonWhereWanted, OddWordsAreOdd, PairsAreTheWords, UnsetIsDelete, UsageMeansUnknown, VersionWhereAsked};
+ghost use Rattle.meson_command.specs.Rows.{Done, Json, Other, Refused, Shown, Titled};
 
 /// The requests of some command lines.
 pub fn rows()
     ensures done { Done }
     ensures titled { Titled }
     ensures shown { Shown }
+    ensures json { Json }
     ensures other { Other }
     ensures refused { Refused }
 {}
 
-/// Names with values are the words two by two, if no name is repeated. An odd number of words is refused.
+/// Names with values are the words two by two, if no name is repeated. An odd number of words is refused. `unset` needs no values, and is else `delete`.
 pub fn pairs_are_the_words()
     ensures pairs { PairsAreTheWords }
     ensures odd { OddWordsAreOdd }
+    ensures unset { UnsetIsDelete }
 {}
 
 /// Help is the answer exactly where the words request it from clap, and so is the version.
 pub fn help_where_asked()
     ensures help { HelpWhereAsked }
     ensures version { VersionWhereAsked }
+{}
+
+/// A request is answered in JSON exactly where `wants_json` says so of its words.
+pub fn json_where_wanted()
+    ensures { JsonWhereWanted }
 {}
 
 /// Words that clap takes are wrong usage only in these cases: the folder is empty, an operation or a function is unknown, a number is not valid, or two

@@ -8,7 +8,8 @@ use Rattle.serde_json.specs.View.{view, items_view}
 use Rattle.serde_json.specs.declared.value.Value.{Value}
 use Rattle.serde_json.proofs.Views.{items_len-items_view}
 use Rattle.meson_splice.specs.Patch.{then_ok}
-use Rattle.meson_json.specs.Scripts.{entry_of, entries_of, max_commands}
+use Rattle.meson_json.specs.Scripts.{entry_by, entries_of, max_commands}
+use Rattle.meson_json.specs.declared.member_check.UnknownMembers.{UnknownMembers}
 use Rattle.meson_steps.specs.declared.command.Command.{Command}
 use Rattle.meson_json.specs.declared.fault.ScriptFault.{ScriptFault}
 
@@ -20,19 +21,19 @@ onto : (done : List Command) (c : Command) (r : Result (List Command) ScriptFaul
 onto done c (Err e) = refl
 onto done c (Ok rest) = ap (λ t. Ok t) (sym (append_assoc done (c ∷ []) rest))
 
-pub entries-more : (vs : List Value) (i : ℕ) (done : List Command) (v : Value) (c : Command) → i < length vs → v ≡ get_or vs i v → entry_of i (view v) ≡ Ok c
-    → after_done done (entries_of i (items_view (drop i vs))) ≡ after_done (done ++ c ∷ []) (entries_of (i + 1) (items_view (drop (i + 1) vs)))
+pub entries-more : (u : UnknownMembers) (vs : List Value) (i : ℕ) (done : List Command) (v : Value) (c : Command) → i < length vs → v ≡ get_or vs i v → entry_by u i (view v) ≡ Ok c
+    → after_done done (entries_of u i (items_view (drop i vs))) ≡ after_done (done ++ c ∷ []) (entries_of u (i + 1) (items_view (drop (i + 1) vs)))
 unfolding entries_of
-entries-more vs i done v c h is gives = rw (drop-cons vs i v, ← is, gives, add-one) (onto done c (entries_of (suc i) (items_view (drop (suc i) vs))))
+entries-more u vs i done v c h is gives = rw (drop-cons vs i v, ← is, gives, add-one) (onto done c (entries_of u (suc i) (items_view (drop (suc i) vs))))
 
-pub entries-refused : (vs : List Value) (i : ℕ) (done : List Command) (v : Value) (e : ScriptFault) → i < length vs → v ≡ get_or vs i v → entry_of i (view v) ≡ Err e
-    → after_done done (entries_of i (items_view (drop i vs))) ≡ Err e
+pub entries-refused : (u : UnknownMembers) (vs : List Value) (i : ℕ) (done : List Command) (v : Value) (e : ScriptFault) → i < length vs → v ≡ get_or vs i v → entry_by u i (view v) ≡ Err e
+    → after_done done (entries_of u i (items_view (drop i vs))) ≡ Err e
 unfolding entries_of
-entries-refused vs i done v e h is gives = rw (drop-cons vs i v, ← is, gives) refl
+entries-refused u vs i done v e h is gives = rw (drop-cons vs i v, ← is, gives) refl
 
-pub entries-all : (vs : List Value) (i : ℕ) (done : List Command) → length vs ≡ i → after_done done (entries_of i (items_view (drop i vs))) ≡ Ok done
+pub entries-all : (u : UnknownMembers) (vs : List Value) (i : ℕ) (done : List Command) → length vs ≡ i → after_done done (entries_of u i (items_view (drop i vs))) ≡ Ok done
 unfolding entries_of
-entries-all vs i done h = rw (← h, drop-length vs, append-nil) refl
+entries-all u vs i done h = rw (← h, drop-length vs, append-nil) refl
 
 pub too_many : (vs : List Value) → 4096 < length vs → nat_lt max_commands (items_len (items_view vs)) ≡ true
 too_many vs h = rw (items_len-items_view vs) (grind (arith, nat_tests))

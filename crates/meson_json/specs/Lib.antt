@@ -5,6 +5,7 @@ pub mod Operations
 pub mod Targets
 pub mod Settings
 pub mod Titles
+pub mod Known
 pub mod Scripts
 pub mod Messages
 pub mod Rows

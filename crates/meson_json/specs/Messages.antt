@@ -2,7 +2,7 @@
 use Rattle.std.specs.Prelude.{ℕ, List, ◌++◌, codes, decimal}
 use Rattle.meson_json.specs.declared.fault.ScriptFault.{ScriptFault}
 use Rattle.meson_json.specs.declared.fault.ScriptFault.TheVariants.{NotJson, NotArray, TooMany, NotObject, UnknownType, BadField}
-use Rattle.meson_json.specs.declared.fault.ScriptFault.TheVariants.{UnknownOperation, Unsupported, BadLog, OutOfMemory}
+use Rattle.meson_json.specs.declared.fault.ScriptFault.TheVariants.{UnknownOperation, Unsupported, UnknownMember, BadLog, OutOfMemory}
 
 -- of the entry with that number
 abbrev pub entry_prefix : ℕ → List ℕ → List ℕ
@@ -17,5 +17,6 @@ script_fault_text (UnknownType index) = entry_prefix index (codes ": J5 unknown 
 script_fault_text (BadField index member) = entry_prefix index (codes ": J6 bad field " ++ member)
 script_fault_text (UnknownOperation index) = entry_prefix index (codes ": J7 unknown operation")
 script_fault_text (Unsupported index) = entry_prefix index (codes ": J8 unsupported")
+script_fault_text (UnknownMember index member) = entry_prefix index (codes ": J12 unknown member " ++ member)
 script_fault_text BadLog = codes "J9 bad log"
 script_fault_text OutOfMemory = codes "out of memory"

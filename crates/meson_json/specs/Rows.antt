@@ -1,6 +1,6 @@
 -- Texts of scripts, each with its commands or its first fault; and logs.
-use Rattle.std.specs.Prelude.{◌≡◌, ℕ, ◌==◌, List, [], ◌∷◌, map, codes, if◌then◌else◌, true, Some, None, Result, Ok, Err}
-use Rattle.serde_json.specs.Data.{Items, array}
+use Rattle.std.specs.Prelude.{◌≡◌, ℕ, ◌==◌, List, [], ◌∷◌, map, codes, if◌then◌else◌, true, Option, Some, None, Result, Ok, Err}
+use Rattle.serde_json.specs.Data.{Data, Items, array}
 use Rattle.serde_json.specs.Events.{items_len}
 use Rattle.serde_json.specs.Read.{read}
 use Rattle.meson_splice.specs.declared.history.History.{History}
@@ -11,15 +11,20 @@ use Rattle.meson_steps.specs.declared.command.Command.TheVariants as command
 use Rattle.meson_steps.specs.declared.command.Setting.TheVariants as setting
 use Rattle.meson_json.specs.Log.{log_of, logged}
 use Rattle.meson_json.specs.Scripts.{script_of}
+use Rattle.meson_json.specs.declared.member_check.UnknownMembers.TheVariants.{Ignored, Refused}
 use Rattle.meson_json.specs.declared.fault.ScriptFault.{ScriptFault}
-use Rattle.meson_json.specs.declared.fault.ScriptFault.TheVariants.{NotJson, NotArray, TooMany, NotObject, UnknownType, BadField, UnknownOperation, Unsupported}
+use Rattle.meson_json.specs.declared.fault.ScriptFault.TheVariants.{NotJson, NotArray, TooMany, NotObject, UnknownType, BadField, UnknownOperation, Unsupported, UnknownMember}
 
 -- a text of JSON, in which a single quote (39) is written for a double one (34)
 abbrev pub double_quoted : List ℕ → List ℕ
 double_quoted text = map (λ b. if b == 39 then 34 else b) text
 
 abbrev gives : List ℕ → Result (List Command) ScriptFault → Type 0
-gives text commands = script_of (read (double_quoted text)) ≡ commands
+gives text commands = script_of Ignored (read (double_quoted text)) ≡ commands
+
+-- the same where members that are not known are refused
+abbrev gives_known : List ℕ → Result (List Command) ScriptFault → Type 0
+gives_known text commands = script_of Refused (read (double_quoted text)) ≡ commands
 
 -- an entry alone
 abbrev stands_for : List ℕ → Command → Type 0
@@ -64,7 +69,7 @@ Faults =
     gives (codes "[") (Err NotJson)
     × gives (codes "{}") (Err NotArray)
     × gives (codes "[]") (Ok [])
-    × ((entries : Items) → items_len entries ≡ 4097 → script_of (Some (array entries)) ≡ Err TooMany)
+    × ((entries : Items) → items_len entries ≡ 4097 → script_of Ignored (Some (array entries)) ≡ Err TooMany)
     × gives (codes "[1]") (Err (NotObject 0))
     × gives (codes "[{}]") (Err (UnknownType 0))
     × gives (codes "[{'type':'x'}]") (Err (UnknownType 0))
@@ -76,6 +81,27 @@ Faults =
     × gives (codes "[{'type':'target','operation':'info','target':'e','subdir':null}]") (Err (BadField 0 (codes "subdir")))
     × gives (codes "[{'type':'default_options','operation':'set','options':{'a':[]}}]") (Err (BadField 0 (codes "options")))
     × gives (codes "[{'type':'target','operation':'info','target':'e'},[]]") (Err (NotObject 1))
+
+-- where members that are not known are refused: of each entry last, the first in the order of the bytes of the names
+abbrev pub KnownMembers : Type 0
+KnownMembers =
+    gives_known (codes "[{'type':'target','target':'l','operation':'target_add','sources':['a.c'],'subdir':'s','target_type':'jar'}]")
+    (Ok (command.TargetAdd (codes "l") (codes "jar") (codes "s") (codes "a.c" ∷ []) ∷ []))
+    × gives_known (codes "[{'type':'kwargs','function':'target','id':'e','operation':'delete','kwargs':{'install':null,'a':1}}]")
+    (Ok (command.KwargsDelete role.Target (codes "e") (codes "a" ∷ codes "install" ∷ []) ∷ []))
+    × gives_known (codes "[{'type':'default_options','operation':'delete','options':{'cpp_std':0}}]") (Ok (command.OptionsDelete (codes "cpp_std" ∷ []) ∷ []))
+    × gives_known (codes "[{'type':'target','target':'l','operation':'target_rm','kind':1}]") (Err (UnknownMember 0 (codes "kind")))
+    × gives_known (codes "[{'type':'target','target':'e','operation':'info','subdir':''}]") (Err (UnknownMember 0 (codes "subdir")))
+    × gives_known (codes "[{'type':'kwargs','function':'project','id':'/','operation':'info','kwargs':{}}]") (Err (UnknownMember 0 (codes "kwargs")))
+    × gives_known (codes "[{'type':'default_options','operation':'delete','z':1,'option':{},'y':2}]") (Err (UnknownMember 0 (codes "option")))
+    × gives_known (codes "[{'type':'target','operation':'info','target':'e','subdir':null}]") (Err (BadField 0 (codes "subdir")))
+    × gives_known (codes "[{'type':'kwargs','operation':'rename','a':1}]") (Err (UnknownOperation 0))
+    × gives_known (codes "[{'type':'target','operation':'info','target':'e','':1},[]]") (Err (UnknownMember 0 []))
+    × gives_known (codes "[{'type':'target','operation':'info','target':'e'},[]]") (Err (NotObject 1))
+
+-- a script without such members has the commands that it has where they are ignored
+abbrev pub RefusingChangesNothing : Type 0
+RefusingChangesNothing = (value : Option Data) (commands : List Command) → script_of Refused value ≡ Ok commands → script_of Ignored value ≡ Ok commands
 
 -- ---- logs
 

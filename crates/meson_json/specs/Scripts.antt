@@ -5,6 +5,7 @@ use Rattle.serde_json.specs.Events.{items_len}
 use Rattle.serde_json.specs.Find.{get, as_array, as_object, as_str}
 use Rattle.meson_splice.specs.Patch.{then_ok}
 use Rattle.meson_json.specs.Each.{each_of, each_member, names_of_members}
+use Rattle.meson_json.specs.Known.{unknown_in}
 use Rattle.meson_json.specs.Members.{member_text}
 use Rattle.meson_json.specs.Operations.{entry_type, target_operation, kwargs_operation, options_operation, role_of}
 use Rattle.meson_json.specs.Settings.{setting_of, option_value}
@@ -14,7 +15,9 @@ use Rattle.meson_steps.specs.declared.command.Command.TheVariants as command
 use Rattle.meson_calls.specs.declared.call.Role.{Role}
 use Rattle.meson_json.specs.declared.target.TargetMembers.{TargetMembers}
 use Rattle.meson_json.specs.declared.fault.ScriptFault.{ScriptFault}
-use Rattle.meson_json.specs.declared.fault.ScriptFault.TheVariants.{NotJson, NotArray, TooMany, NotObject, UnknownType, BadField, UnknownOperation, Unsupported}
+use Rattle.meson_json.specs.declared.fault.ScriptFault.TheVariants.{NotJson, NotArray, TooMany, NotObject, UnknownType, BadField, UnknownOperation, Unsupported, UnknownMember}
+use Rattle.meson_json.specs.declared.member_check.UnknownMembers.{UnknownMembers}
+use Rattle.meson_json.specs.declared.member_check.UnknownMembers.TheVariants.{Ignored, Refused}
 use Rattle.meson_json.specs.declared.names.EntryType.{EntryType}
 use Rattle.meson_json.specs.declared.names.EntryType.TheVariants as entry
 use Rattle.meson_json.specs.declared.names.KwargsOperation.{KwargsOperation}
@@ -106,17 +109,27 @@ entry_of i d =
     then then_ok (ok_or (option_and_then entry_type (member_text (codes "type") d)) (UnknownType i)) (entry_command i d)
     else Err (NotObject i)
 
+-- a command that was read, if its entry has no member that is not known
+abbrev pub without_unknown : ℕ → Command → Option (List ℕ) → Result Command ScriptFault
+without_unknown i command None = Ok command
+without_unknown i command (Some name) = Err (UnknownMember i name)
+
+-- the same, where members that are not known are ignored or refused; they are refused last
+unfoldable pub entry_by : UnknownMembers → ℕ → Data → Result Command ScriptFault
+entry_by Ignored i d = entry_of i d
+entry_by Refused i d = then_ok (entry_of i d) (λ c. without_unknown i c (option_and_then (unknown_in c) (as_object d)))
+
 -- the commands of the entries from number i on
-unfoldable pub entries_of : ℕ → Items → Result (List Command) ScriptFault
-entries_of i no_items = Ok []
-entries_of i (item d ds) = then_ok (entry_of i d) (λ c. then_ok (entries_of (i + 1) ds) (λ cs. Ok (c ∷ cs)))
+unfoldable pub entries_of : UnknownMembers → ℕ → Items → Result (List Command) ScriptFault
+entries_of unknown i no_items = Ok []
+entries_of unknown i (item d ds) = then_ok (entry_by unknown i d) (λ c. then_ok (entries_of unknown (i + 1) ds) (λ cs. Ok (c ∷ cs)))
 
 abbrev pub max_commands : ℕ
 max_commands = 4096
 
 -- the commands of what was read, if a JSON value was
-unfoldable pub script_of : Option Data → Result (List Command) ScriptFault
-script_of value =
+unfoldable pub script_of : UnknownMembers → Option Data → Result (List Command) ScriptFault
+script_of unknown value =
     then_ok (ok_or value NotJson) (λ d.
     then_ok (ok_or (as_array d) NotArray) (λ ds.
-    if nat_lt max_commands (items_len ds) then Err TooMany else entries_of 0 ds))
+    if nat_lt max_commands (items_len ds) then Err TooMany else entries_of unknown 0 ds))

@@ -155,7 +155,7 @@ fn options_entry(alloc: Global, index: usize, entry: &Value) -> Result<Command, 
     options_command(alloc, index, operation, members)
 }
 
-/// The command of an entry.
+/// The command of an entry, whatever other members it has.
 #[tactic(auto, unfolding(crate::specs::Scripts::entry_of))]
 pub(crate) fn entry_command(
     alloc: Global,

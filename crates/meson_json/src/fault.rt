@@ -24,6 +24,8 @@ pub enum ScriptFault {
     UnknownOperation(usize),
     /// The operation is known, but not done here.
     Unsupported(usize),
+    /// Its member of this name is not known, where such members are refused.
+    UnknownMember(usize, Text),
     /// The text is not a valid log.
     BadLog,
     /// An allocation failed.
@@ -50,6 +52,9 @@ impl fmt::Display for ScriptFault {
                 write!(f, "entry {index}: J7 unknown operation")
             }
             ScriptFault::Unsupported(index) => write!(f, "entry {index}: J8 unsupported"),
+            ScriptFault::UnknownMember(index, member) => {
+                write!(f, "entry {index}: J12 unknown member {member}")
+            }
             ScriptFault::BadLog => f.write_str("J9 bad log"),
             ScriptFault::OutOfMemory => f.write_str("out of memory"),
         }

@@ -1,12 +1,18 @@
 //! Laws of scripts and logs. The functions do nothing: what they ensure is the law.
 
-ghost use Rattle.meson_json.specs.Rows.{ArgumentEntries, Faults, Logs, TargetEntries};
+ghost use Rattle.meson_json.specs.Rows.{ArgumentEntries, Faults, KnownMembers, Logs, RefusingChangesNothing, TargetEntries};
 
 /// Which commands some texts are, and why some are not valid.
 pub fn script_rows()
     ensures targets { TargetEntries }
     ensures arguments { ArgumentEntries }
     ensures faults { Faults }
+    ensures known { KnownMembers }
+{}
+
+/// A script that is valid where unknown members are refused has the same commands where they are ignored.
+pub fn refusing_changes_nothing()
+    ensures { RefusingChangesNothing }
 {}
 
 /// The logs of some histories, and which texts are logs.

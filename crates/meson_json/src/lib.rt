@@ -5,6 +5,7 @@ mod entry;
 mod fault;
 pub mod laws;
 mod log;
+mod member_check;
 mod members;
 pub mod names;
 pub mod script;
@@ -14,6 +15,7 @@ mod version;
 
 pub use fault::ScriptFault;
 pub use log::{empty_log, history_text, read_log};
+pub use member_check::UnknownMembers;
 pub use members::owned;
 pub use script::Script;
 pub use title::is_title;

@@ -1,4 +1,4 @@
-//! The words for operations and functions. The command line has the same ones, but for those of targets.
+//! The words for operations and functions. The command line has the same ones for keyword arguments, and others for targets and options.
 
 ghost use Rattle.std.specs.Prelude.{◌≡◌};
 ghost use Rattle.meson_json.specs.Operations.{entry_type, kwargs_operation, options_operation, role_of, target_operation};
@@ -28,7 +28,7 @@ pub enum KwargsOperation {
 
 /// What is done to the default options of the project.
 #[derive(Clone, Copy)]
-pub enum OptionsOperation {
+pub(crate) enum OptionsOperation {
     Set,
     Delete,
 }
@@ -92,7 +92,7 @@ pub fn find_kwargs_operation(name: &str) -> Option<KwargsOperation>
 }
 
 /// The operation on default options that a word names, if it names one (Meson manual, Rewriter: `default_options`).
-pub fn find_options_operation(name: &str) -> Option<OptionsOperation>
+pub(crate) fn find_options_operation(name: &str) -> Option<OptionsOperation>
     ensures { result ≡ options_operation name.now }
 {
     if name == "set" {

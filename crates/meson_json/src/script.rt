@@ -6,8 +6,8 @@ ghost use Rattle.serde_json.specs.View.{items_view, view};
 ghost use Rattle.meson_json.specs.Scripts.{entries_of, script_of};
 ghost use Rattle.meson_json.specs.declared.fault.ScriptFault.TheVariants.{OutOfMemory};
 
-use crate::entry::entry_command;
 use crate::fault::ScriptFault;
+use crate::member_check::{UnknownMembers, read_entry};
 use meson_splice::Many;
 use meson_steps::command::Command;
 use serde_json::Value;
@@ -26,13 +26,18 @@ impl Script {
     /// The script of a JSON text: an array with an object for each command.
     ///
     /// # Errors
-    /// The first fault of the text, of the array, and then entry by entry; or out of memory.
-    pub fn from_json(alloc: Global, text: &str) -> Result<Script, ScriptFault>
-        ensures ok { IfOk result (λ s. script_of (read text.now) ≡ Ok s.commands) }
-        ensures refused { IfErr result (λ e. e ≢ OutOfMemory → script_of (read text.now) ≡ Err e) }
+    /// The first fault of the text, of the array, and then entry by entry; or out of memory. Where unknown members are refused, the first one is the last
+    /// fault of its entry.
+    pub fn from_json(
+        alloc: Global,
+        text: &str,
+        unknown: UnknownMembers,
+    ) -> Result<Script, ScriptFault>
+        ensures ok { IfOk result (λ s. script_of unknown (read text.now) ≡ Ok s.commands) }
+        ensures refused { IfErr result (λ e. e ≢ OutOfMemory → script_of unknown (read text.now) ≡ Err e) }
     {
         let value = Value::from_str(alloc, text)?;
-        script_from(alloc, &value)
+        script_from(alloc, &value, unknown)
     }
 
     /// The script of one command. If it is out of memory, it drops the command.
@@ -49,9 +54,9 @@ impl Script {
 }
 
 #[tactic(auto, unfolding(crate::specs::Scripts::script_of))]
-fn script_from(alloc: Global, value: &Value) -> Result<Script, ScriptFault>
-    ensures ok { IfOk result (λ s. script_of (Some (view value.now)) ≡ Ok s.commands) }
-    ensures refused { IfErr result (λ e. e ≢ OutOfMemory → script_of (Some (view value.now)) ≡ Err e) }
+fn script_from(alloc: Global, value: &Value, unknown: UnknownMembers) -> Result<Script, ScriptFault>
+    ensures ok { IfOk result (λ s. script_of unknown (Some (view value.now)) ≡ Ok s.commands) }
+    ensures refused { IfErr result (λ e. e ≢ OutOfMemory → script_of unknown (Some (view value.now)) ≡ Err e) }
 {
     let Some(list) = value.as_array() else {
         return Err(ScriptFault::NotArray);
@@ -60,17 +65,21 @@ fn script_from(alloc: Global, value: &Value) -> Result<Script, ScriptFault>
     if entries.len() > MAX_COMMANDS {
         return Err(ScriptFault::TooMany);
     }
-    let commands = entry_commands(alloc, entries)?;
+    let commands = entry_commands(alloc, entries, unknown)?;
     Ok(Script { commands })
 }
 
-fn entry_commands(alloc: Global, list: &[Value]) -> Result<Many<Command>, ScriptFault>
-    ensures ok { IfOk result (λ cs. entries_of 0 (items_view list.now) ≡ Ok cs) }
-    ensures refused { IfErr result (λ e. e ≢ OutOfMemory → entries_of 0 (items_view list.now) ≡ Err e) }
+fn entry_commands(
+    alloc: Global,
+    list: &[Value],
+    unknown: UnknownMembers,
+) -> Result<Many<Command>, ScriptFault>
+    ensures ok { IfOk result (λ cs. entries_of unknown 0 (items_view list.now) ≡ Ok cs) }
+    ensures refused { IfErr result (λ e. e ≢ OutOfMemory → entries_of unknown 0 (items_view list.now) ≡ Err e) }
 {
     let mut commands = Vec::new(alloc);
     for (index, entry) in list.iter().enumerate() {
-        let command = entry_command(alloc, index, entry)?;
+        let command = read_entry(alloc, index, entry, unknown)?;
         commands.push(command)?;
     }
     Ok(Many::of(commands))

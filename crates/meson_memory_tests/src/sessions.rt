@@ -4,7 +4,8 @@ use crate::rows::{Row, TITLE};
 use crate::trial::{Call, Fault, Wrong, each_growth_refused};
 use meson_plan::{LoadFault, Refusal};
 use meson_script::{
-    Report, RunFault, Script, ScriptFault, Session, UndoFault, Unstarted, log_text, read_log,
+    Report, RunFault, Script, ScriptFault, Session, UndoFault, UnknownMembers, Unstarted, log_text,
+    read_log,
 };
 use meson_splice::{FileSet, History, SpliceFault};
 use std::alloc::Global;
@@ -45,7 +46,7 @@ impl Call for ReadScript {
     }
 
     fn make(alloc: Global, given: &mut String) -> Result<Script, ScriptFault> {
-        Script::from_json(alloc, given.as_str())
+        Script::from_json(alloc, given.as_str(), UnknownMembers::Refused)
     }
 }
 

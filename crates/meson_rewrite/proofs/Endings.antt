@@ -249,8 +249,8 @@ shown-ends a b c text u asks = of-action a.action refl asks
     of-action : (x : Action) → a.action ≡ x → AsksFor a.title x b.content (request.Show text) → Ends (Ok (without_text a)) b c (Ok (record { out = text; err = [] }))
     of-action (action.Run s) at is = absurd (let no : ⊥ = cc in no)
     of-action (action.Info d) at is = absurd (let no : ⊥ = cc in no)
-    of-action (action.ScriptText t) at (cs, of, is) = absurd (let no : ⊥ = cc in no)
-    of-action (action.ScriptFile n) at (cs, of, is) = absurd (let no : ⊥ = cc in no)
+    of-action (action.ScriptText t unknown) at (cs, of, is) = absurd (let no : ⊥ = cc in no)
+    of-action (action.ScriptFile n unknown) at (cs, of, is) = absurd (let no : ⊥ = cc in no)
     of-action action.Undo at is = absurd (let no : ⊥ = cc in no)
     of-action (action.UndoTo count) at is = absurd (let no : ⊥ = cc in no)
     of-action (action.UndoChecked count name) at (file, of, is) = absurd (let no : ⊥ = cc in no)
@@ -278,8 +278,8 @@ not-used asked b c u fault (inr is) = misused fault u is
 asks-only : (title : List ℕ) (a : Action) (held : Option Content) (step : Step) → AsksFor title a held (request.Step step) → IsTrue (only_asks a) → only_tells step ≡ true
 asks-only title (action.Run s) held step is t = absurd (let no : ⊥ = cc in no)
 asks-only title (action.Info c) held step is t = let same : step ≡ Tell (script (c ∷ [])) = cc in ap only_tells same
-asks-only title (action.ScriptText text) held step is t = absurd (let no : ⊥ = cc in no)
-asks-only title (action.ScriptFile n) held step is t = absurd (let no : ⊥ = cc in no)
+asks-only title (action.ScriptText text unknown) held step is t = absurd (let no : ⊥ = cc in no)
+asks-only title (action.ScriptFile n unknown) held step is t = absurd (let no : ⊥ = cc in no)
 asks-only title action.Undo held step is t = absurd (let no : ⊥ = cc in no)
 asks-only title (action.UndoTo count) held step is t = absurd (let no : ⊥ = cc in no)
 asks-only title (action.UndoChecked count name) held step is t = absurd (let no : ⊥ = cc in no)
@@ -295,11 +295,11 @@ asks-only title action.Version held step is t = absurd (let no : ⊥ = cc in no)
 asks-same : (a : Asked) → IsTrue (only_asks (without_text a).action) → IsTrue (only_asks a.action)
 asks-same a t = go a.action t
   where
-    go : (x : Action) → IsTrue (only_asks (without_text (record { dir = None; title = []; dry_run = false; action = x })).action) → IsTrue (only_asks x)
+    go : (x : Action) → IsTrue (only_asks (without_text (record { dir = None; title = []; dry_run = false; json = false; action = x })).action) → IsTrue (only_asks x)
     go (action.Run s) t = t
     go (action.Info c) t = t
-    go (action.ScriptText text) t = t
-    go (action.ScriptFile n) t = t
+    go (action.ScriptText text unknown) t = t
+    go (action.ScriptFile n unknown) t = t
     go action.Undo t = t
     go (action.UndoTo count) t = t
     go (action.UndoChecked count name) t = t

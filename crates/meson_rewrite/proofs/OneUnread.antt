@@ -256,12 +256,12 @@ module _ (held : Content) (folder : Option (List ℕ)) where
 -- ---- a run
 
 named-count : (a : Action) (reads reads' : ℕ) (name : List ℕ) → AsksNamed a reads reads' (Some name) → reads' ≡ file_read a reads
-named-count (action.ScriptFile n) reads reads' name h = h.0
+named-count (action.ScriptFile n unknown) reads reads' name h = h.0
 named-count (action.UndoChecked count n) reads reads' name h = h.0
 named-count _ reads reads' name h = absurd h
 
 named-one : (a : Action) (reads reads' : ℕ) (name other : List ℕ) → AsksNamed a reads reads' (Some name) → AsksNamed a reads reads' (Some other) → name ≡ other
-named-one (action.ScriptFile n) reads reads' name other h k = h.1 ∙ sym k.1
+named-one (action.ScriptFile n unknown) reads reads' name other h k = h.1 ∙ sym k.1
 named-one (action.UndoChecked count n) reads reads' name other h k = h.1 ∙ sym k.1
 named-one _ reads reads' name other h k = absurd h
 

@@ -48,8 +48,8 @@ nothing-read (Ok a) before reads = inl (refl, refl)
 same-file : (a : Action) (reads : ℕ) → file_read (without_help_text a) reads ≡ file_read a reads
 same-file (action.Run s) reads = refl
 same-file (action.Info c) reads = refl
-same-file (action.ScriptText text) reads = refl
-same-file (action.ScriptFile n) reads = refl
+same-file (action.ScriptText text unknown) reads = refl
+same-file (action.ScriptFile n unknown) reads = refl
 same-file action.Undo reads = refl
 same-file (action.UndoTo count) reads = refl
 same-file (action.UndoChecked count name) reads = refl
@@ -63,20 +63,20 @@ same-file (action.Help text) reads = refl
 same-file action.Version reads = refl
 
 same-named : (a : Action) (reads reads' : ℕ) (unread : Option (List ℕ)) → AsksNamed a reads reads' unread → AsksNamed (without_help_text a) reads reads' unread
-same-named (action.ScriptFile n) reads reads' unread h = h
+same-named (action.ScriptFile n unknown) reads reads' unread h = h
 same-named (action.UndoChecked count name) reads reads' unread h = h
 same-named _ reads reads' unread h = absurd h
 
 shown-file : (title : List ℕ) (a : Action) (before : Option Content) (text : List ℕ) (reads : ℕ) → AsksFor title a before (request.Show text) → file_read a reads ≡ reads
-shown-file title (action.ScriptFile n) before text reads (cs, of, is) = absurd (let no : ⊥ = cc in no)
+shown-file title (action.ScriptFile n unknown) before text reads (cs, of, is) = absurd (let no : ⊥ = cc in no)
 shown-file title (action.UndoChecked count name) before text reads (file, of, is) = absurd (let no : ⊥ = cc in no)
 shown-file title _ before text reads is = refl
 
 same-project : (title : List ℕ) (a : Action) (before : Option Content) → AsksForProject title a before → AsksForProject title (without_help_text a) before
 same-project title (action.Run s) before asks = asks
 same-project title (action.Info c) before asks = asks
-same-project title (action.ScriptText text) before asks = asks
-same-project title (action.ScriptFile n) before asks = asks
+same-project title (action.ScriptText text unknown) before asks = asks
+same-project title (action.ScriptFile n unknown) before asks = asks
 same-project title action.Undo before asks = asks
 same-project title (action.UndoTo count) before asks = asks
 same-project title (action.UndoChecked count name) before asks = asks
@@ -115,8 +115,8 @@ module _ (a : Asked) (before : Option Content) (reads : ℕ) where
         of-action : (x : Action) → AsksFor a.title x before (request.Step step) → ReadsProject before a.dir (file_read x reads) reads' → ReadsFor (without_help_text x) before a.dir reads reads'
         of-action (action.Run s) is h = h
         of-action (action.Info c) is h = h
-        of-action (action.ScriptText text) is h = h
-        of-action (action.ScriptFile n) is h = h
+        of-action (action.ScriptText text unknown) is h = h
+        of-action (action.ScriptFile n unknown) is h = h
         of-action action.Undo is h = h
         of-action (action.UndoTo count) is h = h
         of-action (action.UndoChecked count name) is h = h
@@ -138,8 +138,8 @@ module _ (a : Asked) (before : Option Content) (reads : ℕ) where
         of-action : (x : Action) → AsksFor a.title x before (request.List listing) → ReadsProject before a.dir (file_read x reads) reads' → ReadsFor (without_help_text x) before a.dir reads reads'
         of-action (action.Run s) is h = absurd (let no : ⊥ = cc in no)
         of-action (action.Info c) is h = absurd (let no : ⊥ = cc in no)
-        of-action (action.ScriptText text) (cs, of, is) h = absurd (let no : ⊥ = cc in no)
-        of-action (action.ScriptFile n) (cs, of, is) h = absurd (let no : ⊥ = cc in no)
+        of-action (action.ScriptText text unknown) (cs, of, is) h = absurd (let no : ⊥ = cc in no)
+        of-action (action.ScriptFile n unknown) (cs, of, is) h = absurd (let no : ⊥ = cc in no)
         of-action action.Undo is h = absurd (let no : ⊥ = cc in no)
         of-action (action.UndoTo count) is h = absurd (let no : ⊥ = cc in no)
         of-action (action.UndoChecked count name) (file, of, is) h = absurd (let no : ⊥ = cc in no)
@@ -159,8 +159,8 @@ module _ (a : Asked) (before : Option Content) (reads : ℕ) where
       of-action : (x : Action) → AsksFor a.title x before (request.Show text) → reads' ≡ file_read x reads → ReadsFor (without_help_text x) before a.dir reads reads'
       of-action (action.Run s) is e = absurd (let no : ⊥ = cc in no)
       of-action (action.Info c) is e = absurd (let no : ⊥ = cc in no)
-      of-action (action.ScriptText t) (cs, of, is) e = absurd (let no : ⊥ = cc in no)
-      of-action (action.ScriptFile n) (cs, of, is) e = absurd (let no : ⊥ = cc in no)
+      of-action (action.ScriptText t unknown) (cs, of, is) e = absurd (let no : ⊥ = cc in no)
+      of-action (action.ScriptFile n unknown) (cs, of, is) e = absurd (let no : ⊥ = cc in no)
       of-action action.Undo is e = absurd (let no : ⊥ = cc in no)
       of-action (action.UndoTo count) is e = absurd (let no : ⊥ = cc in no)
       of-action (action.UndoChecked count name) (file, of, is) e = absurd (let no : ⊥ = cc in no)

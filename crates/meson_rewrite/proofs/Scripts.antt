@@ -4,6 +4,7 @@ use Rattle.std.specs.Str.{IsUtf8, is_utf8}
 use Rattle.std.proofs.lemmas.Str.{IsUtf8-from_is_utf8, is_utf8-from_IsUtf8}
 use Rattle.serde_json.specs.Read.{read}
 use Rattle.meson_json.specs.Scripts.{script_of}
+use Rattle.meson_json.specs.declared.member_check.UnknownMembers.{UnknownMembers}
 use Rattle.meson_json.specs.declared.fault.ScriptFault.{ScriptFault}
 use Rattle.meson_json.specs.declared.fault.ScriptFault.TheVariants.{NotJson}
 use Rattle.meson_steps.specs.declared.command.Command.{Command}
@@ -31,23 +32,23 @@ not-text : (b : Bool) (bytes : List ℕ) → is_utf8 bytes ≡ b → (IsUtf8 byt
 not-text true bytes is other = absurd (other (IsUtf8-from_is_utf8 bytes is))
 not-text false bytes is other = refl
 
-pub of-text : (bytes text : List ℕ) → text ≡ bytes → IsUtf8 bytes → script_in bytes ≡ script_of (read text)
-of-text bytes text same is = by-test (is_utf8 bytes) _ _ (is_utf8-from_IsUtf8 bytes is) ∙ ap (λ t. script_of (read t)) (sym same)
+pub of-text : (unknown : UnknownMembers) (bytes text : List ℕ) → text ≡ bytes → IsUtf8 bytes → script_in unknown bytes ≡ script_of unknown (read text)
+of-text unknown bytes text same is = by-test (is_utf8 bytes) _ _ (is_utf8-from_IsUtf8 bytes is) ∙ ap (λ t. script_of unknown (read t)) (sym same)
 
-pub of-no-text : (bytes : List ℕ) → (IsUtf8 bytes → ⊥) → script_in bytes ≡ Err NotJson
-of-no-text bytes other = by-test-not (is_utf8 bytes) _ _ (not-text (is_utf8 bytes) bytes refl other)
+pub of-no-text : (unknown : UnknownMembers) (bytes : List ℕ) → (IsUtf8 bytes → ⊥) → script_in unknown bytes ≡ Err NotJson
+of-no-text unknown bytes other = by-test-not (is_utf8 bytes) _ _ (not-text (is_utf8 bytes) bytes refl other)
 
 -- a fault of the bytes is one of the file
-pub bad-file : (held : Option Content) (failed failed' : ℕ) (name bytes : List ℕ) (why : Stop) → HasBytes held name bytes
-    → WantsMemory why ⊎ IsBad (script_in bytes) why → WantsMemory why ⊎ IsNoScript held failed failed' name why
-bad-file held failed failed' name bytes why has (inl m) = inl m
-bad-file held failed failed' name bytes why has (inr bad) = inr (inr (bytes, has, bad))
+pub bad-file : (held : Option Content) (failed failed' : ℕ) (name bytes : List ℕ) (unknown : UnknownMembers) (why : Stop) → HasBytes held name bytes
+    → WantsMemory why ⊎ IsBad (script_in unknown bytes) why → WantsMemory why ⊎ IsNoScript held failed failed' name unknown why
+bad-file held failed failed' name bytes unknown why has (inl m) = inl m
+bad-file held failed failed' name bytes unknown why has (inr bad) = inr (inr (bytes, has, bad))
 
 -- where there is no file, there is no script
-pub no-script : (held : Option Content) (failed failed' : ℕ) (name : List ℕ) (why : Stop) → WantsMemory why ⊎ IsNoFile held failed failed' name why
-    → WantsMemory why ⊎ IsNoScript held failed failed' name why
-no-script held failed failed' name why (inl m) = inl m
-no-script held failed failed' name why (inr none) = inr (inl none)
+pub no-script : (held : Option Content) (failed failed' : ℕ) (name : List ℕ) (unknown : UnknownMembers) (why : Stop) → WantsMemory why ⊎ IsNoFile held failed failed' name why
+    → WantsMemory why ⊎ IsNoScript held failed failed' name unknown why
+no-script held failed failed' name unknown why (inl m) = inl m
+no-script held failed failed' name unknown why (inr none) = inr (inl none)
 
 -- a file that is not read
 pub unread-file : (held : Option Content) (failed failed' : ℕ) (name : List ℕ) (fault : StoreFault) → IsUnread failed failed' name fault

@@ -57,8 +57,8 @@ bad-unread r why (inr bad) = ap unread_by bad.2
 
 pub asked-unread : (a : Action) (why : Stop) → names_file a ≡ false → WantsMemory why ⊎ AsksForNone a None 0 0 why → unread_by why ≡ None
 asked-unread a why unnamed (inl m) = memory-unread why m
-asked-unread (action.ScriptText text) why unnamed (inr bad) = ap unread_by bad.2
-asked-unread (action.ScriptFile name) why unnamed (inr none) = absurd (let no : ⊥ = cc in no)
+asked-unread (action.ScriptText text unknown) why unnamed (inr bad) = ap unread_by bad.2
+asked-unread (action.ScriptFile name unknown) why unnamed (inr none) = absurd (let no : ⊥ = cc in no)
 asked-unread (action.UndoChecked count name) why unnamed (inr none) = absurd (let no : ⊥ = cc in no)
 asked-unread _ why unnamed (inr none) = absurd none
 

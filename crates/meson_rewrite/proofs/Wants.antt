@@ -17,6 +17,7 @@ script-or-memory P (script.UnknownType i) h = inr (h (λ e. cc))
 script-or-memory P (script.BadField i name) h = inr (h (λ e. cc))
 script-or-memory P (script.UnknownOperation i) h = inr (h (λ e. cc))
 script-or-memory P (script.Unsupported i) h = inr (h (λ e. cc))
+script-or-memory P (script.UnknownMember i name) h = inr (h (λ e. cc))
 script-or-memory P script.BadLog h = inr (h (λ e. cc))
 script-or-memory P script.OutOfMemory h = inl refl
 

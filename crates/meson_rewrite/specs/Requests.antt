@@ -6,6 +6,7 @@ use Rattle.serde_json.specs.Read.{read}
 use Rattle.meson_steps.specs.declared.command.Command.{Command}
 use Rattle.meson_json.specs.declared.fault.ScriptFault.{ScriptFault}
 use Rattle.meson_json.specs.declared.fault.ScriptFault.TheVariants.{NotJson}
+use Rattle.meson_json.specs.declared.member_check.UnknownMembers.{UnknownMembers}
 use Rattle.meson_json.specs.declared.script.Script.{Script}
 use Rattle.meson_json.specs.Scripts.{script_of}
 use Rattle.meson_command.specs.declared.asked.Action.{Action}
@@ -42,21 +43,21 @@ abbrev pub script : List Command → Script
 script commands = record { commands = commands }
 
 -- the commands of a script file; one that is not UTF-8 is not JSON
-abbrev pub script_in : List ℕ → Result (List Command) ScriptFault
-script_in bytes = if is_utf8 bytes then script_of (read bytes) else Err NotJson
+abbrev pub script_in : UnknownMembers → List ℕ → Result (List Command) ScriptFault
+script_in unknown bytes = if is_utf8 bytes then script_of unknown (read bytes) else Err NotJson
 
 -- it is the fault of what is not a valid script
 abbrev pub IsBad : Result (List Command) ScriptFault → Stop → Type 0
 IsBad script why = (fault : ScriptFault) × (script ≡ Err fault) × (why ≡ stop.Script fault)
 
 -- the commands of the file of that name
-abbrev pub IsScriptOf : Option Content → List ℕ → List Command → Type 0
-IsScriptOf held name commands = (bytes : List ℕ) × HasBytes held name bytes × (script_in bytes ≡ Ok commands)
+abbrev pub IsScriptOf : Option Content → List ℕ → UnknownMembers → List Command → Type 0
+IsScriptOf held name unknown commands = (bytes : List ℕ) × HasBytes held name bytes × (script_in unknown bytes ≡ Ok commands)
 
 -- the file of that name is not read, is not there, or is not a valid script
-abbrev pub IsNoScript : Option Content → ℕ → ℕ → List ℕ → Stop → Type 0
-IsNoScript held failed failed' name why =
-    IsNoFile held failed failed' name why ⊎ ((bytes : List ℕ) × HasBytes held name bytes × IsBad (script_in bytes) why)
+abbrev pub IsNoScript : Option Content → ℕ → ℕ → List ℕ → UnknownMembers → Stop → Type 0
+IsNoScript held failed failed' name unknown why =
+    IsNoFile held failed failed' name why ⊎ ((bytes : List ℕ) × HasBytes held name bytes × IsBad (script_in unknown bytes) why)
 
 -- ---- what needs no step
 
@@ -79,9 +80,10 @@ only_asks a = only_shows a
 abbrev pub AsksFor : List ℕ → Action → Option Content → ProgramRequest → Type 0
 AsksFor title (action.Run s) held r = r ≡ request.Step (Run s title)
 AsksFor title (action.Info c) held r = r ≡ request.Step (Tell (script (c ∷ [])))
-AsksFor title (action.ScriptText text) held r = (commands : List Command) × (script_of (read text) ≡ Ok commands)
+AsksFor title (action.ScriptText text unknown) held r = (commands : List Command) × (script_of unknown (read text) ≡ Ok commands)
     × (r ≡ request.Step (Run (script commands) title))
-AsksFor title (action.ScriptFile name) held r = (commands : List Command) × IsScriptOf held name commands × (r ≡ request.Step (Run (script commands) title))
+AsksFor title (action.ScriptFile name unknown) held r = (commands : List Command) × IsScriptOf held name unknown commands
+    × (r ≡ request.Step (Run (script commands) title))
 AsksFor title action.Undo held r = r ≡ request.Step Undo
 AsksFor title (action.UndoTo count) held r = r ≡ request.Step (UndoTo count)
 AsksFor title (action.UndoChecked count name) held r = (kept : NamedFile) × IsFileOf held name kept × (r ≡ request.Step (UndoChecked count kept))
@@ -97,7 +99,7 @@ AsksFor title action.Version held r = r ≡ request.Show version_line
 -- ---- why there is no request, except out of memory
 
 abbrev pub AsksForNone : Action → Option Content → ℕ → ℕ → Stop → Type 0
-AsksForNone (action.ScriptText text) held failed failed' why = IsBad (script_of (read text)) why
-AsksForNone (action.ScriptFile name) held failed failed' why = IsNoScript held failed failed' name why
+AsksForNone (action.ScriptText text unknown) held failed failed' why = IsBad (script_of unknown (read text)) why
+AsksForNone (action.ScriptFile name unknown) held failed failed' why = IsNoScript held failed failed' name unknown why
 AsksForNone (action.UndoChecked count name) held failed failed' why = IsNoFile held failed failed' name why
 AsksForNone _ held failed failed' why = ⊥

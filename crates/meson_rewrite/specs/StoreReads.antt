@@ -26,13 +26,13 @@ unread_in (Err stop) = unread_by stop
 
 -- the file that the words name: a script, or digests
 abbrev pub file_read : Action → ℕ → ℕ
-file_read (action.ScriptFile name) reads = one_more reads
+file_read (action.ScriptFile name unknown) reads = one_more reads
 file_read (action.UndoChecked count name) reads = one_more reads
 file_read _ reads = reads
 
 -- it alone is queried
 abbrev pub AsksNamed : Action → ℕ → ℕ → Option (List ℕ) → Type 0
-AsksNamed (action.ScriptFile name) reads reads' unread = Asks name reads reads' unread
+AsksNamed (action.ScriptFile name unknown) reads reads' unread = Asks name reads reads' unread
 AsksNamed (action.UndoChecked count name) reads reads' unread = Asks name reads reads' unread
 AsksNamed _ reads reads' unread = ⊥
 

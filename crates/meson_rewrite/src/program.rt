@@ -100,6 +100,7 @@ fn answer<S: Store>(alloc: Global, store: &mut S, asked: Asked) -> Result<Said, 
         dir,
         title,
         dry_run,
+        json: _,
         action,
     } = asked;
     match request_of(alloc, store, action, title) {

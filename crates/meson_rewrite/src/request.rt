@@ -16,7 +16,7 @@ use crate::lines::version_text;
 use crate::stop::Stop;
 use meson_command::Action;
 use meson_gathering::read_file;
-use meson_json::{Script, ScriptFault};
+use meson_json::{Script, ScriptFault, UnknownMembers};
 use meson_splice::{Bytes, Text};
 use meson_steps::command::Command;
 use meson_store::{Store, StoreFault};
@@ -74,23 +74,23 @@ pub(crate) enum Step {
 }
 
 /// The script of a text of JSON.
-fn script_from(alloc: Global, text: &str) -> Result<Script, Stop>
-    ensures ok { IfOk result (λ s. script_of (read text.now) ≡ Ok s.commands) }
-    ensures none { IfErr result (λ why. WantsMemory why ⊎ IsBad (script_of (read text.now)) why) }
+fn script_from(alloc: Global, text: &str, unknown: UnknownMembers) -> Result<Script, Stop>
+    ensures ok { IfOk result (λ s. script_of unknown (read text.now) ≡ Ok s.commands) }
+    ensures none { IfErr result (λ why. WantsMemory why ⊎ IsBad (script_of unknown (read text.now)) why) }
 {
-    match Script::from_json(alloc, text) {
+    match Script::from_json(alloc, text, unknown) {
         Ok(script) => Ok(script),
         Err(fault) => Err(Stop::Script(fault)),
     }
 }
 
 /// The script of a file's bytes.
-fn script_in(alloc: Global, bytes: &[u8]) -> Result<Script, Stop>
-    ensures ok { IfOk result (λ s. script_in bytes.now ≡ Ok s.commands) }
-    ensures none { IfErr result (λ why. WantsMemory why ⊎ IsBad (script_in bytes.now) why) }
+fn script_in(alloc: Global, bytes: &[u8], unknown: UnknownMembers) -> Result<Script, Stop>
+    ensures ok { IfOk result (λ s. script_in unknown bytes.now ≡ Ok s.commands) }
+    ensures none { IfErr result (λ why. WantsMemory why ⊎ IsBad (script_in unknown bytes.now) why) }
 {
     match from_utf8(bytes) {
-        Ok(text) => script_from(alloc, text),
+        Ok(text) => script_from(alloc, text, unknown),
         Err(_) => Err(Stop::Script(ScriptFault::NotJson)),
     }
 }
@@ -116,9 +116,14 @@ fn read_named<S: Store>(alloc: Global, store: &mut S, name: Text) -> Result<Name
 }
 
 /// The script in the file of this name.
-fn read_script<S: Store>(alloc: Global, store: &mut S, name: Text) -> Result<Script, Stop>
-    ensures read { IfOk result (λ s. IsScriptOf (S.content store.old) name s.commands) }
-    ensures none { IfErr result (λ why. WantsMemory why ⊎ IsNoScript (S.content store.old) (S.failures store.old) (S.failures store.new) name why) }
+fn read_script<S: Store>(
+    alloc: Global,
+    store: &mut S,
+    name: Text,
+    unknown: UnknownMembers,
+) -> Result<Script, Stop>
+    ensures read { IfOk result (λ s. IsScriptOf (S.content store.old) name unknown s.commands) }
+    ensures none { IfErr result (λ why. WantsMemory why ⊎ IsNoScript (S.content store.old) (S.failures store.old) (S.failures store.new) name unknown why) }
     ensures kept { S.content store.new ≡ S.content store.old }
     ensures counts { S.failures store.old ≤ S.failures store.new }
     ensures no_replace { S.replaces store.new ≡ S.replaces store.old }
@@ -126,7 +131,7 @@ fn read_script<S: Store>(alloc: Global, store: &mut S, name: Text) -> Result<Scr
     ensures asks_at_most { IfErr result (λ why. MayAsk name (S.reads store.old) (S.reads store.new) (unread_by why)) }
 {
     let file = read_named(alloc, store, name)?;
-    script_in(alloc, file.bytes.get())
+    script_in(alloc, file.bytes.get(), unknown)
 }
 
 /// The script of one command.
@@ -170,8 +175,8 @@ fn asked_for(alloc: Global, action: Action, title: Text) -> Result<ProgramReques
         Action::Version => version_asked(alloc),
         Action::Run(script) => Ok(ProgramRequest::Step(Step::Run { script, title })),
         Action::Info(command) => told_of(alloc, command),
-        Action::ScriptText(text) => {
-            let script = script_from(alloc, text.get())?;
+        Action::ScriptText { text, unknown } => {
+            let script = script_from(alloc, text.get(), unknown)?;
             Ok(ProgramRequest::Step(Step::Run { script, title }))
         }
         Action::Undo => Ok(ProgramRequest::Step(Step::Undo)),
@@ -182,7 +187,7 @@ fn asked_for(alloc: Global, action: Action, title: Text) -> Result<ProgramReques
         Action::History => Ok(ProgramRequest::List(Listing::History)),
         Action::List { json } => Ok(ProgramRequest::List(Listing::Holdings { json })),
         Action::Sums => Ok(ProgramRequest::List(Listing::Sums)),
-        Action::ScriptFile(_) => unreachable!(),
+        Action::ScriptFile { .. } => unreachable!(),
         Action::UndoChecked { .. } => unreachable!(),
     }
 }
@@ -207,8 +212,8 @@ pub(crate) fn request_of<S: Store>(
     ensures untouched { IsTrue (only_shows action) → store.new ≡ store.old }
 {
     match action {
-        Action::ScriptFile(name) => {
-            let script = read_script(alloc, store, name)?;
+        Action::ScriptFile { name, unknown } => {
+            let script = read_script(alloc, store, name, unknown)?;
             Ok(ProgramRequest::Step(Step::Run { script, title }))
         }
         Action::UndoChecked { count, sums } => {

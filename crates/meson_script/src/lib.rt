@@ -11,7 +11,7 @@ mod titles;
 
 pub use fault::{RunFault, UndoFault, Unstarted};
 pub use log::log_text;
-pub use meson_json::{Script, ScriptFault, empty_log, is_title, read_log};
+pub use meson_json::{Script, ScriptFault, UnknownMembers, empty_log, is_title, read_log};
 pub use meson_plan::{info_kwargs, info_target};
 pub use performing::{Ran, perform_all};
 pub use session::{Report, Session};

@@ -71,7 +71,10 @@ fn help_tells_words_and_an_example(rt: HostRuntime) {
             "T default-options --help",
             "Usage: meson_rewrite default-options <OPERATION> [OPTION VALUE]...",
         ),
-        ("T command --help", "Usage: meson_rewrite command <JSON>"),
+        (
+            "T command --help",
+            "Usage: meson_rewrite command [OPTIONS] <JSON>",
+        ),
         ("T undo --help", "Usage: meson_rewrite undo [OPTIONS]"),
         ("T redo --help", "Usage: meson_rewrite redo"),
         ("T history --help", "Usage: meson_rewrite history [OPTIONS]"),

@@ -10,7 +10,7 @@ use Rattle.meson_rewrite.specs.Requests.{script}
 
 -- a file is read for it: a script, or digests
 abbrev pub names_file : Action → Bool
-names_file (action.ScriptFile name) = true
+names_file (action.ScriptFile name unknown) = true
 names_file (action.UndoChecked count name) = true
 names_file _ = false
 

@@ -35,8 +35,8 @@ returns-clause-ok c =
     let same = title.1 ∙ c.word_or-word.ensures in
     let read = c.in_ok-titled.ensures.read in
     rw read (
-    asks _ _ _ _ _ _ _ _ (entered_by (out-ArgMatches m).subcommand _ _ c.in-Some.ensures.name c.in-Some.ensures.rows)
-    (sym (ap names_no_folder dir) ∙ c.in_ok-dir.ensures.ok.0) (c.in_ok-dir.ensures.ok.1 ∙ dir) c.in_ok-action.ensures.ok (subst (λ t. is_title t ≡ true) same title.0) same c.is_set-dry_run.ensures
+    asks _ _ _ _ _ _ _ _ _ (entered_by (out-ArgMatches m).subcommand _ _ c.in-Some.ensures.name c.in-Some.ensures.rows)
+    (sym (ap names_no_folder dir) ∙ c.in_ok-dir.ensures.ok.0) (c.in_ok-dir.ensures.ok.1 ∙ dir) c.in_ok-action.ensures.ok (subst (λ t. is_title t ≡ true) same title.0) same c.is_set-dry_run.ensures c.is_set-json.ensures
     )
 
 pub returns-in_err-titled-clause-refused : goal.returns-in_err-titled-clause-refused

@@ -12,3 +12,9 @@ returns-in_err-id-clause-refused c =
 pub returns-clause-refused : goal.returns-clause-refused
 unfolding kwargs_entry
 returns-clause-refused c = IfErr-weaker c.kwargs_command.result _ _ (λ e h n. let refused = h n in search rules) c.kwargs_command.ensures.refused
+
+pub returns-in_err-members-clause-refused : goal.returns-in_err-members-clause-refused
+unfolding kwargs_entry
+returns-in_err-members-clause-refused c =
+    let p = err_from_is_err_and c.from_residual-in_err-members.result c.from_residual-in_err-members.ensures.1 in
+    rw (p.1, p.2) (λ n. let refused = c.in_err-members.ensures.refused n in search rules)

@@ -3,25 +3,26 @@ use Rattle.std.specs.Prelude.{nat_lt}
 use Rattle.std.specs.Fmt.{digits}
 use Rattle.serde_json.proofs.OnLiterals.{serde_json_on_literals}
 use Rattle.meson_json.specs.Each.{each_of, each_member, names_of_members}
-use Rattle.meson_json.specs.Scripts.{target_members, target_entry, kwargs_command, kwargs_entry, options_command, options_entry, entry_of, entries_of, max_commands, script_of}
+use Rattle.meson_json.specs.Scripts.{target_members, target_entry, kwargs_command, kwargs_entry, options_command, options_entry, entry_of, entry_by, entries_of, max_commands, script_of}
+use Rattle.meson_json.specs.declared.member_check.UnknownMembers.TheVariants.{Ignored}
 use Rattle.meson_json.specs.declared.fault.ScriptFault.TheVariants.{TooMany}
 use Rattle.meson_json.proofs.laws.script_rows.Goals as goal
 
 pub returns-clause-targets : goal.returns-clause-targets
-unfolding serde_json_on_literals digits each_of each_member names_of_members target_members target_entry kwargs_command kwargs_entry options_command options_entry entry_of entries_of script_of
+unfolding serde_json_on_literals digits each_of each_member names_of_members target_members target_entry kwargs_command kwargs_entry options_command options_entry entry_of entry_by entries_of script_of
 returns-clause-targets c = (refl, refl, refl, refl, refl, refl, refl, refl)
 
 pub returns-clause-arguments : goal.returns-clause-arguments
-unfolding serde_json_on_literals digits each_of each_member names_of_members target_members target_entry kwargs_command kwargs_entry options_command options_entry entry_of entries_of script_of
+unfolding serde_json_on_literals digits each_of each_member names_of_members target_members target_entry kwargs_command kwargs_entry options_command options_entry entry_of entry_by entries_of script_of
 returns-clause-arguments c = (refl, refl, refl, refl, refl, refl, refl, refl)
 
 pub returns-clause-faults : goal.returns-clause-faults
-unfolding serde_json_on_literals digits each_of each_member names_of_members target_members target_entry kwargs_command kwargs_entry options_command options_entry entry_of entries_of script_of
+unfolding serde_json_on_literals digits each_of each_member names_of_members target_members target_entry kwargs_command kwargs_entry options_command options_entry entry_of entry_by entries_of script_of
 returns-clause-faults c = (
   refl,
   refl,
   refl,
-  λ entries is. ap (λ n. if nat_lt max_commands n then Err TooMany else entries_of 0 entries) is,
+  λ entries is. ap (λ n. if nat_lt max_commands n then Err TooMany else entries_of Ignored 0 entries) is,
   refl,
   refl,
   refl,
@@ -34,3 +35,7 @@ returns-clause-faults c = (
   refl,
   refl,
 )
+
+pub returns-clause-known : goal.returns-clause-known
+unfolding serde_json_on_literals digits each_of each_member names_of_members target_members target_entry kwargs_command kwargs_entry options_command options_entry entry_of entry_by entries_of script_of
+returns-clause-known c = (refl, refl, refl, refl, refl, refl, refl, refl, refl, refl, refl)

@@ -4,7 +4,7 @@ use Rattle.std.proofs.lemmas.Result.{IfErr-weaker, IfOk-weaker}
 use Rattle.serde_json.proofs.OnLiterals.{serde_json_on_literals}
 use Rattle.meson_json.specs.Log.{log_of, log_data}
 use Rattle.meson_json.specs.declared.fault.ScriptFault.{ScriptFault}
-use Rattle.meson_json.specs.declared.fault.ScriptFault.TheVariants.{NotJson, NotArray, TooMany, NotObject, UnknownType, BadField, UnknownOperation, Unsupported, BadLog, OutOfMemory}
+use Rattle.meson_json.specs.declared.fault.ScriptFault.TheVariants.{NotJson, NotArray, TooMany, NotObject, UnknownType, BadField, UnknownOperation, Unsupported, UnknownMember, BadLog, OutOfMemory}
 use Rattle.meson_json.proofs.log.empty_log.Goals as goal
 
 nothing_logged : log_of (record { past = []; future = [] }) ≡ Ok (codes "{\"future\":[],\"past\":[],\"version\":2}\n")
@@ -22,6 +22,7 @@ only_memory (UnknownType i) h = absurd (h (λ q. cc))
 only_memory (BadField i m) h = absurd (h (λ q. cc))
 only_memory (UnknownOperation i) h = absurd (h (λ q. cc))
 only_memory (Unsupported i) h = absurd (h (λ q. cc))
+only_memory (UnknownMember i m) h = absurd (h (λ q. cc))
 only_memory BadLog h = absurd (h (λ q. cc))
 
 pub returns-clause-text : goal.returns-clause-text

@@ -8,15 +8,15 @@ returns-in_err-command-clause-refused c =
     let error = err_from_is_err_and c.from_residual.result c.from_residual.ensures.1 in
     rw (error.1, error.2) (λ n.
     let l = c.loop-index in
-    l.invariant ∙ entries-refused c.args.list.now l.index l.commands.items c.index-list-index.result c.in_err-command.field-0.0 c.loop-index-test.true c.index-list-index.is (c.in_err-command.ensures.refused n))
+    l.invariant ∙ entries-refused c.args.unknown c.args.list.now l.index l.commands.items c.index-list-index.result c.in_err-command.field-0.0 c.loop-index-test.true c.index-list-index.is (c.in_err-command.ensures.refused n))
 
 pub loop-index-preserved : goal.loop-index-preserved
 loop-index-preserved c =
     let l = c.loop-index in
     rw c.in_ok-push.ensures.items
-    (l.invariant ∙ entries-more c.args.list.now l.index l.commands.items c.index-list-index.result c.in_ok-command.command c.loop-index-test.true c.index-list-index.is c.in_ok-command.ensures.ok)
+    (l.invariant ∙ entries-more c.args.unknown c.args.list.now l.index l.commands.items c.index-list-index.result c.in_ok-command.command c.loop-index-test.true c.index-list-index.is c.in_ok-command.ensures.ok)
 
 pub returns-clause-ok : goal.returns-clause-ok
 returns-clause-ok c =
     let l = c.loop-index in
-    rw c.of.ensures (l.invariant ∙ entries-all c.args.list.now l.index l.commands.items (omega arith))
+    rw c.of.ensures (l.invariant ∙ entries-all c.args.unknown c.args.list.now l.index l.commands.items (omega arith))

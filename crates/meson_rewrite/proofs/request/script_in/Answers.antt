@@ -7,11 +7,11 @@ use Rattle.meson_rewrite.proofs.request.script_in.Goals as goal
 
 pub returns-in-Ok-clause-ok : goal.returns-in-Ok-clause-ok
 returns-in-Ok-clause-ok c =
-    subst (λ r. IfOk c.script_from.result (λ s. r ≡ Ok s.commands)) (sym (of-text c.args.bytes.now c.in-Ok.text.now c.in-Ok.ensures.cases.0 c.in-Ok.ensures.cases.1)) c.script_from.ensures.ok
+    subst (λ r. IfOk c.script_from.result (λ s. r ≡ Ok s.commands)) (sym (of-text c.args.unknown c.args.bytes.now c.in-Ok.text.now c.in-Ok.ensures.cases.0 c.in-Ok.ensures.cases.1)) c.script_from.ensures.ok
 
 pub returns-in-Ok-clause-none : goal.returns-in-Ok-clause-none
 returns-in-Ok-clause-none c =
-    subst (λ r. IfErr c.script_from.result (λ why. WantsMemory why ⊎ IsBad r why)) (sym (of-text c.args.bytes.now c.in-Ok.text.now c.in-Ok.ensures.cases.0 c.in-Ok.ensures.cases.1)) c.script_from.ensures.none
+    subst (λ r. IfErr c.script_from.result (λ why. WantsMemory why ⊎ IsBad r why)) (sym (of-text c.args.unknown c.args.bytes.now c.in-Ok.text.now c.in-Ok.ensures.cases.0 c.in-Ok.ensures.cases.1)) c.script_from.ensures.none
 
 pub returns-in-Err-clause-none : goal.returns-in-Err-clause-none
-returns-in-Err-clause-none c = inr (_, of-no-text c.args.bytes.now c.in-Err.ensures.cases.0, refl)
+returns-in-Err-clause-none c = inr (_, of-no-text c.args.unknown c.args.bytes.now c.in-Err.ensures.cases.0, refl)

@@ -5,3 +5,6 @@ returns-in-BadField-clause-writes g c = rw c.in-BadField.is c.write-in-BadField.
 
 pub returns-in-UnknownOperation-clause-writes : goal.returns-in-UnknownOperation-clause-writes
 returns-in-UnknownOperation-clause-writes g c = rw c.in-UnknownOperation.is c.write-in-UnknownOperation.ensures.writes
+
+pub returns-in-UnknownMember-clause-writes : goal.returns-in-UnknownMember-clause-writes
+returns-in-UnknownMember-clause-writes g c = rw c.in-UnknownMember.is c.write-in-UnknownMember.ensures.writes

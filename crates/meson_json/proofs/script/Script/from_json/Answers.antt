@@ -7,4 +7,4 @@ pub returns-in_err-value-clause-refused : goal.returns-in_err-value-clause-refus
 unfolding script_of
 returns-in_err-value-clause-refused c =
     let p = err_from_is_err_and c.from_residual.result c.from_residual.ensures.1 in
-    rw p.1 (λ n. let why = p.2.1 n in rw why.1 (ap script_of (c.in_err-value.ensures.err why.0)))
+    rw p.1 (λ n. let why = p.2.1 n in rw why.1 (ap (script_of c.args.unknown) (c.in_err-value.ensures.err why.0)))

@@ -1,0 +1,32 @@
+-- The members of an entry that have an effect.
+use Rattle.std.specs.Prelude.{ℕ, List, [], ◌∷◌, Bool, not, codes, bytes_eq, find, Option}
+use Rattle.std.specs.List.{list_any}
+use Rattle.serde_json.specs.Data.{Members}
+use Rattle.meson_json.specs.Each.{names_of_members}
+use Rattle.meson_steps.specs.declared.command.Command.{Command}
+use Rattle.meson_steps.specs.declared.command.Command.TheVariants as command
+
+-- those that the operation of a command uses
+abbrev pub used_members : Command → List (List ℕ)
+used_members (command.SourcesAdd target sources) = codes "target" ∷ codes "sources" ∷ []
+used_members (command.SourcesRemove target sources) = codes "target" ∷ codes "sources" ∷ []
+used_members (command.ExtraAdd target sources) = codes "target" ∷ codes "sources" ∷ []
+used_members (command.ExtraRemove target sources) = codes "target" ∷ codes "sources" ∷ []
+used_members (command.TargetAdd target kind subdir sources) = codes "target" ∷ codes "sources" ∷ codes "subdir" ∷ codes "target_type" ∷ []
+used_members (command.TargetRemove target) = codes "target" ∷ []
+used_members (command.TargetInfo target) = codes "target" ∷ []
+used_members (command.KwargsSet role id pairs) = codes "function" ∷ codes "id" ∷ codes "kwargs" ∷ []
+used_members (command.KwargsDelete role id keys) = codes "function" ∷ codes "id" ∷ codes "kwargs" ∷ []
+used_members (command.KwargsAdd role id pairs) = codes "function" ∷ codes "id" ∷ codes "kwargs" ∷ []
+used_members (command.KwargsRemove role id pairs) = codes "function" ∷ codes "id" ∷ codes "kwargs" ∷ []
+used_members (command.KwargsInfo role id) = codes "function" ∷ codes "id" ∷ []
+used_members (command.OptionsSet pairs) = codes "options" ∷ []
+used_members (command.OptionsDelete names) = codes "options" ∷ []
+
+-- one of these, or one that says which command it is
+abbrev pub is_known : Command → List ℕ → Bool
+is_known command name = list_any (bytes_eq name) (codes "type" ∷ codes "operation" ∷ used_members command)
+
+-- the first of an entry that is not known, in the order of the bytes of the names
+abbrev pub unknown_in : Command → Members → Option (List ℕ)
+unknown_in command members = find (λ name. not (is_known command name)) (names_of_members members)

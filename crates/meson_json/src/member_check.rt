@@ -1,0 +1,83 @@
+//! Members of an entry that its operation does not use.
+
+ghost use Rattle.std.specs.Prelude.{◌≡◌, ◌≢◌, Err, IfErr, IfOk, Ok, option_and_then, option_map};
+ghost use Rattle.serde_json.specs.Find.{as_object};
+ghost use Rattle.serde_json.specs.View.{view};
+ghost use Rattle.meson_json.specs.Known.{is_known, unknown_in};
+ghost use Rattle.meson_json.specs.Scripts.{entry_by};
+ghost use Rattle.meson_json.specs.declared.fault.ScriptFault.TheVariants.{OutOfMemory};
+
+use crate::entry::entry_command;
+use crate::fault::ScriptFault;
+use crate::members::owned;
+use meson_steps::command::Command;
+use serde_json::Value;
+use std::alloc::Global;
+
+/// What is done about members of entries that are not known: those that the operation does not use.
+#[derive(Clone, Copy)]
+pub enum UnknownMembers {
+    /// They are ignored.
+    Ignored,
+    /// The first of them is refused.
+    Refused,
+}
+
+/// Whether a member has an effect on the command of its entry.
+fn is_known(command: &Command, name: &str) -> bool
+    ensures { result ≡ is_known command.now name.now }
+{
+    if name == "type" || name == "operation" {
+        return true;
+    }
+    match command {
+        Command::SourcesAdd { .. }
+        | Command::SourcesRemove { .. }
+        | Command::ExtraAdd { .. }
+        | Command::ExtraRemove { .. } => name == "target" || name == "sources",
+        Command::TargetAdd { .. } => {
+            name == "target" || name == "sources" || name == "subdir" || name == "target_type"
+        }
+        Command::TargetRemove { .. } | Command::TargetInfo { .. } => name == "target",
+        Command::KwargsSet { .. }
+        | Command::KwargsDelete { .. }
+        | Command::KwargsAdd { .. }
+        | Command::KwargsRemove { .. } => name == "function" || name == "id" || name == "kwargs",
+        Command::KwargsInfo { .. } => name == "function" || name == "id",
+        Command::OptionsSet { .. } | Command::OptionsDelete { .. } => name == "options",
+    }
+}
+
+/// The first member of an entry that has no effect on its command.
+fn unknown_in<'a>(command: &Command, entry: &'a Value) -> Option<&'a str>
+    ensures { option_map (λ name. name.now) result ≡ option_and_then (unknown_in command.now) (as_object (view entry.now)) }
+{
+    let members = entry.as_object()?;
+    for (name, _) in members.iter() {
+        if !is_known(command, name.as_str()) {
+            return Some(name.as_str());
+        }
+    }
+    None
+}
+
+/// The command of an entry.
+#[tactic(auto, unfolding(crate::specs::Scripts::entry_by))]
+pub(crate) fn read_entry(
+    alloc: Global,
+    index: usize,
+    entry: &Value,
+    unknown: UnknownMembers,
+) -> Result<Command, ScriptFault>
+    ensures ok { IfOk result (λ c. entry_by unknown index (view entry.now) ≡ Ok c) }
+    ensures refused { IfErr result (λ e. e ≢ OutOfMemory → entry_by unknown index (view entry.now) ≡ Err e) }
+{
+    let command = entry_command(alloc, index, entry)?;
+    match unknown {
+        UnknownMembers::Ignored => Ok(command),
+        UnknownMembers::Refused => match unknown_in(&command, entry) {
+            Some(name) => Err(ScriptFault::UnknownMember(index, owned(alloc, name)?)),
+            None => Ok(command),
+        },
+    }
+}
