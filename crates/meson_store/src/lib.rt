@@ -5,7 +5,9 @@ mod committing;
 mod folder;
 pub mod laws;
 mod memory;
+mod names;
 mod output;
+mod replaced;
 mod store;
 mod store_fault;
 
