@@ -3,6 +3,7 @@ pub mod StoreCalls
 pub mod Seen
 pub mod Commit
 pub mod MemoryStore
+pub mod Texts
 pub mod Output
 pub mod Messages
 pub mod Laws

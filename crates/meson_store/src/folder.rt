@@ -3,12 +3,14 @@
 ghost use Rattle.std.specs.Prelude.{◌≡◌, ◌≤◌, IfErr};
 ghost use Rattle.meson_store.specs.StoreCalls.{FailureCounted};
 
+use crate::names::{Names, known, make_beside};
+use crate::replaced::{FileId, ReplacedFiles};
 use crate::{Store, StoreError};
-use std::alloc::{AllocError, Global};
-use std::fs::{Metadata, OpenFile, OpenOptions};
+use std::alloc::Global;
+use std::fs::{Metadata, OpenFile};
 use std::io::{ErrorKind, Read, Write};
 use std::os::fd::AsFd;
-use std::os::unix::fs::{MetadataExt, OpenOptionsExt, fchown};
+use std::os::unix::fs::{MetadataExt, fchown};
 use std::rt::Files;
 use std::{fs, io};
 
@@ -17,22 +19,6 @@ const STANDARD_INPUT: &str = "-";
 
 /// A longer file, or more on standard input, counts as a failed read.
 const MOST_BYTES: usize = 67_108_864;
-
-/// The suffix of a file's name while it is written: the first of these that is free.
-const NEW_SUFFIXES: [&str; 9] = [
-    ".rewrite-new",
-    ".rewrite-new-2",
-    ".rewrite-new-3",
-    ".rewrite-new-4",
-    ".rewrite-new-5",
-    ".rewrite-new-6",
-    ".rewrite-new-7",
-    ".rewrite-new-8",
-    ".rewrite-new-9",
-];
-
-/// The number of bytes of the longest of these.
-const MOST_SUFFIX: usize = 14;
 
 /// The mode of a new file until it gets that of the old one.
 const FOR_OWNER: u32 = 0o600;
@@ -43,12 +29,14 @@ const FOR_ALL: u32 = 0o666;
 /// The files of the file system, read and written through the runtime.
 ///
 /// A file is replaced as a whole: its new bytes are written to a new file beside it, which then takes its name.
+/// A file that was replaced under one name is not replaced under another: that is `Unchanged`.
 /// Only regular files are read, and standard input, to its end, by the name `-`. A name below a regular file is that of an
 /// absent one.
 #[derive(Drop)]
 pub struct Folder<R: Files + Input + Drop> {
     rt: R,
     names: Names,
+    replaced: ReplacedFiles,
     failures: u64,
     reads: u64,
     replaces: u64,
@@ -67,6 +55,7 @@ where
         Folder {
             rt,
             names: Names::new(alloc),
+            replaced: ReplacedFiles::new(alloc),
             failures: 0,
             reads: 0,
             replaces: 0,
@@ -158,112 +147,12 @@ fn read_file<R: Files + Input>(
     }
 }
 
-/// What the system knows of a file, or none if there is no such file.
-fn known<T>(asked: io::Result<T>) -> io::Result<Option<T>> {
-    match asked {
-        Ok(known) => Ok(Some(known)),
-        Err(e) => {
-            if e.kind() == ErrorKind::NotFound {
-                Ok(None)
-            } else {
-                Err(e)
-            }
-        }
-    }
-}
-
-/// A name that is a link, and the path of the file that it leads to.
-#[derive(Drop)]
-struct Link {
-    name: String,
-    path: String,
-}
-
-/// Names of files for one replace after another. They keep their memory, so that a file that was replaced once is replaced again without allocating.
-#[derive(Drop)]
-struct Names {
-    alloc: Global,
-    /// The real path of the file.
-    path: String,
-    /// The new file beside it.
-    beside: String,
-    /// The links that were followed.
-    links: Vec<Link>,
-}
-
-impl Names {
-    /// No names. Does not allocate.
-    fn new(alloc: Global) -> Self {
-        Names {
-            alloc,
-            path: String::new(alloc),
-            beside: String::new(alloc),
-            links: Vec::new(alloc),
-        }
-    }
-
-    /// Finds the real path of a file: a link is followed once, to its file.
-    fn find<R: Files>(&mut self, rt: &R, name: &str) -> io::Result<()> {
-        self.path.clear();
-        match known(fs::symlink_metadata(rt, name))? {
-            Some(met) if met.is_symlink() => self.follow(rt, name),
-            _ => Ok(self.path.push_str(name)?),
-        }
-    }
-
-    /// The same for a link.
-    fn follow<R: Files>(&mut self, rt: &R, name: &str) -> io::Result<()> {
-        for link in &self.links {
-            if link.name.as_str() == name {
-                return Ok(self.path.push_str(link.path.as_str())?);
-            }
-        }
-        self.follow_new(rt, name)
-    }
-
-    /// The same for a link that was not followed before.
-    fn follow_new<R: Files>(&mut self, rt: &R, name: &str) -> io::Result<()> {
-        let path = rt.canonicalize(self.alloc, name)?.into_string();
-        self.path.push_str(path.as_str())?;
-        let name = String::from_str(self.alloc, name)?;
-        Ok(self.links.push(Link { name, path })?)
-    }
-
-    /// Names a new file next to the one that was found.
-    fn put_beside(&mut self, suffix: &str) -> Result<(), AllocError> {
-        self.beside.clear();
-        // Room for each suffix, so that a longer one needs no allocation later on.
-        self.beside
-            .reserve(self.path.len().saturating_add(MOST_SUFFIX))?;
-        self.beside.push_str(self.path.as_str())?;
-        self.beside.push_str(suffix)
-    }
-}
-
-/// Makes a file of that mode beside this one. Nothing that exists there is opened, and no link is followed.
-fn make_beside<R: Files>(rt: &R, names: &mut Names, mode: u32) -> Result<R::File, StoreError> {
-    for suffix in NEW_SUFFIXES {
-        names.put_beside(suffix)?;
-        let made = OpenOptions::new()
-            .write(true)
-            .create_new(true)
-            .mode(mode)
-            .open(rt, names.beside.as_str());
-        match made {
-            Ok(file) => return Ok(file),
-            Err(e) => {
-                if e.kind() != ErrorKind::AlreadyExists {
-                    return Err(StoreError::from(e));
-                }
-            }
-        }
-    }
-    Err(StoreError::Unchanged)
-}
-
 /// Gives the new file the owner, if that is permitted, and the mode of the old one.
-fn keep_owner_and_mode<F: OpenFile + AsFd>(new: &F, old: &Metadata) -> io::Result<()> {
-    let made = new.metadata()?;
+fn keep_owner_and_mode<F: OpenFile + AsFd>(
+    new: &F,
+    made: &Metadata,
+    old: &Metadata,
+) -> io::Result<()> {
     if made.uid() != old.uid() || made.gid() != old.gid() {
         let (owner, group) = (Some(old.uid()), Some(old.gid()));
         if fchown(new, owner, group).is_err() {
@@ -276,18 +165,20 @@ fn keep_owner_and_mode<F: OpenFile + AsFd>(new: &F, old: &Metadata) -> io::Resul
     new.set_permissions(old.permissions())
 }
 
-/// Writes the new file, and makes the device store its bytes.
+/// Writes the new file, and makes the device store its bytes. Says which file it is.
 fn fill<F: Write + OpenFile + AsFd>(
     new: &mut F,
     old: Option<Metadata>,
     bytes: &[u8],
-) -> io::Result<()> {
+) -> io::Result<FileId> {
+    let made = new.metadata()?;
     if let Some(old) = old {
-        keep_owner_and_mode(new, &old)?;
+        keep_owner_and_mode(new, &made, &old)?;
     }
     new.write_all(bytes)?;
     new.flush()?;
-    new.sync_all()
+    new.sync_all()?;
+    Ok(FileId::of(&made))
 }
 
 /// Why a rename failed. Of these kinds the system refuses it before it changes anything, so the old file is surely kept.
@@ -304,11 +195,31 @@ fn rename_error(e: io::Error) -> StoreError {
     }
 }
 
+/// What the system knows of the file that is to be replaced under this name, or none if there is no such file.
+///
+/// It is refused if it was replaced under another name, since the text of that name would be lost.
+fn replaceable<R: Files>(
+    rt: &R,
+    replaced: &mut ReplacedFiles,
+    name: &str,
+    path: &str,
+) -> Result<Option<Metadata>, StoreError> {
+    let old = known(fs::metadata(rt, path))?;
+    if let Some(old) = &old {
+        if replaced.has_by_other_name(FileId::of(old), name) {
+            return Err(StoreError::Unchanged);
+        }
+    }
+    replaced.expect(name)?;
+    Ok(old)
+}
+
 /// Writes a new file beside the real one, and gives it the real one's name. If that fails, what was made is removed. `Device` is an error of the last step
 /// alone.
 fn replace_file<R: Files>(
     rt: &R,
     names: &mut Names,
+    replaced: &mut ReplacedFiles,
     name: &str,
     bytes: &[u8],
 ) -> Result<(), StoreError>
@@ -316,20 +227,27 @@ where
     R::File: AsFd,
 {
     names.find(rt, name)?;
-    let old = known(fs::metadata(rt, names.path.as_str()))?;
+    let old = replaceable(rt, replaced, name, names.path())?;
     let mode = if old.is_some() { FOR_OWNER } else { FOR_ALL };
     let mut file = make_beside(rt, names, mode)?;
     let filled = fill(&mut file, old, bytes);
     drop(file);
-    let (made, path) = (names.beside.as_str(), names.path.as_str());
-    let end = match filled {
-        Ok(()) => fs::rename(rt, made, path).map_err(rename_error),
+    let renamed = match filled {
+        Ok(new) => fs::rename(rt, names.beside(), names.path())
+            .map(|()| new)
+            .map_err(rename_error),
         Err(e) => Err(StoreError::from(e)),
     };
-    if end.is_err() {
-        let _ = fs::remove_file(rt, made);
+    match renamed {
+        Ok(new) => {
+            replaced.keep(name, new);
+            Ok(())
+        }
+        Err(why) => {
+            let _ = fs::remove_file(rt, names.beside());
+            Err(why)
+        }
     }
-    end
 }
 
 impl<R: Files + Input + Drop> Store for Folder<R>
@@ -355,7 +273,7 @@ where
 
     fn replace(&mut self, name: &str, bytes: &[u8]) -> Result<(), StoreError> {
         self.replaces = self.replaces.saturating_add(1);
-        match replace_file(&self.rt, &mut self.names, name, bytes) {
+        match replace_file(&self.rt, &mut self.names, &mut self.replaced, name, bytes) {
             Ok(()) => Ok(()),
             Err(why) => {
                 self.count_failure(why);

@@ -5,7 +5,10 @@ mod committing;
 mod folder;
 pub mod laws;
 mod memory;
+mod names;
 mod output;
+mod overlaid;
+mod replaced;
 mod store;
 mod store_fault;
 
@@ -13,5 +16,6 @@ pub use committing::{commit, path_in};
 pub use folder::Folder;
 pub use memory::Memory;
 pub use output::{Counted, Output, Writer};
+pub use overlaid::{Below, Overlaid};
 pub use store::{Store, StoreError};
 pub use store_fault::StoreFault;
