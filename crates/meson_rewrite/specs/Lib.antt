@@ -1,6 +1,8 @@
 pub mod Logs
 pub mod Stops
 pub mod Lines
+pub mod Codes
+pub mod Refused
 pub mod Changes
 pub mod Listed
 pub mod Steps
