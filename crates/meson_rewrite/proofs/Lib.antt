@@ -21,3 +21,5 @@ pub mod Escapes
 pub mod Insides
 pub mod TextArrays
 pub mod RefusalObjects
+pub mod CodeWords
+pub mod RefusalMembers

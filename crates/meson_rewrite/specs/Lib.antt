@@ -11,4 +11,5 @@ pub mod Opening
 pub mod Runs
 pub mod StoreReads
 pub mod Laws
+pub mod RefusalLaws
 pub mod inside
