@@ -1,6 +1,8 @@
 pub mod Logs
 pub mod Stops
 pub mod Lines
+pub mod Codes
+pub mod Refused
 pub mod Changes
 pub mod Listed
 pub mod Steps
@@ -9,4 +11,5 @@ pub mod Opening
 pub mod Runs
 pub mod StoreReads
 pub mod Laws
+pub mod RefusalLaws
 pub mod inside

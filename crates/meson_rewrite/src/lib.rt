@@ -2,11 +2,14 @@
 #![tactic(auto)]
 
 mod changes;
+mod codes;
 pub mod laws;
 mod lines;
 mod listed;
 mod opening;
 mod program;
+mod quoted;
+mod refused;
 mod request;
 mod said;
 mod steps;
