@@ -1,8 +1,10 @@
 pub mod Logs
 pub mod Stops
 pub mod Lines
+pub mod Refused
 pub mod Changes
 pub mod Listed
+pub mod Objects
 pub mod Steps
 pub mod Requests
 pub mod Opening

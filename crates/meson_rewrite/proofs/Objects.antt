@@ -1,0 +1,51 @@
+-- Objects of JSON hold no number with a fraction, and the files of a project are text.
+use Rattle.std.proofs.Common.{◌≡◌, ℕ, Bool, false, List, [], ◌∷◌, map, refl, ap}
+use Rattle.std.specs.List.{All}
+use Rattle.std.specs.Str.{IsUtf8}
+use Rattle.std.proofs.lemmas.List.Elements.{All-cons, All-nil}
+use Rattle.serde_json.specs.Data.{Data, array}
+use Rattle.serde_json.specs.View.{items_of, view}
+use Rattle.serde_json.specs.Written.{has_float}
+use Rattle.meson_syntax.specs.declared.tree.Parsed.{Parsed}
+use Rattle.meson_splice.specs.declared.change.Change.{Change}
+use Rattle.meson_splice.specs.declared.file_set.File.{File}
+use Rattle.meson_splice.specs.declared.history.History.{History}
+use Rattle.meson_calls.specs.Loading.{AreParsed, IsProject, Loaded}
+use Rattle.meson_ranges.specs.declared.files.FileEdits.{FileEdits}
+use Rattle.meson_script.specs.declared.session.Report.{Report}
+use Rattle.meson_rewrite.specs.Objects.{change_data, changes_data, done_data, done_members, edit_data, file_edits_data, history_data, sum_data, sums_data}
+use Rattle.meson_rewrite.proofs.Listings.{all-plain, either}
+
+-- ---- numbers
+
+file-plain : (f : FileEdits) → has_float (file_edits_data f) ≡ false
+file-plain f = either (has_float (array (items_of (map edit_data f.edits.items)))) false (all-plain edit_data f.edits.items (λ e. refl)) refl
+
+pub changes-plain : (changes : List FileEdits) → has_float (array (items_of (map file_edits_data changes))) ≡ false
+changes-plain changes = all-plain file_edits_data changes file-plain
+
+pub done-plain : (changes : Data) (report : Report) → has_float changes ≡ false → has_float (view report.info) ≡ false → has_float (done_members changes report) ≡ false
+done-plain changes report p q = rw (p, q) refl
+
+past-plain : (changes : List Change) → has_float (changes_data changes) ≡ false
+past-plain changes = all-plain change_data changes (λ c. refl)
+
+pub history-plain : (h : History) → has_float (history_data h) ≡ false
+history-plain h = rw (past-plain _, past-plain _) refl
+
+pub sums-plain : (files : List File) → has_float (sums_data files) ≡ false
+sums-plain files = rw (all-plain sum_data files (λ f. refl)) refl
+
+-- ---- text
+
+abbrev IsText : File → Type 0
+IsText f = IsUtf8 f.bytes
+
+all-text : (files : List File) (parsed : List Parsed) → AreParsed files parsed → All IsText files
+all-text [] [] p = All-nil IsText
+all-text [] (t ∷ parsed) p = absurd p
+all-text (f ∷ files) [] p = absurd p
+all-text (f ∷ files) (t ∷ parsed) p = All-cons IsText f files p.0.reads.source.utf8 (all-text files parsed p.1)
+
+pub project-text : (l : Loaded) → IsProject l → All IsText l.files
+project-text l is = all-text l.files l.parsed is.parsed
