@@ -1,8 +1,7 @@
 -- Where a request is answered in JSON.
-use Rattle.std.proofs.Common.{◌≡◌, ◌≢◌, ◌∙◌, ◌∷◌, ◌⊎◌, ◌&&◌, inl, inr, Bool, List, [], Option, false, Result, Ok, Err, codes, refl, sym, ap, ap₂, subst}
+use Rattle.std.proofs.Common.{◌≡◌, ◌≢◌, ◌∙◌, ◌∷◌, ◌⊎◌, inl, inr, Bool, List, [], Option, false, Result, Ok, Err, codes, refl, sym, ap, ap₂, subst}
 use Rattle.std.specs.Prelude.{IfOk, ok_or}
 use Rattle.clap.specs.Kinds.{IsAmong, Kinds}
-use Rattle.clap.specs.Walk.{is_empty}
 use Rattle.clap.specs.Words.{App, HasMatchesOf, Row, Text, fault_of, first_of, found_of, matches_of, rows_of}
 use Rattle.clap.specs.declared.parser.matches.ArgMatches.{ArgMatches}
 use Rattle.clap.specs.declared.error.kind.ErrorKind.{ErrorKind}
@@ -10,7 +9,7 @@ use Rattle.clap.specs.declared.error.kind.ErrorKind.TheVariants as kind
 use Rattle.clap.specs.declared.error.kind.ErrorKind.TheVariants.{DisplayHelp, DisplayVersion, OutOfMemory}
 use Rattle.meson_json.specs.Titles.{is_title}
 use Rattle.meson_command.specs.Actions.{action_of}
-use Rattle.meson_command.specs.Asking.{answer, answer_by, asked_from, asked_of, is_json_answer, names_no_folder, title_in}
+use Rattle.meson_command.specs.Asking.{answer, answer_by, asked_from, asked_of, is_json_answer, json_by, names_no_folder, title_in}
 use Rattle.meson_command.specs.Laws.{JsonWhereWanted}
 use Rattle.meson_command.specs.Program.{program}
 use Rattle.meson_command.specs.declared.asked.Asked.{Asked}
@@ -47,22 +46,22 @@ by_kind kind.Io = err _
 by_kind kind.Format = err _
 by_kind kind.OutOfMemory = err _
 
-by_kinds : (ks : Kinds) (words : List Text) → Answers (λ a. a.json ≡ (is_empty ks && is_json_answer (matches_of program words))) (answer ks (asked_of words))
+by_kinds : (ks : Kinds) (words : List Text) → Answers (λ a. a.json ≡ json_by ks (is_json_answer (matches_of program words))) (answer ks (asked_of words))
 by_kinds [] words = from_words _ _
 by_kinds (k ∷ ks) words = by_kind k
 
 pub json-law : JsonWhereWanted
 json-law words asked is =
-    let wanted : Asked → Type 0 = λ a. a.json ≡ (is_empty (fault_of program words) && is_json_answer (matches_of program words)) in
+    let wanted : Asked → Type 0 = λ a. a.json ≡ json_by (fault_of program words) (is_json_answer (matches_of program words)) in
     subst (λ r. IfOk r wanted) is (by_kinds (fault_of program words) words).so
 
 -- ---- what is read of the words
 
 pub wanted : (a : App) (words : List Text) (m : ArgMatches) (json : Bool) → a ≡ program → HasMatchesOf a words m → fault_of program words ≡ [] → json ≡ is_json_answer (rows_of (found_of m))
-    → json ≡ (is_empty (fault_of program words) && is_json_answer (matches_of program words))
-wanted a words m json is h none given = given ∙ ap₂ (λ (ks : Kinds) rows. is_empty ks && is_json_answer rows) (sym none) (rows-of a words m is h)
+    → json ≡ json_by (fault_of program words) (is_json_answer (matches_of program words))
+wanted a words m json is h none given = given ∙ ap₂ (λ (ks : Kinds) rows. json_by ks (is_json_answer rows)) (sym none) (rows-of a words m is h)
 
-pub unwanted : (ks : Kinds) (k : ErrorKind) (json : Bool) → k ≢ OutOfMemory → (k ≡ OutOfMemory) ⊎ IsAmong k ks → false ≡ (is_empty ks && json)
+pub unwanted : (ks : Kinds) (k : ErrorKind) (json : Bool) → k ≢ OutOfMemory → (k ≡ OutOfMemory) ⊎ IsAmong k ks → false ≡ json_by ks json
 unwanted [] k json n (inl e) = absurd (n e)
 unwanted [] k json n (inr h) = absurd h
 unwanted (x ∷ ks) k json n h = refl

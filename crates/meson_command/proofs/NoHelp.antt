@@ -11,14 +11,15 @@ use Rattle.meson_command.specs.declared.asked.Action.TheVariants as action
 use Rattle.meson_command.specs.declared.asked.Action.TheVariants.{Run, Info, ScriptText, ScriptFile, Undo, UndoTo, UndoChecked, Redo, History, ForgetOldest, ForgetAll, Sums, Help, Version}
 use Rattle.meson_command.specs.declared.asked.Asked.{Asked}
 use Rattle.meson_json.specs.Titles.{is_title}
-use Rattle.meson_json.specs.Operations.{kwargs_operation, options_operation, role_of}
+use Rattle.meson_json.specs.Operations.{kwargs_operation, role_of}
 use Rattle.meson_command.specs.Counts.{count_of}
-use Rattle.meson_command.specs.Pairs.{pairs_of}
+use Rattle.meson_command.specs.Operations.{options_word}
+use Rattle.meson_command.specs.Pairs.{lone_names, pairs_of}
 use Rattle.meson_command.specs.declared.fault.UsageFault.TheVariants.{Usage, BadTitle}
 use Rattle.meson_json.specs.declared.names.KwargsOperation.{KwargsOperation}
 use Rattle.meson_json.specs.declared.names.KwargsOperation.TheVariants as kwargs
-use Rattle.meson_json.specs.declared.names.OptionsOperation.{OptionsOperation}
-use Rattle.meson_json.specs.declared.names.OptionsOperation.TheVariants as options
+use Rattle.meson_command.specs.declared.operations.OptionsWord.{OptionsWord}
+use Rattle.meson_command.specs.declared.operations.OptionsWord.TheVariants as options
 use Rattle.meson_json.specs.declared.target.TargetOperation.{TargetOperation}
 use Rattle.meson_json.specs.declared.target.TargetOperation.TheVariants as target
 use Rattle.meson_json.specs.declared.target.TargetMembers.{TargetMembers}
@@ -68,9 +69,11 @@ kwargs-plain kwargs.Remove r id words = after (pairs_of words) _ (λ _. ok _ tt)
 kwargs-plain kwargs.RemoveRegex r id words = after (pairs_of words) _ (λ _. err _)
 kwargs-plain kwargs.Info r id words = ok _ tt
 
-options-plain : (o : OptionsOperation) (pairs : List (Text × Text)) → IsPlain (options_by o pairs)
-options-plain options.Set pairs = tt
-options-plain options.Delete pairs = tt
+options-plain : (o : OptionsWord) (words : List Text) → Answers IsPlain (options_by o words)
+unfolding options_by
+options-plain options.Set words = after (pairs_of words) _ (λ _. ok _ tt)
+options-plain options.Delete words = after (pairs_of words) _ (λ _. ok _ tt)
+options-plain options.Unset words = after (lone_names words) _ (λ _. ok _ tt)
 
 script-plain : (b : Bool) (word : Text) → IsPlain (if b then ScriptText word else ScriptFile word)
 script-plain true word = tt
@@ -89,9 +92,7 @@ kwargs_action-plain rows =
 
 options_action-plain : (rows : List Row) → Answers IsPlain (options_action rows)
 unfolding options_action
-options_action-plain rows =
-    after (ok_or (options_operation (word_at (codes "OPERATION") rows)) Usage) _ (λ o.
-    after (pairs_of (words_at (codes "OPTION VALUE") rows)) _ (λ pairs. ok _ (options-plain o pairs)))
+options_action-plain rows = after (ok_or (options_word (word_at (codes "OPERATION") rows)) Usage) _ (λ o. options-plain o (words_at (codes "OPTION VALUE") rows))
 
 script_action-plain : (rows : List Row) → IsPlain (script_action rows)
 unfolding script_action

@@ -13,14 +13,14 @@ use Rattle.clap.specs.Words.{Row, Text, fault_of, first_of, matches_of, subcomma
 use Rattle.clap.specs.declared.error.kind.ErrorKind.TheVariants.{DisplayHelp, DisplayVersion}
 use Rattle.meson_calls.specs.declared.call.Role.{Role}
 use Rattle.meson_splice.specs.Patch.{then_ok}
-use Rattle.meson_command.specs.Actions.{action_of, count_in, history_by, kwargs_action, kwargs_by, list_by, options_action, other_action, target_action, undo_of, word_at, words_at}
+use Rattle.meson_command.specs.Actions.{action_of, count_in, history_by, kwargs_action, kwargs_by, list_by, options_action, options_by, other_action, target_action, undo_of, word_at, words_at}
 use Rattle.meson_command.specs.Asking.{answer, asked_from, asked_of, help, is_dry, is_json_answer, names_no_folder, title_in, version, with_title}
 use Rattle.meson_command.specs.Counts.{count_of}
 use Rattle.meson_command.specs.Laws.{HelpWhereAsked, IsNoCount, IsUnknown, UsageMeansUnknown, VersionWhereAsked}
 use Rattle.meson_json.specs.Titles.{is_title}
-use Rattle.meson_json.specs.Operations.{kwargs_operation, options_operation, role_of}
-use Rattle.meson_command.specs.Operations.{operation_of_word}
-use Rattle.meson_command.specs.Pairs.{in_pairs, pair_names, pairs_of, repeats}
+use Rattle.meson_json.specs.Operations.{kwargs_operation, role_of}
+use Rattle.meson_command.specs.Operations.{operation_of_word, options_word}
+use Rattle.meson_command.specs.Pairs.{in_pairs, lone_names, pair_names, pairs_of, repeats}
 use Rattle.meson_command.specs.Program.{command, default_options, history, kwargs, list, program, redo, target, undo}
 use Rattle.meson_command.specs.declared.asked.Action.{Action}
 use Rattle.meson_command.specs.declared.asked.Asked.{Asked}
@@ -29,6 +29,8 @@ use Rattle.meson_command.specs.declared.fault.UsageFault.TheVariants.{Usage, Odd
 use Rattle.meson_command.specs.declared.asked.Action.TheVariants.{ForgetAll, ForgetOldest}
 use Rattle.meson_json.specs.declared.names.KwargsOperation.{KwargsOperation}
 use Rattle.meson_json.specs.declared.names.KwargsOperation.TheVariants as of_kwargs
+use Rattle.meson_command.specs.declared.operations.OptionsWord.{OptionsWord}
+use Rattle.meson_command.specs.declared.operations.OptionsWord.TheVariants as of_options
 use Rattle.meson_command.proofs.HelpAlone.{Clean}
 use Rattle.meson_command.proofs.NoHelp.{not_help}
 use Rattle.meson_command.proofs.Taken.{as_taken, by_help, by_version, help_alone}
@@ -144,6 +146,21 @@ kwargs-not of_kwargs.Remove role id words e = after_pairs (pairs_of words) _ (pa
 kwargs-not of_kwargs.RemoveRegex role id words e = after_pairs (pairs_of words) _ (pairs-not words) (λ ps x. cc) e
 kwargs-not of_kwargs.Info role id words e = cc
 
+names-kept : (b : Bool) (words : List Text) (f : List Text → Result Action UsageFault) → ((ns : List Text) → f ns ≡ Err Usage → ⊥)
+    → then_ok (if b then Err RepeatedKey else Ok words) f ≡ Err Usage → ⊥
+names-kept true words f h e = cc
+names-kept false words f h e = h words e
+
+names-not : (words : List Text) (f : List Text → Result Action UsageFault) → ((ns : List Text) → f ns ≡ Err Usage → ⊥) → then_ok (lone_names words) f ≡ Err Usage → ⊥
+unfolding lone_names
+names-not words f h e = names-kept (repeats words) words f h e
+
+options-not : (o : OptionsWord) (words : List Text) → options_by o words ≡ Err Usage → ⊥
+unfolding options_by
+options-not of_options.Set words e = after_pairs (pairs_of words) _ (pairs-not words) (λ ps x. cc) e
+options-not of_options.Delete words e = after_pairs (pairs_of words) _ (pairs-not words) (λ ps x. cc) e
+options-not of_options.Unset words e = names-not words _ (λ ns x. cc) e
+
 missing : {A B : Type 0} (o : Option A) (f : A → Result B UsageFault) → ((x : A) → f x ≡ Err Usage → ⊥) → then_ok (ok_or o Usage) f ≡ Err Usage → o ≡ None
 missing None f h e = refl
 missing (Some x) f h e = absurd (h x e)
@@ -162,9 +179,9 @@ kwargs-unknown : (rows : List Row) → kwargs_action rows ≡ Err Usage → (kwa
 unfolding kwargs_action
 kwargs-unknown rows e = one_missing (kwargs_operation (word_at (codes "OPERATION") rows)) (role_of (word_at (codes "FUNCTION") rows)) _ (λ o role. kwargs-not o role _ _) e
 
-options-unknown : (rows : List Row) → options_action rows ≡ Err Usage → options_operation (word_at (codes "OPERATION") rows) ≡ None
+options-unknown : (rows : List Row) → options_action rows ≡ Err Usage → options_word (word_at (codes "OPERATION") rows) ≡ None
 unfolding options_action
-options-unknown rows e = missing (options_operation (word_at (codes "OPERATION") rows)) _ (λ o. after_pairs (pairs_of (words_at (codes "OPTION VALUE") rows)) _ (pairs-not _) (λ ps x. cc)) e
+options-unknown rows e = missing (options_word (word_at (codes "OPERATION") rows)) _ (λ o. options-not o (words_at (codes "OPTION VALUE") rows)) e
 
 undo-unknown : (o check : Option Text) → then_ok (count_in o) (λ count. Ok (undo_of count check)) ≡ Err Usage → (word : Text) × IsNoCount o word
 undo-unknown None check e = cc

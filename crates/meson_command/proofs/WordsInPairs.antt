@@ -7,8 +7,11 @@ use Rattle.std.proofs.lemmas.Map.Made.{AllPairs-from_IsDistinct, IsDistinct-from
 use Rattle.std.proofs.lemmas.Slice.Eq.{bytes_eq-Decides}
 use Rattle.clap.specs.Words.{Text}
 use Rattle.meson_splice.specs.Patch.{then_ok}
-use Rattle.meson_command.specs.Laws.{OddWordsAreOdd, PairsAreTheWords, words_of}
-use Rattle.meson_command.specs.Pairs.{in_pairs, pair_names, pairs_of, repeats}
+use Rattle.meson_steps.specs.declared.command.Command.TheVariants as command
+use Rattle.meson_command.specs.Actions.{options_by, run}
+use Rattle.meson_command.specs.Laws.{OddWordsAreOdd, PairsAreTheWords, UnsetIsDelete, words_of}
+use Rattle.meson_command.specs.Pairs.{in_pairs, lone_names, pair_names, pairs_of, repeats}
+use Rattle.meson_command.specs.declared.asked.Action.{Action}
 use Rattle.meson_command.specs.declared.fault.UsageFault.{UsageFault}
 use Rattle.meson_command.specs.declared.fault.UsageFault.TheVariants.{OddWords, RepeatedKey}
 
@@ -133,3 +136,18 @@ none (Some ps) e = absurd (is_odd ps (repeats (pair_names ps)) e)
 pub odd-law : OddWordsAreOdd
 unfolding pairs_of
 odd-law words = (λ e. left_over words (none (in_pairs words) e), λ e. ap (λ o. then_ok (ok_or o OddWords) checked) (not_even words e))
+
+-- ---- names alone
+
+-- where no name is there twice, both make the same of the names
+as-pairs : (b : Bool) (pairs : Pairs) (f : List Text → Result Action UsageFault)
+    → then_ok (if b then Err RepeatedKey else Ok (pair_names pairs)) f ≡ then_ok (if b then Err RepeatedKey else Ok pairs) (λ ps. f (pair_names ps))
+as-pairs true pairs f = refl
+as-pairs false pairs f = refl
+
+pub unset-law : UnsetIsDelete
+unfolding options_by lone_names pairs_of
+unset-law pairs =
+    let delete : List Text → Result Action UsageFault = λ names. Ok (run (command.OptionsDelete names)) in
+    as-pairs (repeats (pair_names pairs)) pairs delete
+    ∙ ap (λ o. then_ok (then_ok (ok_or o OddWords) (λ ps. if repeats (pair_names ps) then Err RepeatedKey else Ok ps)) (λ ps. delete (pair_names ps))) (sym (are_pairs pairs))

@@ -8,20 +8,20 @@ use Rattle.meson_steps.specs.declared.command.Command.{Command}
 use Rattle.meson_steps.specs.declared.command.Command.TheVariants as command
 use Rattle.meson_steps.specs.declared.command.Setting.{Setting}
 use Rattle.meson_steps.specs.declared.command.Setting.TheVariants as setting
-use Rattle.meson_json.specs.Operations.{kwargs_operation, options_operation, role_of}
+use Rattle.meson_json.specs.Operations.{kwargs_operation, role_of}
 use Rattle.meson_json.specs.Targets.{target_command}
 use Rattle.meson_command.specs.Counts.{count_of}
-use Rattle.meson_command.specs.Operations.{operation_of_word}
-use Rattle.meson_command.specs.Pairs.{pair_names, pairs_of}
+use Rattle.meson_command.specs.Operations.{operation_of_word, options_word}
+use Rattle.meson_command.specs.Pairs.{lone_names, pair_names, pairs_of}
 use Rattle.meson_command.specs.declared.asked.Action.{Action}
 use Rattle.meson_command.specs.declared.asked.Action.TheVariants as action
 use Rattle.meson_command.specs.declared.asked.Action.TheVariants.{Run, Info, ScriptText, ScriptFile, Undo, UndoTo, UndoChecked, Redo, History, ForgetOldest, ForgetAll, Sums}
 use Rattle.meson_command.specs.declared.fault.UsageFault.{UsageFault}
+use Rattle.meson_command.specs.declared.operations.OptionsWord.{OptionsWord}
+use Rattle.meson_command.specs.declared.operations.OptionsWord.TheVariants as options
 use Rattle.meson_command.specs.declared.fault.UsageFault.TheVariants.{Usage, Unsupported}
 use Rattle.meson_json.specs.declared.names.KwargsOperation.{KwargsOperation}
 use Rattle.meson_json.specs.declared.names.KwargsOperation.TheVariants as kwargs
-use Rattle.meson_json.specs.declared.names.OptionsOperation.{OptionsOperation}
-use Rattle.meson_json.specs.declared.names.OptionsOperation.TheVariants as options
 use Rattle.meson_json.specs.declared.target.TargetMembers.{TargetMembers}
 use Rattle.meson_json.specs.declared.target.TargetOperation.{TargetOperation}
 use Rattle.meson_json.specs.declared.target.TargetOperation.TheVariants as target
@@ -85,17 +85,16 @@ kwargs_action rows =
     then_ok (ok_or (role_of (word_at (codes "FUNCTION") rows)) Usage) (λ role.
     kwargs_by operation role (word_at (codes "ID") rows) (words_at (codes "KEY VALUE") rows)))
 
--- ---- default-options OPERATION [OPTION VALUE]...
+-- ---- default-options OPERATION [OPTION VALUE]..., or unset [OPTION]...
 
-abbrev pub options_by : OptionsOperation → List (Text × Text) → Action
-options_by options.Set pairs = run (command.OptionsSet pairs)
-options_by options.Delete pairs = run (command.OptionsDelete (pair_names pairs))
+unfoldable pub options_by : OptionsWord → List Text → Result Action UsageFault
+options_by options.Set words = then_ok (pairs_of words) (λ pairs. Ok (run (command.OptionsSet pairs)))
+options_by options.Delete words = then_ok (pairs_of words) (λ pairs. Ok (run (command.OptionsDelete (pair_names pairs))))
+options_by options.Unset words = then_ok (lone_names words) (λ names. Ok (run (command.OptionsDelete names)))
 
 unfoldable pub options_action : List Row → Result Action UsageFault
 options_action rows =
-    then_ok (ok_or (options_operation (word_at (codes "OPERATION") rows)) Usage) (λ operation.
-    then_ok (pairs_of (words_at (codes "OPTION VALUE") rows)) (λ pairs.
-    Ok (options_by operation pairs)))
+    then_ok (ok_or (options_word (word_at (codes "OPERATION") rows)) Usage) (λ word. options_by word (words_at (codes "OPTION VALUE") rows))
 
 -- ---- command JSON
 

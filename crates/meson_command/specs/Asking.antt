@@ -1,7 +1,6 @@
 -- The request of a command line.
-use Rattle.std.specs.Prelude.{Bool, false, ◌&&◌, List, [], ◌∷◌, length, ◌==◌, codes, if◌then◌else◌, Option, None, ok_or, Result, Ok, Err}
+use Rattle.std.specs.Prelude.{Bool, false, List, [], ◌∷◌, length, ◌==◌, codes, if◌then◌else◌, Option, None, ok_or, Result, Ok, Err}
 use Rattle.std.specs.Option.{option_map_or}
-use Rattle.clap.specs.Walk.{is_empty}
 use Rattle.clap.specs.Words.{Kinds, Row, Text, fault_of, first_of, matches_of, subcommand_of}
 use Rattle.clap.specs.declared.error.kind.ErrorKind.{ErrorKind}
 use Rattle.clap.specs.declared.error.kind.ErrorKind.TheVariants.{DisplayHelp, DisplayVersion}
@@ -80,7 +79,11 @@ without_help_text other = other
 abbrev pub without_text : Asked → Asked
 without_text a = record a { action = without_help_text a.action }
 
--- whether any words are answered in JSON: `--json` is before the subcommand, and clap takes the words. It does not where it refuses them, or shows help or the
--- version
+-- whether words are answered in JSON, by all faults that clap finds and by what the words say: where it finds one, it refuses them, or shows help or the version
+abbrev pub json_by : Kinds → Bool → Bool
+json_by [] json = json
+json_by (kind ∷ kinds) json = false
+
+-- for any words: clap takes them, and `--json` is before the subcommand
 abbrev pub wants_json : List Text → Bool
-wants_json words = is_empty (fault_of program words) && is_json_answer (matches_of program words)
+wants_json words = json_by (fault_of program words) (is_json_answer (matches_of program words))

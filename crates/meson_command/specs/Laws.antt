@@ -3,13 +3,14 @@ use Rattle.std.specs.Prelude.{◌≡◌, ◌≢◌, ◌↔◌, ◌⊎◌, ◌%�
 use Rattle.std.specs.List.{AllPairs}
 use Rattle.clap.specs.Words.{Row, Text, fault_of, first_of, matches_of, subcommand_of}
 use Rattle.clap.specs.declared.error.kind.ErrorKind.TheVariants.{DisplayHelp, DisplayVersion}
-use Rattle.meson_command.specs.Actions.{has_flag, word_at}
+use Rattle.meson_command.specs.Actions.{has_flag, options_by, word_at}
 use Rattle.meson_command.specs.Asking.{asked_by, help, names_no_folder, version, wants_json}
-use Rattle.meson_json.specs.Operations.{kwargs_operation, options_operation, role_of}
+use Rattle.meson_json.specs.Operations.{kwargs_operation, role_of}
 use Rattle.meson_command.specs.Counts.{count_of}
-use Rattle.meson_command.specs.Operations.{operation_of_word}
+use Rattle.meson_command.specs.Operations.{operation_of_word, options_word}
 use Rattle.meson_command.specs.Pairs.{pair_names, pairs_of}
 use Rattle.meson_command.specs.Program.{program}
+use Rattle.meson_command.specs.declared.operations.OptionsWord.TheVariants as options
 use Rattle.meson_command.specs.declared.asked.Asked.{Asked}
 use Rattle.meson_command.specs.declared.fault.UsageFault.TheVariants.{Usage, OddWords}
 
@@ -26,6 +27,10 @@ PairsAreTheWords = (words : List Text) (pairs : List (Text × Text))
 
 abbrev pub OddWordsAreOdd : Type 0
 OddWordsAreOdd = (words : List Text) → (pairs_of words ≡ Err OddWords) ↔ (length words % 2 ≡ 1)
+
+-- `unset` of some options is `delete` of them with any values
+abbrev pub UnsetIsDelete : Type 0
+UnsetIsDelete = (pairs : List (Text × Text)) → options_by options.Unset (pair_names pairs) ≡ options_by options.Delete (words_of pairs)
 
 -- ---- help, the version and wrong usage
 
@@ -54,7 +59,7 @@ abbrev pub IsUnknown : Text → List Row → Type 0
 IsUnknown subcommand rows =
     ((subcommand ≡ codes "target") × (operation_of_word (word_at (codes "OPERATION") rows) ≡ None))
     ⊎ (((subcommand ≡ codes "kwargs") × ((kwargs_operation (word_at (codes "OPERATION") rows) ≡ None) ⊎ (role_of (word_at (codes "FUNCTION") rows) ≡ None)))
-    ⊎ (((subcommand ≡ codes "default-options") × (options_operation (word_at (codes "OPERATION") rows) ≡ None))
+    ⊎ (((subcommand ≡ codes "default-options") × (options_word (word_at (codes "OPERATION") rows) ≡ None))
     ⊎ (((subcommand ≡ codes "undo") × ((word : Text) × IsNoCount (first_of (codes "N") rows) word))
     ⊎ (((subcommand ≡ codes "history") × ((word : Text) × (word ≢ codes "all") × IsNoCount (first_of (codes "N") rows) word))
     ⊎ ((subcommand ≡ codes "list") × AsksForBoth rows)))))

@@ -21,3 +21,7 @@ repeats (x ∷ xs) = list_any (λ y. bytes_eq y x) xs || repeats xs
 
 unfoldable pub pairs_of : List (List ℕ) → Result (List (List ℕ × List ℕ)) UsageFault
 pairs_of words = then_ok (ok_or (in_pairs words) OddWords) (λ pairs. if repeats (pair_names pairs) then Err RepeatedKey else Ok pairs)
+
+-- words that are names alone, none of them twice
+unfoldable pub lone_names : List (List ℕ) → Result (List (List ℕ)) UsageFault
+lone_names words = if repeats words then Err RepeatedKey else Ok words

@@ -1,5 +1,6 @@
 -- The words that the program takes, as they are declared to clap.
-use Rattle.std.specs.Prelude.{◌≡◌, ◌∷◌, [], List, true, false, Some, codes, fold}
+use Rattle.std.specs.Prelude.{◌≡◌, ℕ, ◌∷◌, ◌++◌, [], List, true, false, Some, codes, fold}
+use Rattle.clap.specs.Simple.{on_top}
 use Rattle.clap.specs.Words.{App, Rule, Text, app_of, new_app, new_rule, with_rule, with_subcommand}
 use Rattle.clap.specs.declared.builder.ArgAction.TheVariants as action
 use Rattle.clap.specs.declared.builder.command.Command.{Command}
@@ -17,9 +18,17 @@ many id = record (new_rule id) { action = Some action.Append }
 abbrev pub option : Text → Text → Rule
 option id long = record (new_rule id) { long = Some long; action = Some action.Set }
 
+-- the same with a short name
+abbrev pub short_option : Text → Text → ℕ → Rule
+short_option id long short = record (option id long) { short = Some short }
+
 -- an option without a value
 abbrev pub flag : Text → Text → Rule
 flag id long = record (new_rule id) { long = Some long; action = Some action.SetTrue }
+
+-- the same with a short name
+abbrev pub short_flag : Text → Text → ℕ → Rule
+short_flag id long short = record (flag id long) { short = Some short }
 
 -- `--help`, and no short form of it
 abbrev pub help : Rule
@@ -29,41 +38,45 @@ help = record (new_rule (codes "help")) { long = Some (codes "help"); action = S
 abbrev pub version : Rule
 version = record (new_rule (codes "version")) { long = Some (codes "version"); action = Some action.Version }
 
-abbrev pub of_words : Text → List Rule → App
-of_words name rules = fold with_rule (new_app name) rules
+-- the command has another name, too
+abbrev pub with_alias : Text → App → App
+with_alias alias a = on_top (λ s. record s { aliases = s.aliases ++ alias ∷ [] }) a
 
--- target ID OPERATION [SOURCE]... [--subdir SUBDIR] [--type KIND]
+abbrev pub of_words : App → List Rule → App
+of_words named rules = fold with_rule named rules
+
+-- target ID OPERATION [SOURCE]... [-s|--subdir SUBDIR] [--type KIND]; `s` is 115
 unfoldable pub target : App
-target = of_words (codes "target") (required_word (codes "ID") ∷ required_word (codes "OPERATION") ∷ many (codes "SOURCE")
-    ∷ option (codes "SUBDIR") (codes "subdir") ∷ option (codes "KIND") (codes "type") ∷ help ∷ [])
+target = of_words (with_alias (codes "tgt") (new_app (codes "target"))) (required_word (codes "ID") ∷ required_word (codes "OPERATION") ∷ many (codes "SOURCE")
+    ∷ short_option (codes "SUBDIR") (codes "subdir") 115 ∷ option (codes "KIND") (codes "type") ∷ help ∷ [])
 
 -- kwargs OPERATION FUNCTION ID [KEY VALUE]...
 unfoldable pub kwargs : App
-kwargs = of_words (codes "kwargs") (required_word (codes "OPERATION") ∷ required_word (codes "FUNCTION") ∷ required_word (codes "ID")
+kwargs = of_words (new_app (codes "kwargs")) (required_word (codes "OPERATION") ∷ required_word (codes "FUNCTION") ∷ required_word (codes "ID")
     ∷ many (codes "KEY VALUE") ∷ help ∷ [])
 
 -- default-options OPERATION [OPTION VALUE]...
 unfoldable pub default_options : App
-default_options = of_words (codes "default-options") (required_word (codes "OPERATION") ∷ many (codes "OPTION VALUE") ∷ help ∷ [])
+default_options = of_words (with_alias (codes "def") (new_app (codes "default-options"))) (required_word (codes "OPERATION") ∷ many (codes "OPTION VALUE") ∷ help ∷ [])
 
 -- command JSON
 unfoldable pub command : App
-command = of_words (codes "command") (required_word (codes "JSON") ∷ help ∷ [])
+command = of_words (with_alias (codes "cmd") (new_app (codes "command"))) (required_word (codes "JSON") ∷ help ∷ [])
 
 -- undo [--to N] [--check FILE]
 unfoldable pub undo : App
-undo = of_words (codes "undo") (option (codes "N") (codes "to") ∷ option (codes "FILE") (codes "check") ∷ help ∷ [])
+undo = of_words (new_app (codes "undo")) (option (codes "N") (codes "to") ∷ option (codes "FILE") (codes "check") ∷ help ∷ [])
 
 unfoldable pub redo : App
-redo = of_words (codes "redo") (help ∷ [])
+redo = of_words (new_app (codes "redo")) (help ∷ [])
 
 -- history [--forget N]
 unfoldable pub history : App
-history = of_words (codes "history") (option (codes "N") (codes "forget") ∷ help ∷ [])
+history = of_words (new_app (codes "history")) (option (codes "N") (codes "forget") ∷ help ∷ [])
 
 -- list [--json] [--sums]
 unfoldable pub list : App
-list = of_words (codes "list") (flag (codes "json") (codes "json") ∷ flag (codes "sums") (codes "sums") ∷ help ∷ [])
+list = of_words (new_app (codes "list")) (flag (codes "json") (codes "json") ∷ flag (codes "sums") (codes "sums") ∷ help ∷ [])
 
 -- a subcommand is required; clap adds no `help` subcommand and no help flag of its own
 abbrev pub bare_command : Text → App
@@ -71,13 +84,13 @@ bare_command name = record (new_app name) {
   top = record (new_app name).top { subcommand_required = true; disable_help_flag = true; disable_help_subcommand = true };
 }
 
--- meson_rewrite [--sourcedir DIR] [--title TEXT] [--dry-run] [--json]
+-- meson_rewrite [-s|--sourcedir DIR] [--title TEXT] [--dry-run] [--json] [-V|--verbose]; `V` is 86, and nothing reads whether it is there
 abbrev pub own_words : App
 own_words =
-    fold with_rule (bare_command (codes "meson_rewrite")) (option (codes "DIR") (codes "sourcedir") ∷ option (codes "TEXT") (codes "title")
-    ∷ flag (codes "dry-run") (codes "dry-run") ∷ flag (codes "json") (codes "json") ∷ help ∷ version ∷ [])
+    fold with_rule (bare_command (codes "meson_rewrite")) (short_option (codes "DIR") (codes "sourcedir") 115 ∷ option (codes "TEXT") (codes "title")
+    ∷ flag (codes "dry-run") (codes "dry-run") ∷ flag (codes "json") (codes "json") ∷ short_flag (codes "verbose") (codes "verbose") 86 ∷ help ∷ version ∷ [])
 
--- meson_rewrite [--sourcedir DIR] [--title TEXT] [--dry-run] [--json] SUBCOMMAND
+-- meson_rewrite [OPTION]... SUBCOMMAND
 unfoldable pub program : App
 program = fold (λ a s. with_subcommand a s.top) own_words (target ∷ kwargs ∷ default_options ∷ command ∷ undo ∷ redo ∷ history ∷ list ∷ [])
 

@@ -7,6 +7,7 @@ pub(crate) const PROGRAM: &str = "Edit the meson.build files of a project in pla
 
 pub(crate) const BELOW_PROGRAM: &str = "\
 Give these options before the subcommand.
+tgt, def and cmd are other names of target, default-options and command.
 Files change only where the command says: order, comments and layout stay.
 Each accepted run is kept in the file meson.rewrite-log, so undo can take it
 back. Begin with list: it prints the targets and the build files.
@@ -27,6 +28,8 @@ pub(crate) const DIR: &str = "Folder of the root file [default: the working fold
 pub(crate) const DRY_RUN: &str = "Show the changes as a unified diff, and write nothing";
 
 pub(crate) const ANSWER_JSON: &str = "Print what is done, or the refusal, as one line of JSON";
+
+pub(crate) const VERBOSE: &str = "Print no more than without it";
 
 pub(crate) const TITLE: &str = "\
 What the run is for, in at most 200 bytes;
@@ -111,13 +114,14 @@ Options of the program, before the subcommand (see meson_rewrite --help):
 Operations:
   set     give each option its value
   delete  remove each option; give any word as its value
+  unset   remove each option; its words are the options alone
 
 In the build file the options may be one text, an array of texts, or a
 dictionary whose keys are texts. No option may be given twice.
 
 Examples:
   meson_rewrite default-options set c_std c17 werror true
-  meson_rewrite default-options delete warning_level x";
+  meson_rewrite default-options unset warning_level c_std";
 
 pub(crate) const COMMAND: &str = "Run the commands of a script";
 

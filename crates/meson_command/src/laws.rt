@@ -1,6 +1,6 @@
 //! Laws of the command line. The functions do nothing: what they ensure is the law.
 
-ghost use Rattle.meson_command.specs.Laws.{HelpWhereAsked, JsonWhereWanted, OddWordsAreOdd, PairsAreTheWords, UsageMeansUnknown, VersionWhereAsked};
+ghost use Rattle.meson_command.specs.Laws.{HelpWhereAsked, JsonWhereWanted, OddWordsAreOdd, PairsAreTheWords, UnsetIsDelete, UsageMeansUnknown, VersionWhereAsked};
 ghost use Rattle.meson_command.specs.Rows.{Done, Json, Other, Refused, Shown, Titled};
 
 /// The requests of some command lines.
@@ -13,10 +13,11 @@ pub fn rows()
     ensures refused { Refused }
 {}
 
-/// Names with values are the words two by two, if no name is repeated. An odd number of words is refused.
+/// Names with values are the words two by two, if no name is repeated. An odd number of words is refused. `unset` needs no values, and is else `delete`.
 pub fn pairs_are_the_words()
     ensures pairs { PairsAreTheWords }
     ensures odd { OddWordsAreOdd }
+    ensures unset { UnsetIsDelete }
 {}
 
 /// Help is the answer exactly where the words request it from clap, and so is the version.

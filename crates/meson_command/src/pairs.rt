@@ -1,13 +1,14 @@
-//! Words in pairs, each a name with its value.
+//! Words in pairs, each a name with its value, and words that are names alone.
 
 ghost use Rattle.std.specs.Prelude.{◌≡◌, ◌≢◌, Err, IfErr, IfOk, Ok, bytes_eq, map, option_map};
 ghost use Rattle.std.specs.List.{list_any};
 ghost use Rattle.clap.specs.Words.{found_of, rows_of};
 ghost use Rattle.meson_command.specs.Actions.{words_at};
-ghost use Rattle.meson_command.specs.Pairs.{in_pairs, pair_names, pairs_of, repeats};
+ghost use Rattle.meson_command.specs.Pairs.{in_pairs, lone_names, pair_names, pairs_of, repeats};
 ghost use Rattle.meson_command.specs.declared.fault.UsageFault.TheVariants.{OutOfMemory};
 
 use crate::fault::UsageFault;
+use crate::words::words_at;
 use clap::ArgMatches;
 use meson_json::owned;
 use meson_splice::{Many, Text};
@@ -96,4 +97,36 @@ pub(crate) fn names(alloc: Global, pairs: Vec<(Text, Text)>) -> Result<Many<Text
         all.push(name)?;
     }
     Ok(Many::of(all))
+}
+
+/// Whether two words are the same.
+fn repeats_word(words: &[Text]) -> bool
+    ensures { result ≡ repeats words.now }
+{
+    for i in 0..words.len() {
+        if words[i + 1..].contains(&words[i]) {
+            return true;
+        }
+    }
+    false
+}
+
+/// The words of a list, each of which is a name.
+///
+/// # Errors
+/// Two names are the same.
+#[tactic(auto, unfolding(crate::specs::Pairs::lone_names))]
+pub(crate) fn names_at(
+    alloc: Global,
+    matches: &ArgMatches<'_>,
+    name: &str,
+) -> Result<Many<Text>, UsageFault>
+    ensures ok { IfOk result (λ ts. lone_names (words_at name.now (rows_of (found_of matches.now))) ≡ Ok ts) }
+    ensures refused { IfErr result (λ e. e ≢ OutOfMemory → lone_names (words_at name.now (rows_of (found_of matches.now))) ≡ Err e) }
+{
+    let names = words_at(alloc, matches, name)?;
+    if repeats_word(names.get()) {
+        return Err(UsageFault::RepeatedKey);
+    }
+    Ok(names)
 }

@@ -2,7 +2,7 @@
 
 ghost use Rattle.std.specs.Prelude.{◌≡◌, IfOk, false};
 ghost use Rattle.clap.specs.Words.{App, app_of, new_app, rule_of, with_rule, with_subcommand};
-ghost use Rattle.meson_command.specs.Program.{IsToldToClap, command, default_options, flag, help, history, kwargs, list, many, required_word, option, own_words, program, redo, target, undo, version};
+ghost use Rattle.meson_command.specs.Program.{IsToldToClap, command, default_options, flag, help, history, kwargs, list, many, required_word, option, own_words, program, redo, short_flag, short_option, target, undo, version, with_alias};
 
 use crate::help;
 use clap::{Arg, ArgAction, Command};
@@ -13,6 +13,13 @@ fn described<'h>(alloc: Global, name: &'h str, about: &'h str, below: &'h str) -
     ensures { IsToldToClap (new_app name.entry.now) result }
 {
     Command::new(alloc, name).about(about).after_help(below)
+}
+
+/// The command with another name, which help does not list.
+fn with_alias<'h>(command: Command<'h>, alias: &'h str) -> Result<Command<'h>, AllocError>
+    ensures { (a : App) → IsToldToClap a command.entry → IfOk result (IsToldToClap (with_alias alias.entry.now a)) }
+{
+    command.alias(alias)
 }
 
 /// With an argument, if there is a command: only here it is checked whether an allocation failed before.
@@ -66,6 +73,22 @@ fn with_option<'h>(
     with_arg(command, arg.help(about))
 }
 
+/// With an option that has one value, and a short name.
+fn with_short_option<'h>(
+    alloc: Global,
+    command: Result<Command<'h>, AllocError>,
+    name: &'h str,
+    long: &'h str,
+    short: char,
+    about: &'h str,
+) -> Result<Command<'h>, AllocError>
+    ensures { (a : App) → IfOk command.entry (IsToldToClap a)
+        → IfOk result (IsToldToClap (with_rule a (short_option name.entry.now long.entry.now short))) }
+{
+    let arg = Arg::new(alloc, name).long(long).short(short);
+    with_arg(command, arg.action(ArgAction::Set).help(about))
+}
+
 /// With an option that has no value.
 fn with_flag<'h>(
     alloc: Global,
@@ -78,6 +101,22 @@ fn with_flag<'h>(
 {
     let arg = Arg::new(alloc, name).long(long).action(ArgAction::SetTrue);
     with_arg(command, arg.help(about))
+}
+
+/// With an option that has no value, and a short name.
+fn with_short_flag<'h>(
+    alloc: Global,
+    command: Result<Command<'h>, AllocError>,
+    name: &'h str,
+    long: &'h str,
+    short: char,
+    about: &'h str,
+) -> Result<Command<'h>, AllocError>
+    ensures { (a : App) → IfOk command.entry (IsToldToClap a)
+        → IfOk result (IsToldToClap (with_rule a (short_flag name.entry.now long.entry.now short))) }
+{
+    let arg = Arg::new(alloc, name).long(long).short(short);
+    with_arg(command, arg.action(ArgAction::SetTrue).help(about))
 }
 
 /// With `--help`.
@@ -108,11 +147,12 @@ fn with_version<'h>(
 fn target<'h>(alloc: Global) -> Result<Command<'h>, AllocError>
     ensures { IfOk result (IsToldToClap target) }
 {
-    let command = Ok(described(alloc, "target", help::TARGET, help::BELOW_TARGET));
+    let named = described(alloc, "target", help::TARGET, help::BELOW_TARGET);
+    let command = with_alias(named, "tgt");
     let command = with_one(alloc, command, "ID", "Name of the target, or its variable");
     let command = with_one(alloc, command, "OPERATION", "What to do, see Operations");
     let command = with_many(alloc, command, "SOURCE", "Names of sources or extra files");
-    let command = with_option(alloc, command, "SUBDIR", "subdir", help::SUBDIR);
+    let command = with_short_option(alloc, command, "SUBDIR", "subdir", 's', help::SUBDIR);
     let command = with_option(alloc, command, "KIND", "type", help::KIND);
     with_help(alloc, command)
 }
@@ -142,18 +182,19 @@ fn kwargs<'h>(alloc: Global) -> Result<Command<'h>, AllocError>
 fn default_options<'h>(alloc: Global) -> Result<Command<'h>, AllocError>
     ensures { IfOk result (IsToldToClap default_options) }
 {
-    let command = Ok(described(
+    let named = described(
         alloc,
         "default-options",
         help::DEFAULT_OPTIONS,
         help::BELOW_DEFAULT_OPTIONS,
-    ));
+    );
+    let command = with_alias(named, "def");
     let command = with_one(alloc, command, "OPERATION", "What to do, see Operations");
     let command = with_many(
         alloc,
         command,
         "OPTION VALUE",
-        "Options, each with its value",
+        "Options, each with its value; of unset options alone",
     );
     with_help(alloc, command)
 }
@@ -162,7 +203,8 @@ fn default_options<'h>(alloc: Global) -> Result<Command<'h>, AllocError>
 fn command<'h>(alloc: Global) -> Result<Command<'h>, AllocError>
     ensures { IfOk result (IsToldToClap command) }
 {
-    let command = Ok(described(alloc, "command", help::COMMAND, help::BELOW_COMMAND));
+    let named = described(alloc, "command", help::COMMAND, help::BELOW_COMMAND);
+    let command = with_alias(named, "cmd");
     let command = with_one(
         alloc,
         command,
@@ -217,10 +259,11 @@ fn own_words<'h>(alloc: Global) -> Result<Command<'h>, AllocError>
         .subcommand_required(true)
         .disable_help_flag(true)
         .disable_help_subcommand(true);
-    let program = with_option(alloc, Ok(bare), "DIR", "sourcedir", help::DIR);
+    let program = with_short_option(alloc, Ok(bare), "DIR", "sourcedir", 's', help::DIR);
     let program = with_option(alloc, program, "TEXT", "title", help::TITLE);
     let program = with_flag(alloc, program, "dry-run", "dry-run", help::DRY_RUN);
     let program = with_flag(alloc, program, "json", "json", help::ANSWER_JSON);
+    let program = with_short_flag(alloc, program, "verbose", "verbose", 'V', help::VERBOSE);
     let program = with_help(alloc, program);
     with_version(alloc, program)
 }

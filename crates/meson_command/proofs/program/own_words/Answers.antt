@@ -19,4 +19,4 @@ returns c =
     let has_none : (out-Command c.disable_help_subcommand-bare.result).has_globals ≡ false =
     ap (λ f. f.has_globals) c.disable_help_subcommand-bare.ensures ∙ ap (λ f. f.has_globals) c.disable_help_flag.ensures
     ∙ ap (λ f. f.has_globals) c.subcommand_required.ensures ∙ c.described.ensures.1 in
-    IfOk-weaker c.with_version.result _ _ (λ r h. h.0) (c.with_version.ensures _ (c.with_help-program.ensures _ (c.with_flag-program-2.ensures _ (c.with_flag-program.ensures _ (c.with_option-program-2.ensures _ (c.with_option-program.ensures _ (bare_is, has_none)))))))
+    IfOk-weaker c.with_version.result _ _ (λ r h. h.0) (c.with_version.ensures _ (c.with_help-program.ensures _ (c.with_short_flag-program.ensures _ (c.with_flag-program-2.ensures _ (c.with_flag-program.ensures _ (c.with_option-program.ensures _ (c.with_short_option-program.ensures _ (bare_is, has_none))))))))
