@@ -4,7 +4,7 @@ pub mod EditedFiles
 pub mod Wants
 pub mod Names
 pub mod Listings
-pub mod Objects
+pub mod PlainObjects
 pub mod Scripts
 pub mod Requests
 pub mod Endings

@@ -1,5 +1,5 @@
 -- How a run of the program ends: what it says, and what the store then holds.
-use Rattle.std.specs.Prelude.{◌≡◌, ◌≢◌, ◌⊎◌, ◌||◌, ⊤, Bool, IsTrue, false, true, ℕ, List, [], Option, Some, None, Result, Ok, Err, IfErr}
+use Rattle.std.specs.Prelude.{◌≡◌, ◌≢◌, ◌⊎◌, ◌||◌, ◌&&◌, ⊤, Bool, IsTrue, false, true, not, if◌then◌else◌, ℕ, List, [], Option, Some, None, Result, Ok, Err, IfErr}
 use Rattle.std.specs.FinMap.{get}
 use Rattle.std.specs.List.{Contains}
 use Rattle.meson_calls.specs.Loading.{IsProject}
@@ -63,14 +63,14 @@ module _ (dir : Option (List ℕ)) (step : Step) (dry_run json : Bool) (before a
     -- its listings are reported, and nothing is written
     told : (old new : Session) (log : List ℕ) (report : Report) (said : Said) → Untouched before after → Opens before.content dir old log
         → Does step old report new
-        → only_tells step ≡ true → SaysStep json step old report new said → StepEnds (Ok said)
+        → only_tells step ≡ true → SaysStep json step old.project.files new.project.files report said → StepEnds (Ok said)
     -- what it makes of the files is shown, and nothing is written
     shown : (old new : Session) (log : List ℕ) (report : Report) (said : Said) → Untouched before after → Opens before.content dir old log
         → Does step old report new
         → only_tells step ≡ false → dry_run ≡ true → ShowsStep json step old report new said → StepEnds (Ok said)
     -- each file that differs was replaced, then the log, and no other
     done : (edits : Edits before.content dir step) (said : Said) → only_tells step ≡ false → dry_run ≡ false → AreReplaced (written edits) before after
-        → SaysStep json step edits.old edits.report edits.new said → StepEnds (Ok said)
+        → SaysStep json step edits.old.project.files edits.new.project.files edits.report said → StepEnds (Ok said)
     -- one could not be replaced, what was replaced got its old bytes again, and the fault reports it
     unwritten : (edits : Edits before.content dir step) (fault : StoreFault) → only_tells step ≡ false → dry_run ≡ false
         → TakenBack (written edits) before after fault
@@ -149,11 +149,14 @@ OnlyAsks (Ok a) = IsTrue (only_asks a.action || a.dry_run)
 
 -- ---- what is written
 
--- Why a run was stopped, as lines or as an object of JSON. Where memory ran out while the words were read, it is not known whether they want JSON: then lines.
+-- memory ran out while the words were read: then it is not known whether they want JSON
+abbrev pub left_words_unread : Stop → Bool
+left_words_unread (Usage usage.OutOfMemory) = true
+left_words_unread _ = false
+
+-- why a run was stopped, as an object of JSON where it is known that the words want it, else as lines
 abbrev pub stopped_text : Bool → Stop → List ℕ
-stopped_text true (Usage usage.OutOfMemory) = stop_lines (Usage usage.OutOfMemory)
-stopped_text true stop = line (stop_object stop)
-stopped_text false stop = stop_lines stop
+stopped_text json stop = if json && not (left_words_unread stop) then line (stop_object stop) else stop_lines stop
 
 -- What a run says is written to the writer of errors and to that of output. Why it was stopped is written to that of errors alone: lines, or an object of JSON.
 abbrev pub Says : Bool → Result Said Stop → Heard → Heard → Heard → Heard → Type 0

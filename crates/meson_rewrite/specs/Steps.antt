@@ -114,10 +114,10 @@ said_of (ForgetOldest count) report = record { out = forgot_line (decimal count)
 said_of ForgetAll report = record { out = forgot_line (codes "all"); err = listing_line (view report.info) }
 said_of _ report = record { out = step_lines report; err = listing_line (view report.info) }
 
--- of a step that was done: these texts, or an object of JSON
-abbrev pub SaysStep : Bool → Step → Session → Report → Session → Said → Type 0
-SaysStep false step old report new said = said ≡ said_of step report
-SaysStep true step old report new said = SaysObject step old.project.files new.project.files report said
+-- of a step that made the second files of the first: these texts, or an object of JSON
+abbrev pub SaysStep : Bool → Step → List File → List File → Report → Said → Type 0
+SaysStep false step old new report said = said ≡ said_of step report
+SaysStep true step old new report said = SaysObject step old new report said
 
 -- of a step that is shown, and not done: a diff, or the object of a step that was done
 abbrev pub ShowsStep : Bool → Step → Session → Report → Session → Said → Type 0

@@ -146,12 +146,19 @@ pub(crate) fn done_object_line(
     json_line(alloc, &done)
 }
 
+/// What the log lost.
+fn forgot_object(alloc: Global, which: Value) -> Result<Value, AllocError>
+    ensures { IfOk result (λ v. view v ≡ forgot_data (view which)) }
+{
+    json!(in alloc; {"forgot": which})
+}
+
 /// The line that says how many of the oldest changes were dropped, or that all were.
 pub(crate) fn forgot_object_line(alloc: Global, which: Value) -> Result<Vec<u8>, AllocError>
     requires { has_float (view which) ≡ false }
     ensures { IfOk result (λ text. text.items ≡ line (compact_text (forgot_data (view which)))) }
 {
-    let forgot = json!(in alloc; {"forgot": which})?;
+    let forgot = forgot_object(alloc, which)?;
     json_line(alloc, &forgot)
 }
 

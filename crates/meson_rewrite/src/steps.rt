@@ -10,8 +10,7 @@ ghost use Rattle.meson_calls.specs.Loading.{HasFileName, IsProject, name_of_file
 ghost use Rattle.meson_json.specs.Log.{is_text_history, log_of};
 ghost use Rattle.meson_rewrite.specs.inside.Edited.{IsEdited, IsObject, IsShown, OnlyTells, IsWithin};
 ghost use Rattle.meson_rewrite.specs.Logs.{with_log};
-ghost use Rattle.meson_rewrite.specs.Objects.{SaysObject};
-ghost use Rattle.meson_rewrite.specs.Steps.{Does, IsTitled, MayRefuseStep, said_of};
+ghost use Rattle.meson_rewrite.specs.Steps.{Does, IsTitled, MayRefuseStep, SaysStep};
 ghost use Rattle.meson_rewrite.specs.Stops.{WantsMemory, undo_stop};
 
 use crate::opening::{LOG, StoredSession, leave};
@@ -189,7 +188,7 @@ fn logged(alloc: Global, session: &Session) -> Result<FileSet, Stop>
     ensures none { IfErr result WantsMemory }
 {
     let text = new_log(alloc, session)?;
-    session.project().reads();
+    session.project.reads();
     let files = session.files().clone()?;
     let all = with_log(alloc, files, text)?;
     Ok(all)
@@ -216,11 +215,10 @@ fn said_of(
     requires same_files { map (λ f. f.name) old.now ≡ map (λ f. f.name) session.now.project.files }
     requires old_text { All (λ f. IsUtf8 f.bytes) old.now }
     requires plain { has_float (view report.info) ≡ false }
-    ensures lines { json ≡ false → IfOk result (λ said. said ≡ said_of step.now report) }
-    ensures object { json ≡ true → IfOk result (SaysObject step.now old.now session.now.project.files report) }
+    ensures { IfOk result (SaysStep json step.now old.now session.now.project.files report) }
 {
     if json {
-        session.project().reads();
+        session.project.reads();
         return Said::object(alloc, step, old, session.files(), report);
     }
     Said::of(alloc, step, &report)

@@ -24,14 +24,14 @@ pub record IsEdited (old : Session) (log : List ℕ) (step : Step) (json : Bool)
   pub is_log : log_of new.history ≡ Ok new_log
   pub before : edit.before ≡ with_log old.project.files log
   pub after : edit.after ≡ with_log new.project.files new_log
-  pub says : SaysStep json step old report new edit.said
+  pub says : SaysStep json step old.project.files new.project.files report edit.said
 
 -- a step that only reports
 pub record OnlyTells (old : Session) (step : Step) (json : Bool) (said : Said) : Type 0 where
   pub new : Session
   pub report : Report
   pub does : Does step old report new
-  pub says : SaysStep json step old report new said
+  pub says : SaysStep json step old.project.files new.project.files report said
 
 -- a step that is shown, and not done
 pub record IsShown (old : Session) (step : Step) (json : Bool) (said : Said) : Type 0 where
