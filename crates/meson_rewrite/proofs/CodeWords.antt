@@ -38,6 +38,7 @@ of_script (script.UnknownType n) = inr (record { meaning = codes "unknown type";
 of_script (script.BadField n name) = inr (record { meaning = codes "bad field " ++ name; words = in_entry n (codes "J6 bad field " ++ name); one_word = refl })
 of_script (script.UnknownOperation n) = inr (record { meaning = codes "unknown operation"; words = in_entry n (codes "J7 unknown operation"); one_word = refl })
 of_script (script.Unsupported n) = inr (record { meaning = codes "unsupported"; words = in_entry n (codes "J8 unsupported"); one_word = refl })
+of_script (script.UnknownMember n name) = inr (record { meaning = codes "unknown member " ++ name; words = in_entry n (codes "J12 unknown member " ++ name); one_word = refl })
 of_script script.BadLog = inr (record { meaning = codes "bad log"; words = refl; one_word = refl })
 of_script script.OutOfMemory = inl (refl, refl)
 

@@ -19,7 +19,7 @@ use Rattle.meson_gathering.specs.Gathering.{Finds, file_of}
 use Rattle.meson_rewrite.specs.inside.Edited.{IsEdited, IsShown, OnlyTells}
 use Rattle.meson_rewrite.specs.Lines.{status, stop_status, store_fault_status, usage_status, version_line}
 use Rattle.meson_rewrite.proofs.Holding.{IsHeld, held-collected}
-use Rattle.meson_rewrite.specs.Listed.{listed_text}
+use Rattle.meson_rewrite.specs.Listed.{listing_text}
 use Rattle.meson_rewrite.specs.Logs.{log_name, with_log}
 use Rattle.meson_rewrite.specs.Opening.{IsNoLog, Opens, OpensNone, log_unread, bad_log, no_log, no_project}
 use Rattle.meson_rewrite.specs.Requests.{AsksFor, AsksForNone, only_asks, script}
@@ -83,7 +83,7 @@ taken-then a b c u files fault t = record {
 
 -- ---- a step
 
-module _ (dir : Option (List ℕ)) (step : Step) (dry_run : Bool) where
+module _ (dir : Option (List ℕ)) (step : Step) (dry_run json : Bool) where
   abbrev edits-before : (before middle : Option Content) → middle ≡ before → Edits middle dir step → Edits before dir step
   edits-before before middle same e = record {
     old = e.old;
@@ -98,36 +98,37 @@ module _ (dir : Option (List ℕ)) (step : Step) (dry_run : Bool) where
   }
 
   -- the store was read before, for a script
-  pub step-before : (a b c : Seen) (end : Result Said Stop) → Untouched a b → b.failures ≤ c.failures → StepEnds dir step dry_run b c end → StepEnds dir step dry_run a c end
+  pub step-before : (a b c : Seen) (end : Result Said Stop) → Untouched a b → b.failures ≤ c.failures → StepEnds dir step dry_run json b c end → StepEnds dir step dry_run json a c end
   step-before a b c _ u k (not_opened stop v opens) =
       not_opened stop (untouched-then a b c u v) (none-before dir a.content a.failures b.failures c.failures u.counts k stop (subst (λ m. OpensNone m dir b.failures c.failures stop) u.kept opens))
   step-before a b c _ u k (refused old log stop v opens may) = refused old log stop (untouched-then a b c u v) (subst (λ m. Opens m dir old log) u.kept opens) may
-  step-before a b c _ u k (told old new log report v opens does only) = told old new log report (untouched-then a b c u v) (subst (λ m. Opens m dir old log) u.kept opens) does only
+  step-before a b c _ u k (told old new log report said v opens does only says) =
+      told old new log report said (untouched-then a b c u v) (subst (λ m. Opens m dir old log) u.kept opens) does only says
   step-before a b c _ u k (shown old new log report said v opens does writes dry shows) =
       shown old new log report said (untouched-then a b c u v) (subst (λ m. Opens m dir old log) u.kept opens) does writes dry shows
-  step-before a b c _ u k (done e writes wet are) = done (edits-before a.content b.content u.kept e) writes wet (replaced-then a b c u (written e) are)
+  step-before a b c _ u k (done e said writes wet are says) = done (edits-before a.content b.content u.kept e) said writes wet (replaced-then a b c u (written e) are) says
   step-before a b c _ u k (unwritten e fault writes wet taken) = unwritten (edits-before a.content b.content u.kept e) fault writes wet (taken-then a b c u (written e) fault taken)
   step-before a b c _ u k (no_memory stop v wants) = no_memory stop (untouched-then a b c u v) wants
 
   -- ---- by what stopped it, or by what is written
 
   module _ (b a : Seen) (u : Untouched b a) where
-    pub stopped-opening : (stop : Stop) → WantsMemory stop ⊎ OpensNone b.content dir b.failures a.failures stop → StepEnds dir step dry_run b a (Err stop)
+    pub stopped-opening : (stop : Stop) → WantsMemory stop ⊎ OpensNone b.content dir b.failures a.failures stop → StepEnds dir step dry_run json b a (Err stop)
     stopped-opening stop (inl m) = no_memory stop u m
     stopped-opening stop (inr none) = not_opened stop u none
 
     module _ (old : Session) (log : List ℕ) (opens : Opens b.content dir old log) where
-      pub stopped-acting : (stop : Stop) → WantsMemory stop ⊎ MayRefuseStep step old stop → StepEnds dir step dry_run b a (Err stop)
+      pub stopped-acting : (stop : Stop) → WantsMemory stop ⊎ MayRefuseStep step old stop → StepEnds dir step dry_run json b a (Err stop)
       stopped-acting stop (inl m) = no_memory stop u m
       stopped-acting stop (inr may) = refused old log stop u opens may
 
-      pub told-ends : only_tells step ≡ true → (said : Said) → OnlyTells old step said → StepEnds dir step dry_run b a (Ok said)
-      told-ends only said t = subst (λ s. StepEnds dir step dry_run b a (Ok s)) (sym t.is_said) (told old t.new log t.report u opens t.does only)
+      pub told-ends : only_tells step ≡ true → (said : Said) → OnlyTells old step json said → StepEnds dir step dry_run json b a (Ok said)
+      told-ends only said t = told old t.new log t.report said u opens t.does only t.says
 
-      pub dry-ends : only_tells step ≡ false → dry_run ≡ true → (said : Said) → IsShown old step said → StepEnds dir step dry_run b a (Ok said)
+      pub dry-ends : only_tells step ≡ false → dry_run ≡ true → (said : Said) → IsShown old step json said → StepEnds dir step dry_run json b a (Ok said)
       dry-ends writes dry said s = shown old s.new log s.report said u opens s.does writes dry s.shows
 
-  module _ (b m a : Seen) (u : Untouched b m) (writes : only_tells step ≡ false) (wet : dry_run ≡ false) (old : Session) (log : List ℕ) (opens : Opens b.content dir old log) (edit : Edit) (e : IsEdited old log step edit) where
+  module _ (b m a : Seen) (u : Untouched b m) (writes : only_tells step ≡ false) (wet : dry_run ≡ false) (old : Session) (log : List ℕ) (opens : Opens b.content dir old log) (edit : Edit) (e : IsEdited old log step json edit) where
     abbrev edits : Edits b.content dir step
     edits = record {
       old = old;
@@ -144,37 +145,37 @@ module _ (dir : Option (List ℕ)) (step : Step) (dry_run : Bool) where
     are-written : puts dir edit.before edit.after ≡ written edits
     are-written = ap (λ fs. puts dir fs edit.after) e.before ∙ ap (puts dir (with_log old.project.files log)) e.after
 
-    pub done-ends : AreReplaced (puts dir edit.before edit.after) m a → StepEnds dir step dry_run b a (Ok edit.said)
+    pub done-ends : AreReplaced (puts dir edit.before edit.after) m a → StepEnds dir step dry_run json b a (Ok edit.said)
     done-ends are =
-        subst (λ s. StepEnds dir step dry_run b a (Ok s)) (sym e.said) (done edits writes wet (replaced-then b m a u (written edits) (subst (λ fs. AreReplaced fs m a) are-written are)))
+        done edits edit.said writes wet (replaced-then b m a u (written edits) (subst (λ fs. AreReplaced fs m a) are-written are)) e.says
 
-    pub failed-ends : (fault : StoreFault) → CommitFails (puts dir edit.before edit.after) m a fault → StepEnds dir step dry_run b a (Err (Store fault))
+    pub failed-ends : (fault : StoreFault) → CommitFails (puts dir edit.before edit.after) m a fault → StepEnds dir step dry_run json b a (Err (Store fault))
     failed-ends fault (inl (is, untouched)) = no_memory (Store fault) (untouched-then b m a u untouched) is
     failed-ends fault (inr taken) = unwritten edits fault writes wet (taken-then b m a u (written edits) fault (subst (λ fs. TakenBack fs m a fault) are-written taken))
 
 -- ---- a listing
 
-module _ (dir : Option (List ℕ)) (listing : Listing) where
+module _ (dir : Option (List ℕ)) (listing : Listing) (json : Bool) where
   -- the store was read before
-  pub listing-before : (a b c : Seen) (end : Result Said Stop) → Untouched a b → b.failures ≤ c.failures → ListingEnds dir listing b c end → ListingEnds dir listing a c end
+  pub listing-before : (a b c : Seen) (end : Result Said Stop) → Untouched a b → b.failures ≤ c.failures → ListingEnds dir listing json b c end → ListingEnds dir listing json a c end
   listing-before a b c _ u k (has_none stop v opens) =
       has_none stop (untouched-then a b c u v) (none-before dir a.content a.failures b.failures c.failures u.counts k stop (subst (λ m. OpensNone m dir b.failures c.failures stop) u.kept opens))
   listing-before a b c _ u k (listed session log v opens) = listed session log (untouched-then a b c u v) (subst (λ m. Opens m dir session log) u.kept opens)
   listing-before a b c _ u k (wants_memory stop v wants) = wants_memory stop (untouched-then a b c u v) wants
 
-  pub listing-untouched : (before after : Seen) (end : Result Said Stop) → ListingEnds dir listing before after end → Untouched before after
+  pub listing-untouched : (before after : Seen) (end : Result Said Stop) → ListingEnds dir listing json before after end → Untouched before after
   listing-untouched before after _ (has_none stop u opens) = u
   listing-untouched before after _ (listed session log u opens) = u
   listing-untouched before after _ (wants_memory stop u wants) = u
 
   pub listing-unopened : (before after : Seen) → Untouched before after → (stop : Stop)
-      → WantsMemory stop ⊎ OpensNone before.content dir before.failures after.failures stop → ListingEnds dir listing before after (Err stop)
+      → WantsMemory stop ⊎ OpensNone before.content dir before.failures after.failures stop → ListingEnds dir listing json before after (Err stop)
   listing-unopened before after u stop (inl m) = wants_memory stop u m
   listing-unopened before after u stop (inr none) = has_none stop u none
 
   pub listing-told : (before after : Seen) → Untouched before after → (session : Session) (log : List ℕ) → Opens before.content dir session log
-      → (end : Result Said Stop) → IfOk end (λ said. said ≡ record { out = listed_text listing session; err = [] }) → IfErr end WantsMemory → ListingEnds dir listing before after end
-  listing-told before after u session log opens (Ok said) is none = subst (λ s. ListingEnds dir listing before after (Ok s)) (sym is) (listed session log u opens)
+      → (end : Result Said Stop) → IfOk end (λ said. said ≡ record { out = listing_text json listing session; err = [] }) → IfErr end WantsMemory → ListingEnds dir listing json before after end
+  listing-told before after u session log opens (Ok said) is none = subst (λ s. ListingEnds dir listing json before after (Ok s)) (sym is) (listed session log u opens)
   listing-told before after u session log opens (Err stop) is none = wants_memory stop u none
 
 -- ---- with these statuses the store holds what it held
@@ -221,12 +222,12 @@ module _ (asked : Result Asked UsageFault) (before after : Seen) where
     unwritten-keeps e store.OutOfMemory t s =
         (ran-out a.dir step before after e t, inr (refl, record { a = a; is_asked = is; step = step; asks = asks; edits = e; taken = t }))
 
-    step-keeps : (end : Result Said Stop) → StepEnds a.dir step a.dry_run before after end → Refusing (status end) → Keeps (status end)
+    step-keeps : (end : Result Said Stop) → StepEnds a.dir step a.dry_run a.json before after end → Refusing (status end) → Keeps (status end)
     step-keeps _ (not_opened stop u opens) s = untouched-keeps (stop_status stop) u
     step-keeps _ (refused old log stop u opens may) s = untouched-keeps (stop_status stop) u
-    step-keeps _ (told old new log report u opens does only) s = untouched-keeps 0 u
+    step-keeps _ (told old new log report said u opens does only says) s = untouched-keeps 0 u
     step-keeps _ (shown old new log report said u opens does writes dry shows) s = untouched-keeps 0 u
-    step-keeps _ (done e writes wet are) s = not-refused 0 s (inl refl)
+    step-keeps _ (done e said writes wet are says) s = not-refused 0 s (inl refl)
     step-keeps _ (unwritten e fault writes wet taken) s = unwritten-keeps e fault taken s
     step-keeps _ (no_memory stop u wants) s = untouched-keeps (stop_status stop) u
 
@@ -237,7 +238,7 @@ status-keeps asked before after _ (helped a text u is shows) s = untouched-keeps
 status-keeps asked before after _ (told_version a u is shows) s = untouched-keeps asked before after 0 u
 status-keeps asked before after _ (asks_for_none a stop u is none) s = untouched-keeps asked before after (stop_status stop) u
 status-keeps asked before after _ (steps a step end is asks ends) s = step-keeps asked before after a step is asks end ends s
-status-keeps asked before after _ (lists a listing end is asks ends) s = untouched-keeps asked before after (status end) (listing-untouched a.dir listing before after end ends)
+status-keeps asked before after _ (lists a listing end is asks ends) s = untouched-keeps asked before after (status end) (listing-untouched a.dir listing a.json before after end ends)
 status-keeps asked before after _ (memory_ran_out stop u wants) s = untouched-keeps asked before after (stop_status stop) u
 
 -- ---- what was asked for
@@ -313,17 +314,17 @@ asks-same a t = go a.action t
     go action.Version t = t
 
 -- nothing is written where a step only tells, and in a dry run
-step-told : (dir : Option (List ℕ)) (step : Step) (dry_run : Bool) (before after : Seen) → (only_tells step ≡ true) ⊎ (dry_run ≡ true) → (end : Result Said Stop) → StepEnds dir step dry_run before after end
+step-told : (dir : Option (List ℕ)) (step : Step) (dry_run json : Bool) (before after : Seen) → (only_tells step ≡ true) ⊎ (dry_run ≡ true) → (end : Result Said Stop) → StepEnds dir step dry_run json before after end
     → IsUnchanged before after
-step-told dir step dry_run before after only _ (not_opened stop u opens) = untouched-same before after u
-step-told dir step dry_run before after only _ (refused old log stop u opens may) = untouched-same before after u
-step-told dir step dry_run before after only _ (told old new log report u opens does tells) = untouched-same before after u
-step-told dir step dry_run before after only _ (shown old new log report said u opens does writes dry shows) = untouched-same before after u
-step-told dir step dry_run before after (inl tells) _ (done e writes wet are) = absurd (let no : ⊥ = cc in no)
-step-told dir step dry_run before after (inr dry) _ (done e writes wet are) = absurd (let no : ⊥ = cc in no)
-step-told dir step dry_run before after (inl tells) _ (unwritten e fault writes wet taken) = absurd (let no : ⊥ = cc in no)
-step-told dir step dry_run before after (inr dry) _ (unwritten e fault writes wet taken) = absurd (let no : ⊥ = cc in no)
-step-told dir step dry_run before after only _ (no_memory stop u wants) = untouched-same before after u
+step-told dir step dry_run json before after only _ (not_opened stop u opens) = untouched-same before after u
+step-told dir step dry_run json before after only _ (refused old log stop u opens may) = untouched-same before after u
+step-told dir step dry_run json before after only _ (told old new log report said u opens does tells says) = untouched-same before after u
+step-told dir step dry_run json before after only _ (shown old new log report said u opens does writes dry shows) = untouched-same before after u
+step-told dir step dry_run json before after (inl tells) _ (done e said writes wet are says) = absurd (let no : ⊥ = cc in no)
+step-told dir step dry_run json before after (inr dry) _ (done e said writes wet are says) = absurd (let no : ⊥ = cc in no)
+step-told dir step dry_run json before after (inl tells) _ (unwritten e fault writes wet taken) = absurd (let no : ⊥ = cc in no)
+step-told dir step dry_run json before after (inr dry) _ (unwritten e fault writes wet taken) = absurd (let no : ⊥ = cc in no)
+step-told dir step dry_run json before after only _ (no_memory stop u wants) = untouched-same before after u
 
 one-true : (x y : Bool) → IsTrue (x || y) → IsTrue x ⊎ (y ≡ true)
 one-true true y t = inl refl
@@ -336,8 +337,8 @@ asking-keeps asked before after _ (told_version a u is shows) t = untouched-same
 asking-keeps asked before after _ (asks_for_none a stop u is none) t = untouched-same before after u
 asking-keeps asked before after _ (steps a step end is asks ends) t =
     elim (one-true (only_asks (without_text a).action) a.dry_run (subst OnlyAsks is t)) [
-      | inl only ↦ step-told a.dir step a.dry_run before after (inl (asks-only a.title a.action before.content step asks (asks-same a only))) end ends
-      | inr dry ↦ step-told a.dir step a.dry_run before after (inr dry) end ends
+      | inl only ↦ step-told a.dir step a.dry_run a.json before after (inl (asks-only a.title a.action before.content step asks (asks-same a only))) end ends
+      | inr dry ↦ step-told a.dir step a.dry_run a.json before after (inr dry) end ends
     ]
-asking-keeps asked before after _ (lists a listing end is asks ends) t = untouched-same before after (listing-untouched a.dir listing before after end ends)
+asking-keeps asked before after _ (lists a listing end is asks ends) t = untouched-same before after (listing-untouched a.dir listing a.json before after end ends)
 asking-keeps asked before after _ (memory_ran_out stop u wants) t = untouched-same before after u

@@ -4,6 +4,7 @@ pub mod EditedFiles
 pub mod Wants
 pub mod Names
 pub mod Listings
+pub mod PlainObjects
 pub mod Scripts
 pub mod Requests
 pub mod Endings

@@ -62,7 +62,7 @@ shown-plain (shown.Texts texts) = texts-plain texts
 shown-plain (shown.Ids names) = ids-plain names
 shown-plain (shown.Opaque text) = refl
 
-either : (a b : Bool) → a ≡ false → b ≡ false → (a || b) ≡ false
+pub either : (a b : Bool) → a ≡ false → b ≡ false → (a || b) ≡ false
 either true b p q = p
 either false b p q = q
 
@@ -94,7 +94,7 @@ each-plain ms (p ∷ more) q = each-plain (put p.0 (shown_data p.1) ms) more (pu
 
 -- ---- what a project holds
 
-all-plain : {X : Type 0} (data_of : X → Data) (xs : List X) → ((x : X) → has_float (data_of x) ≡ false) → items_have_float (items_of (map data_of xs)) ≡ false
+pub all-plain : {X : Type 0} (data_of : X → Data) (xs : List X) → ((x : X) → has_float (data_of x) ≡ false) → items_have_float (items_of (map data_of xs)) ≡ false
 all-plain data_of [] plain = refl
 all-plain data_of (x ∷ xs) plain = either (has_float (data_of x)) (items_have_float (items_of (map data_of xs))) (plain x) (all-plain data_of xs plain)
 

@@ -91,19 +91,19 @@ module _ (dir : Option (List ℕ)) (step : Step) (before after : Seen) (e : Edit
 
 -- ---- a run
 
-step-untold : (dir : Option (List ℕ)) (step : Step) (dry_run : Bool) (before after : Seen) (end : Result Said Stop) → StepEnds dir step dry_run before after end → IfErr end (KeepsUntold dir before.content after.content)
-step-untold dir step dry_run before after _ (not_opened stop u opens) = same-keeps dir before.content after.content stop u.kept
-step-untold dir step dry_run before after _ (refused old log stop u opens may) = same-keeps dir before.content after.content stop u.kept
-step-untold dir step dry_run before after _ (told old new log report u opens does only) = tt
-step-untold dir step dry_run before after _ (shown old new log report said u opens does writes dry shows) = tt
-step-untold dir step dry_run before after _ (done e writes wet are) = tt
-step-untold dir step dry_run before after _ (unwritten e fault writes wet taken) = λ old new is now path untold. unwritten-keeps dir step before after e fault taken old new is now path untold
-step-untold dir step dry_run before after _ (no_memory stop u wants) = same-keeps dir before.content after.content stop u.kept
+step-untold : (dir : Option (List ℕ)) (step : Step) (dry_run json : Bool) (before after : Seen) (end : Result Said Stop) → StepEnds dir step dry_run json before after end → IfErr end (KeepsUntold dir before.content after.content)
+step-untold dir step dry_run json before after _ (not_opened stop u opens) = same-keeps dir before.content after.content stop u.kept
+step-untold dir step dry_run json before after _ (refused old log stop u opens may) = same-keeps dir before.content after.content stop u.kept
+step-untold dir step dry_run json before after _ (told old new log report said u opens does only says) = tt
+step-untold dir step dry_run json before after _ (shown old new log report said u opens does writes dry shows) = tt
+step-untold dir step dry_run json before after _ (done e said writes wet are says) = tt
+step-untold dir step dry_run json before after _ (unwritten e fault writes wet taken) = λ old new is now path untold. unwritten-keeps dir step before after e fault taken old new is now path untold
+step-untold dir step dry_run json before after _ (no_memory stop u wants) = same-keeps dir before.content after.content stop u.kept
 
-listing-untold : (dir folder : Option (List ℕ)) (listing : Listing) (before after : Seen) (end : Result Said Stop) → ListingEnds folder listing before after end → IfErr end (KeepsUntold dir before.content after.content)
-listing-untold dir folder listing before after _ (has_none stop u opens) = same-keeps dir before.content after.content stop u.kept
-listing-untold dir folder listing before after _ (listed session log u opens) = tt
-listing-untold dir folder listing before after _ (wants_memory stop u wants) = same-keeps dir before.content after.content stop u.kept
+listing-untold : (dir folder : Option (List ℕ)) (listing : Listing) (json : Bool) (before after : Seen) (end : Result Said Stop) → ListingEnds folder listing json before after end → IfErr end (KeepsUntold dir before.content after.content)
+listing-untold dir folder listing json before after _ (has_none stop u opens) = same-keeps dir before.content after.content stop u.kept
+listing-untold dir folder listing json before after _ (listed session log u opens) = tt
+listing-untold dir folder listing json before after _ (wants_memory stop u wants) = same-keeps dir before.content after.content stop u.kept
 
 pub run-untold : (asked : Result Asked UsageFault) (before after : Seen) (end : Result Said Stop) → Ends asked before after end → IfErr end (KeepsUntold (dir_of asked) before.content after.content)
 run-untold asked before after _ (misused fault u is) = same-keeps (dir_of asked) before.content after.content (Usage fault) u.kept
@@ -111,6 +111,6 @@ run-untold asked before after _ (helped a text u is shows) = tt
 run-untold asked before after _ (told_version a u is shows) = tt
 run-untold asked before after _ (asks_for_none a stop u is none) = same-keeps (dir_of asked) before.content after.content stop u.kept
 run-untold asked before after _ (steps a step end is asks ends) =
-    subst (λ r. IfErr end (KeepsUntold (dir_of r) before.content after.content)) (sym is) (step-untold a.dir step a.dry_run before after end ends)
-run-untold asked before after _ (lists a listing end is asks ends) = listing-untold (dir_of asked) a.dir listing before after end ends
+    subst (λ r. IfErr end (KeepsUntold (dir_of r) before.content after.content)) (sym is) (step-untold a.dir step a.dry_run a.json before after end ends)
+run-untold asked before after _ (lists a listing end is asks ends) = listing-untold (dir_of asked) a.dir listing a.json before after end ends
 run-untold asked before after _ (memory_ran_out stop u wants) = same-keeps (dir_of asked) before.content after.content stop u.kept

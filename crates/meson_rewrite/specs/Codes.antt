@@ -38,6 +38,7 @@ script_code (script.UnknownType index) = codes "J5"
 script_code (script.BadField index member) = codes "J6"
 script_code (script.UnknownOperation index) = codes "J7"
 script_code (script.Unsupported index) = codes "J8"
+script_code (script.UnknownMember index member_) = codes "J12"
 script_code script.BadLog = codes "J9"
 script_code script.OutOfMemory = memory_code
 

@@ -5,6 +5,7 @@ pub mod Codes
 pub mod Refused
 pub mod Changes
 pub mod Listed
+pub mod Objects
 pub mod Steps
 pub mod Requests
 pub mod Opening

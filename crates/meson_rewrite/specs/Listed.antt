@@ -1,5 +1,6 @@
 -- What is listed of a session.
-use Rattle.std.specs.Prelude.{ℕ, Bool, true, false, List}
+use Rattle.std.specs.Prelude.{ℕ, Bool, true, false, List, if◌then◌else◌}
+use Rattle.serde_json.specs.Data.{Data}
 use Rattle.serde_json.specs.Written.{compact_text}
 use Rattle.meson_calls.specs.Loading.{Loaded}
 use Rattle.meson_inventory.specs.Inventory.{project_data, project_lines}
@@ -7,6 +8,7 @@ use Rattle.meson_script.specs.declared.session.Session.{Session}
 use Rattle.meson_sums.specs.Sums.{sums}
 use Rattle.meson_rewrite.specs.Changes.{history_lines}
 use Rattle.meson_rewrite.specs.Lines.{line}
+use Rattle.meson_rewrite.specs.Objects.{history_data, sums_data}
 use Rattle.meson_rewrite.specs.declared.request.Listing.{Listing}
 use Rattle.meson_rewrite.specs.declared.request.Listing.TheVariants.{History, Holdings, Sums}
 
@@ -15,7 +17,17 @@ abbrev pub holdings_text : Bool → Loaded → List ℕ
 holdings_text true project = line (compact_text (project_data project))
 holdings_text false project = project_lines project
 
+-- as lines, but for a project that is to be listed as JSON
 abbrev pub listed_text : Listing → Session → List ℕ
 listed_text History session = history_lines session.history
 listed_text (Holdings json) session = holdings_text json session.project
 listed_text Sums session = sums session.project.files
+
+abbrev pub listed_data : Listing → Session → Data
+listed_data History session = history_data session.history
+listed_data (Holdings json) session = project_data session.project
+listed_data Sums session = sums_data session.project.files
+
+-- where the answer is JSON, one line of it
+abbrev pub listing_text : Bool → Listing → Session → List ℕ
+listing_text json listing session = if json then line (compact_text (listed_data listing session)) else listed_text listing session

@@ -62,6 +62,7 @@ script_entry (script.UnknownType index) = Some index
 script_entry (script.BadField index member_) = Some index
 script_entry (script.UnknownOperation index) = Some index
 script_entry (script.Unsupported index) = Some index
+script_entry (script.UnknownMember index member_) = Some index
 script_entry _ = None
 
 abbrev pub stop_entry : Stop → Option ℕ
@@ -115,6 +116,7 @@ refusal_subject _ = None
 
 abbrev pub script_subject : ScriptFault → Option (List ℕ)
 script_subject (script.BadField index member_) = Some member_
+script_subject (script.UnknownMember index member_) = Some member_
 script_subject _ = None
 
 abbrev pub stop_name : Stop → Option (List ℕ)

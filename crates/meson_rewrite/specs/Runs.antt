@@ -1,5 +1,5 @@
 -- How a run of the program ends: what it says, and what the store then holds.
-use Rattle.std.specs.Prelude.{◌≡◌, ◌≢◌, ◌⊎◌, ◌||◌, ⊤, Bool, IsTrue, false, true, ℕ, List, [], Option, Some, None, Result, Ok, Err, IfErr}
+use Rattle.std.specs.Prelude.{◌≡◌, ◌≢◌, ◌⊎◌, ◌||◌, ◌&&◌, ⊤, Bool, IsTrue, false, true, not, if◌then◌else◌, ℕ, List, [], Option, Some, None, Result, Ok, Err, IfErr}
 use Rattle.std.specs.FinMap.{get}
 use Rattle.std.specs.List.{Contains}
 use Rattle.meson_calls.specs.Loading.{IsProject}
@@ -10,18 +10,20 @@ use Rattle.meson_command.specs.Asking.{without_text}
 use Rattle.meson_command.specs.declared.asked.Action.TheVariants.{Help, Version}
 use Rattle.meson_command.specs.declared.asked.Asked.{Asked}
 use Rattle.meson_command.specs.declared.fault.UsageFault.{UsageFault}
+use Rattle.meson_command.specs.declared.fault.UsageFault.TheVariants as usage
 use Rattle.meson_store.specs.Commit.{AreReplaced, Put, TakenBack, path_in, puts}
 use Rattle.meson_store.specs.Content.{Content}
 use Rattle.meson_store.specs.Output.{Heard, Gets, Fails}
 use Rattle.meson_store.specs.Seen.{Seen, Untouched}
 use Rattle.meson_store.specs.declared.store_fault.StoreFault.{StoreFault}
 use Rattle.meson_store.specs.declared.store_fault.StoreFault.TheVariants.{OutOfMemory}
-use Rattle.meson_rewrite.specs.Lines.{left_by, stop_lines, status, version_line}
-use Rattle.meson_rewrite.specs.Listed.{listed_text}
+use Rattle.meson_rewrite.specs.Lines.{left_by, line, status, stop_lines, version_line}
+use Rattle.meson_rewrite.specs.Listed.{listing_text}
 use Rattle.meson_rewrite.specs.Logs.{empty_log, log_name, with_log}
 use Rattle.meson_rewrite.specs.Opening.{Opens, OpensNone}
+use Rattle.meson_rewrite.specs.Refused.{stop_object}
 use Rattle.meson_rewrite.specs.Requests.{AsksFor, AsksForNone, only_asks, only_shows}
-use Rattle.meson_rewrite.specs.Steps.{Does, MayRefuseStep, Shows, only_tells, said_of}
+use Rattle.meson_rewrite.specs.Steps.{Does, MayRefuseStep, SaysStep, ShowsStep, only_tells}
 use Rattle.meson_rewrite.specs.Stops.{WantsMemory}
 use Rattle.meson_rewrite.specs.StoreReads.{MayRead, unread_in}
 use Rattle.meson_rewrite.specs.declared.request.Listing.{Listing}
@@ -50,8 +52,8 @@ pub record Edits (before : Option Content) (dir : Option (List ℕ)) (step : Ste
 abbrev pub written : {before : Option Content} {dir : Option (List ℕ)} {step : Step} → Edits before dir step → List Put
 written {dir = dir} e = puts dir (with_log e.old.project.files e.log) (with_log e.new.project.files e.new_log)
 
--- in a dry run it is shown, and not done
-module _ (dir : Option (List ℕ)) (step : Step) (dry_run : Bool) (before after : Seen) where
+-- in a dry run it is shown, and not done; what is said of it may be JSON
+module _ (dir : Option (List ℕ)) (step : Step) (dry_run json : Bool) (before after : Seen) where
   pub data StepEnds : Result Said Stop → Type 0 where
     -- there is no session
     not_opened : (stop : Stop) → Untouched before after → OpensNone before.content dir before.failures after.failures stop → StepEnds (Err stop)
@@ -59,16 +61,16 @@ module _ (dir : Option (List ℕ)) (step : Step) (dry_run : Bool) (before after 
     refused : (old : Session) (log : List ℕ) (stop : Stop) → Untouched before after → Opens before.content dir old log → MayRefuseStep step old stop
         → StepEnds (Err stop)
     -- its listings are reported, and nothing is written
-    told : (old new : Session) (log : List ℕ) (report : Report) → Untouched before after → Opens before.content dir old log → Does step old report new
-        → only_tells step ≡ true
-        → StepEnds (Ok (said_of step report))
+    told : (old new : Session) (log : List ℕ) (report : Report) (said : Said) → Untouched before after → Opens before.content dir old log
+        → Does step old report new
+        → only_tells step ≡ true → SaysStep json step old.project.files new.project.files report said → StepEnds (Ok said)
     -- what it makes of the files is shown, and nothing is written
     shown : (old new : Session) (log : List ℕ) (report : Report) (said : Said) → Untouched before after → Opens before.content dir old log
         → Does step old report new
-        → only_tells step ≡ false → dry_run ≡ true → Shows old report new said → StepEnds (Ok said)
+        → only_tells step ≡ false → dry_run ≡ true → ShowsStep json step old report new said → StepEnds (Ok said)
     -- each file that differs was replaced, then the log, and no other
-    done : (edits : Edits before.content dir step) → only_tells step ≡ false → dry_run ≡ false → AreReplaced (written edits) before after
-        → StepEnds (Ok (said_of step edits.report))
+    done : (edits : Edits before.content dir step) (said : Said) → only_tells step ≡ false → dry_run ≡ false → AreReplaced (written edits) before after
+        → SaysStep json step edits.old.project.files edits.new.project.files edits.report said → StepEnds (Ok said)
     -- one could not be replaced, what was replaced got its old bytes again, and the fault reports it
     unwritten : (edits : Edits before.content dir step) (fault : StoreFault) → only_tells step ≡ false → dry_run ≡ false
         → TakenBack (written edits) before after fault
@@ -77,13 +79,13 @@ module _ (dir : Option (List ℕ)) (step : Step) (dry_run : Bool) (before after 
 
 -- ---- what is listed of the project of a folder
 
-pub data ListingEnds (dir : Option (List ℕ)) (listing : Listing) (before after : Seen) : Result Said Stop → Type 0 where
+pub data ListingEnds (dir : Option (List ℕ)) (listing : Listing) (json : Bool) (before after : Seen) : Result Said Stop → Type 0 where
   -- there is no session
   has_none : (stop : Stop) → Untouched before after → OpensNone before.content dir before.failures after.failures stop
-      → ListingEnds dir listing before after (Err stop)
+      → ListingEnds dir listing json before after (Err stop)
   listed : (session : Session) (log : List ℕ) → Untouched before after → Opens before.content dir session log
-      → ListingEnds dir listing before after (Ok (record { out = listed_text listing session; err = [] }))
-  wants_memory : (stop : Stop) → Untouched before after → WantsMemory stop → ListingEnds dir listing before after (Err stop)
+      → ListingEnds dir listing json before after (Ok (record { out = listing_text json listing session; err = [] }))
+  wants_memory : (stop : Stop) → Untouched before after → WantsMemory stop → ListingEnds dir listing json before after (Err stop)
 
 -- ---- a whole run, by the request of the words
 
@@ -97,10 +99,10 @@ pub data Ends (asked : Result Asked UsageFault) (before after : Seen) : Result S
   asks_for_none : (a : Asked) (stop : Stop) → Untouched before after → asked ≡ Ok (without_text a)
       → AsksForNone a.action before.content before.failures after.failures stop → Ends asked before after (Err stop)
   steps : (a : Asked) (step : Step) (end : Result Said Stop) → asked ≡ Ok (without_text a) → AsksFor a.title a.action before.content (request.Step step)
-      → StepEnds a.dir step a.dry_run before after end → Ends asked before after end
+      → StepEnds a.dir step a.dry_run a.json before after end → Ends asked before after end
   lists : (a : Asked) (listing : Listing) (end : Result Said Stop) → asked ≡ Ok (without_text a)
       → AsksFor a.title a.action before.content (request.List listing)
-      → ListingEnds a.dir listing before after end → Ends asked before after end
+      → ListingEnds a.dir listing a.json before after end → Ends asked before after end
   memory_ran_out : (stop : Stop) → Untouched before after → WantsMemory stop → Ends asked before after (Err stop)
 
 -- ---- what stays if nothing is done
@@ -147,10 +149,19 @@ OnlyAsks (Ok a) = IsTrue (only_asks a.action || a.dry_run)
 
 -- ---- what is written
 
--- What a run says is written to the writer of errors and to that of output. The lines that say why it was stopped are written to that of errors alone.
-abbrev pub Says : Result Said Stop → Heard → Heard → Heard → Heard → Type 0
-Says (Ok said) out out' err err' = Gets out out' said.out × Gets err err' said.err
-Says (Err stop) out out' err err' = Gets err err' (stop_lines stop) × (out' ≡ out)
+-- memory ran out while the words were read: then it is not known whether they want JSON
+abbrev pub left_words_unread : Stop → Bool
+left_words_unread (Usage usage.OutOfMemory) = true
+left_words_unread _ = false
+
+-- why a run was stopped, as an object of JSON where it is known that the words want it, else as lines
+abbrev pub stopped_text : Bool → Stop → List ℕ
+stopped_text json stop = if json && not (left_words_unread stop) then line (stop_object stop) else stop_lines stop
+
+-- What a run says is written to the writer of errors and to that of output. Why it was stopped is written to that of errors alone: lines, or an object of JSON.
+abbrev pub Says : Bool → Result Said Stop → Heard → Heard → Heard → Heard → Type 0
+Says json (Ok said) out out' err err' = Gets out out' said.out × Gets err err' said.err
+Says json (Err stop) out out' err err' = Gets err err' (stopped_text json stop) × (out' ≡ out)
 
 -- a writer failed to which something was to be written
 abbrev pub CannotGet : Heard → Heard → List ℕ → Type 0
@@ -162,13 +173,14 @@ CannotSay (Ok said) out out' err err' = (CannotGet err err' said.err × (out' �
 CannotSay (Err stop) out out' err err' = Fails err err' × (out' ≡ out)
 
 -- the status and the lines of the ending, or status 3 if a writer failed
-abbrev pub Tells : ℕ → Heard → Heard → Heard → Heard → Result Said Stop → Type 0
-Tells code out out' err err' end = ((code ≡ status end) × Says end out out' err err') ⊎ ((code ≡ 3) × CannotSay end out out' err err')
+abbrev pub Tells : Bool → ℕ → Heard → Heard → Heard → Heard → Result Said Stop → Type 0
+Tells json code out out' err err' end = ((code ≡ status end) × Says json end out out' err err') ⊎ ((code ≡ 3) × CannotSay end out out' err err')
 
-pub record Run (asked : Result Asked UsageFault) (before after : Seen) (reads reads' code : ℕ) (out out' err err' : Heard) : Type 0 where
+-- for words that may want an answer in JSON
+pub record Run (asked : Result Asked UsageFault) (json : Bool) (before after : Seen) (reads reads' code : ℕ) (out out' err err' : Heard) : Type 0 where
   pub end : Result Said Stop
   pub ends : Ends asked before after end
-  pub tells : Tells code out out' err err' end
+  pub tells : Tells json code out out' err err' end
   -- if it was stopped
   pub kept : IfErr end (KeepsUntold (dir_of asked) before.content after.content)
   -- this is how often the store was read, the last time for the file that is reported as unreadable, if there is one

@@ -20,6 +20,7 @@ use Rattle.meson_script.specs.Running.{KeepsChange, MayStop}
 use Rattle.meson_script.specs.Undoing.{MayNotStep, Steps, StepsBack, StopsBack}
 use Rattle.meson_sums.specs.Sums.{sums}
 use Rattle.meson_rewrite.specs.Lines.{done_line, forgot_line, title_line}
+use Rattle.meson_rewrite.specs.Objects.{SaysObject}
 use Rattle.meson_rewrite.specs.Stops.{undo_stop}
 use Rattle.meson_rewrite.specs.declared.request.NamedFile.{NamedFile}
 use Rattle.meson_rewrite.specs.declared.request.Step.{Step}
@@ -112,3 +113,13 @@ said_of (Tell script) report = record { out = []; err = listing_line (view repor
 said_of (ForgetOldest count) report = record { out = forgot_line (decimal count); err = listing_line (view report.info) }
 said_of ForgetAll report = record { out = forgot_line (codes "all"); err = listing_line (view report.info) }
 said_of _ report = record { out = step_lines report; err = listing_line (view report.info) }
+
+-- of a step that made the second files of the first: these texts, or an object of JSON
+abbrev pub SaysStep : Bool → Step → List File → List File → Report → Said → Type 0
+SaysStep false step old new report said = said ≡ said_of step report
+SaysStep true step old new report said = SaysObject step old new report said
+
+-- of a step that is shown, and not done: a diff, or the object of a step that was done
+abbrev pub ShowsStep : Bool → Step → Session → Report → Session → Said → Type 0
+ShowsStep false step old report new said = Shows old report new said
+ShowsStep true step old report new said = SaysObject step old.project.files new.project.files report said

@@ -8,7 +8,7 @@ use std::alloc::{AllocError, Global};
 use std::collections::HashSet;
 
 /// The number of files that the splices edit.
-fn count_files(alloc: Global, splices: &[Splice]) -> Result<usize, AllocError>
+pub(crate) fn count_files(alloc: Global, splices: &[Splice]) -> Result<usize, AllocError>
     ensures count { IfOk result (λ files. files ≡ length (edited_files splices.now)) }
     ensures edited { AreEdited splices.now (edited_files splices.now) }
 {

@@ -40,6 +40,7 @@ fn script_code(fault: &ScriptFault) -> &'static str
         ScriptFault::BadField(..) => "J6",
         ScriptFault::UnknownOperation(_) => "J7",
         ScriptFault::Unsupported(_) => "J8",
+        ScriptFault::UnknownMember(..) => "J12",
         ScriptFault::BadLog => "J9",
         ScriptFault::OutOfMemory => MEMORY,
     }

@@ -6,6 +6,7 @@ mod codes;
 pub mod laws;
 mod lines;
 mod listed;
+mod objects;
 mod opening;
 mod program;
 mod quoted;

@@ -1,11 +1,14 @@
 //! The lines that the program writes.
 
 ghost use Rattle.std.specs.Prelude.{◌≡◌, IfOk, MatchResult, codes, decimal};
-ghost use Rattle.meson_rewrite.specs.Lines.{done_line, forgot_line, left_by, left_lines, stop_lines, title_line, version_line};
+ghost use Rattle.meson_rewrite.specs.Lines.{done_line, forgot_line, left_by, left_lines, title_line, version_line};
+ghost use Rattle.meson_rewrite.specs.Runs.{left_words_unread, stopped_text};
 ghost use Rattle.meson_rewrite.specs.Steps.{step_lines};
 ghost use Rattle.meson_store.specs.Output.{Gets, Fails};
 
+use crate::refused::tell_refused;
 use crate::stop::Stop;
+use meson_command::UsageFault;
 use meson_script::Report;
 use meson_splice::Text;
 use meson_store::{Output, StoreFault};
@@ -36,11 +39,26 @@ fn tell_left<O: Output>(alloc: Global, to: &mut O, names: &[Text]) -> io::Result
     Ok(())
 }
 
-/// Writes why a run was stopped.
-pub(crate) fn tell_stop<O: Output>(alloc: Global, to: &mut O, stop: &Stop) -> io::Result<()>
-    ensures { MatchResult result (λ _. Gets (O.heard to.old) (O.heard to.new) (stop_lines stop.now))
+/// Whether memory ran out while the words were read: then it is not known whether they want JSON.
+fn left_words_unread(stop: &Stop) -> bool
+    ensures { result ≡ left_words_unread stop.now }
+{
+    matches!(stop, Stop::Usage(UsageFault::OutOfMemory))
+}
+
+/// Writes why a run was stopped: an object of JSON where it is known that the words want it, else lines.
+pub(crate) fn tell_stop<O: Output>(
+    alloc: Global,
+    to: &mut O,
+    json: bool,
+    stop: &Stop,
+) -> io::Result<()>
+    ensures { MatchResult result (λ _. Gets (O.heard to.old) (O.heard to.new) (stopped_text json stop.now))
         (λ _. Fails (O.heard to.old) (O.heard to.new)) }
 {
+    if json && !left_words_unread(stop) {
+        return tell_refused(alloc, to, stop);
+    }
     to.tell_line(alloc, &format_args!("error: {stop}"))?;
     tell_left(alloc, to, left_by(stop))
 }

@@ -1,10 +1,12 @@
 //! What is listed of a project.
 
 ghost use Rattle.std.specs.Prelude.{◌≡◌, [], IfErr, IfOk};
-ghost use Rattle.meson_rewrite.specs.Listed.{holdings_text, listed_text};
+ghost use Rattle.serde_json.specs.View.{view};
+ghost use Rattle.meson_rewrite.specs.Listed.{holdings_text, listed_data, listed_text, listing_text};
 ghost use Rattle.meson_rewrite.specs.Stops.{WantsMemory};
 
 use crate::changes::history_text;
+use crate::objects::{history_object, sums_object};
 use crate::opening::{StoredSession, leave};
 use crate::request::Listing;
 use crate::said::{Said, json_line};
@@ -14,6 +16,7 @@ use meson_plan::Project;
 use meson_script::Session;
 use meson_splice::Bytes;
 use meson_sums::sums;
+use serde_json::Value;
 use std::alloc::{AllocError, Global};
 
 /// What a project holds, as JSON or as lines.
@@ -28,8 +31,23 @@ fn holdings_text(alloc: Global, project: &Project, json: bool) -> Result<Vec<u8>
     Ok(lines.into_bytes())
 }
 
-/// The content of a listing of a session.
-fn listing_of(alloc: Global, session: &Session, listing: Listing) -> Result<Vec<u8>, AllocError>
+/// The content of a listing of a session, as JSON.
+fn listed_object(
+    alloc: Global,
+    session: &Session,
+    listing: Listing,
+) -> Result<Value, AllocError>
+    ensures { IfOk result (λ v. view v ≡ listed_data listing session.now) }
+{
+    match listing {
+        Listing::History => history_object(alloc, &session.history),
+        Listing::Holdings { .. } => project_object(alloc, session.project()),
+        Listing::Sums => sums_object(alloc, session.files()),
+    }
+}
+
+/// The content of a listing of a session, as lines.
+fn listed_text(alloc: Global, session: &Session, listing: Listing) -> Result<Vec<u8>, AllocError>
     ensures { IfOk result (λ text. text.items ≡ listed_text listing session.now) }
 {
     match listing {
@@ -39,13 +57,34 @@ fn listing_of(alloc: Global, session: &Session, listing: Listing) -> Result<Vec<
     }
 }
 
+/// The content of a listing of a session, as one line of JSON or as lines.
+fn listing_text(
+    alloc: Global,
+    session: &Session,
+    listing: Listing,
+    json: bool,
+) -> Result<Vec<u8>, AllocError>
+    ensures { IfOk result (λ text. text.items ≡ listing_text json listing session.now) }
+{
+    if json {
+        let listed = listed_object(alloc, session, listing)?;
+        return json_line(alloc, &listed);
+    }
+    listed_text(alloc, session, listing)
+}
+
 /// What is printed when this is listed of a session.
-pub(crate) fn listed(alloc: Global, opened: StoredSession, listing: Listing) -> Result<Said, Stop>
-    ensures told { IfOk result (λ said. said ≡ record { out = listed_text listing opened.session; err = [] }) }
+pub(crate) fn listed(
+    alloc: Global,
+    opened: StoredSession,
+    listing: Listing,
+    json: bool,
+) -> Result<Said, Stop>
+    ensures told { IfOk result (λ said. said ≡ record { out = listing_text json listing opened.session; err = [] }) }
     ensures none { IfErr result WantsMemory }
 {
     let StoredSession { session, log: _ } = opened;
-    let text = listing_of(alloc, &session, listing);
+    let text = listing_text(alloc, &session, listing, json);
     leave(session);
     Ok(Said {
         out: Bytes::of(text?),

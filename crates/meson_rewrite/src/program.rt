@@ -1,7 +1,8 @@
 //! The program, over any store and any two writers.
 
-ghost use Rattle.std.specs.Prelude.{◌≡◌, ◌≤◌, ◌⊎◌, IsTrue, MatchResult, Ok, map, option_map, string_bytes, true, OnOk};
-ghost use Rattle.meson_command.specs.Asking.{asked_by, without_text};
+ghost use Rattle.std.specs.Prelude.{◌≡◌, ◌≤◌, ◌⊎◌, Err, IsTrue, MatchResult, Ok, map, option_map, string_bytes, true, OnOk};
+ghost use Rattle.meson_command.specs.Asking.{asked_by, wants_json, without_text};
+ghost use Rattle.meson_command.specs.declared.fault.UsageFault.TheVariants.{OutOfMemory};
 ghost use Rattle.meson_gathering.specs.Gathering.{named_folder};
 ghost use Rattle.meson_json.specs.Titles.{is_title};
 ghost use Rattle.meson_rewrite.specs.Lines.{status, store_fault_status, usage_status};
@@ -9,6 +10,7 @@ ghost use Rattle.meson_rewrite.specs.StoreReads.{MayRead, ReadsAll, ReadsAtMost,
 ghost use Rattle.meson_rewrite.specs.Requests.{only_shows};
 ghost use Rattle.meson_rewrite.specs.Steps.{IsTitled, only_tells};
 ghost use Rattle.meson_rewrite.specs.Runs.{CannotSay, Ends, IsUnchanged, KeepsFiles, ListingEnds, NeedsNoStore, OnlyAsks, Run, Says, StepEnds, Tells};
+ghost use Rattle.meson_rewrite.specs.declared.stop.Stop.TheVariants.{Usage};
 ghost use Rattle.meson_store.specs.Seen.{seen_by};
 
 use crate::lines::tell_stop;
@@ -18,10 +20,10 @@ use crate::request::{Listing, ProgramRequest, Step, request_of};
 use crate::said::Said;
 use crate::steps::{edited, shown, told};
 use crate::stop::Stop;
-use meson_command::{Asked, UsageFault, command_of};
+use meson_command::{Asked, UsageFault, command_of, wants_json};
 use meson_splice::Text;
 use meson_store::{Output, Store, StoreFault, commit};
-use std::alloc::Global;
+use std::alloc::{AllocError, Global};
 use std::io;
 
 /// It writes nothing.
@@ -38,9 +40,10 @@ fn do_step<S: Store>(
     dir: Option<&str>,
     step: &Step,
     dry_run: bool,
+    json: bool,
 ) -> Result<Said, Stop>
     requires { IsTitled step.now }
-    ensures ends { StepEnds (named_folder dir.entry) step.now dry_run (seen_by S.content S.failures S.replaces store.old)
+    ensures ends { StepEnds (named_folder dir.entry) step.now dry_run json (seen_by S.content S.failures S.replaces store.old)
         (seen_by S.content S.failures S.replaces store.new) result }
     ensures counts { S.failures store.old ≤ S.failures store.new }
     ensures reads { ReadsAtMost (S.content store.old) (named_folder dir.entry) (S.reads store.old) (S.reads store.new) (unread_in result) }
@@ -48,12 +51,12 @@ fn do_step<S: Store>(
 {
     let opened = open(alloc, store, dir)?;
     if only_tells(step) {
-        return told(alloc, opened, step);
+        return told(alloc, opened, step, json);
     }
     if dry_run {
-        return shown(alloc, opened, step);
+        return shown(alloc, opened, step, json);
     }
-    let edit = edited(alloc, opened, step)?;
+    let edit = edited(alloc, opened, step, json)?;
     match commit(alloc, store, dir, &edit.before, &edit.after) {
         Ok(()) => Ok(edit.said),
         Err(fault) => Err(Stop::Store(fault)),
@@ -66,15 +69,16 @@ fn list<S: Store>(
     store: &mut S,
     dir: Option<&str>,
     listing: Listing,
+    json: bool,
 ) -> Result<Said, Stop>
-    ensures ends { ListingEnds (named_folder dir.entry) listing (seen_by S.content S.failures S.replaces store.old)
+    ensures ends { ListingEnds (named_folder dir.entry) listing json (seen_by S.content S.failures S.replaces store.old)
         (seen_by S.content S.failures S.replaces store.new) result }
     ensures counts { S.failures store.old ≤ S.failures store.new }
     ensures reads { ReadsAtMost (S.content store.old) (named_folder dir.entry) (S.reads store.old) (S.reads store.new) (unread_in result) }
     ensures reads_all { OnOk result (ReadsProject (S.content store.old) (named_folder dir.entry) (S.reads store.old) (S.reads store.new)) }
 {
     let opened = open(alloc, store, dir)?;
-    listed(alloc, opened, listing)
+    listed(alloc, opened, listing, json)
 }
 
 /// The name of the folder.
@@ -100,45 +104,77 @@ fn answer<S: Store>(alloc: Global, store: &mut S, asked: Asked) -> Result<Said, 
         dir,
         title,
         dry_run,
-        json: _,
+        json,
         action,
     } = asked;
     match request_of(alloc, store, action, title) {
         Ok(ProgramRequest::Show(text)) => Ok(Said::show(alloc, text)),
-        Ok(ProgramRequest::Step(step)) => do_step(alloc, store, folder(&dir), &step, dry_run),
-        Ok(ProgramRequest::List(listing)) => list(alloc, store, folder(&dir), listing),
+        Ok(ProgramRequest::Step(step)) => {
+            do_step(alloc, store, folder(&dir), &step, dry_run, json)
+        }
+        Ok(ProgramRequest::List(listing)) => list(alloc, store, folder(&dir), listing, json),
         Err(stop) => Err(stop),
     }
 }
 
-/// Answers the request of the words.
-fn run<S: Store>(alloc: Global, store: &mut S, words: &[String]) -> Result<Said, Stop>
-    ensures ends { Ends (asked_by (map string_bytes words.now)) (seen_by S.content S.failures S.replaces store.old)
-        (seen_by S.content S.failures S.replaces store.new) result }
-    ensures untouched { NeedsNoStore (asked_by (map string_bytes words.now)) → store.new ≡ store.old }
-    ensures reads { MayRead (asked_by (map string_bytes words.now)) (S.content store.old) (S.reads store.old) (S.reads store.new)
-        (unread_in result) }
-    ensures reads_all { OnOk result (ReadsAll (asked_by (map string_bytes words.now)) (S.content store.old) (S.reads store.old) (S.reads store.new)) }
+/// How a run ends, and whether that is told in JSON.
+#[derive(Drop)]
+struct Ending {
+    end: Result<Said, Stop>,
+    json: bool,
+}
+
+/// The ending for words that are not a request.
+fn misused(alloc: Global, words: &[String], fault: UsageFault) -> Ending
+    ensures end { (result.end ≡ Err (Usage fault)) ⊎ (result.end ≡ Err (Usage OutOfMemory)) }
+    ensures json { (result.json ≡ wants_json (map string_bytes words.now)) ⊎ (result.end ≡ Err (Usage OutOfMemory)) }
 {
-    match command_of(alloc, words) {
-        Ok(asked) => answer(alloc, store, asked),
-        Err(fault) => Err(Stop::Usage(fault)),
+    match wants_json(alloc, words) {
+        Ok(json) => Ending {
+            end: Err(Stop::Usage(fault)),
+            json,
+        },
+        Err(AllocError) => Ending {
+            end: Err(Stop::Usage(UsageFault::OutOfMemory)),
+            json: false,
+        },
     }
 }
 
-/// Writes the lines of the ending.
+/// Answers the request of the words.
+fn run<S: Store>(alloc: Global, store: &mut S, words: &[String]) -> Ending
+    ensures ends { Ends (asked_by (map string_bytes words.now)) (seen_by S.content S.failures S.replaces store.old)
+        (seen_by S.content S.failures S.replaces store.new) result.end }
+    ensures json { (result.json ≡ wants_json (map string_bytes words.now)) ⊎ (result.end ≡ Err (Usage OutOfMemory)) }
+    ensures untouched { NeedsNoStore (asked_by (map string_bytes words.now)) → store.new ≡ store.old }
+    ensures reads { MayRead (asked_by (map string_bytes words.now)) (S.content store.old) (S.reads store.old) (S.reads store.new)
+        (unread_in result.end) }
+    ensures reads_all { OnOk result.end (ReadsAll (asked_by (map string_bytes words.now)) (S.content store.old) (S.reads store.old) (S.reads store.new)) }
+{
+    match command_of(alloc, words) {
+        Ok(asked) => {
+            let json = asked.json;
+            let end = answer(alloc, store, asked);
+            Ending { end, json }
+        }
+        Err(fault) => misused(alloc, words, fault),
+    }
+}
+
+/// Writes the lines of the ending, or its object of JSON.
 fn tell<O: Output, E: Output>(
     alloc: Global,
     out: &mut O,
     err: &mut E,
+    json: bool,
     end: &Result<Said, Stop>,
 ) -> io::Result<()>
-    ensures { MatchResult result (λ _. Says end.now (O.heard out.old) (O.heard out.new) (E.heard err.old) (E.heard err.new))
+    ensures { MatchResult result (λ _. Says json end.now (O.heard out.old) (O.heard out.new) (E.heard err.old) (E.heard err.new))
         (λ _. CannotSay end.now (O.heard out.old) (O.heard out.new) (E.heard err.old) (E.heard err.new)) }
 {
     match end {
         Ok(said) => said.tell(out, err),
-        Err(stop) => tell_stop(alloc, err, stop),
+        Err(stop) => tell_stop(alloc, err, json, stop),
     }
 }
 
@@ -171,16 +207,17 @@ fn status(end: &Result<Said, Stop>) -> u8
     }
 }
 
-/// Writes the lines of the ending. Returns its status, or 3 if a writer failed.
+/// Writes the lines of the ending, or its object of JSON. Returns its status, or 3 if a writer failed.
 fn ended<O: Output, E: Output>(
     alloc: Global,
     out: &mut O,
     err: &mut E,
+    json: bool,
     end: &Result<Said, Stop>,
 ) -> u8
-    ensures { Tells result (O.heard out.old) (O.heard out.new) (E.heard err.old) (E.heard err.new) end.now }
+    ensures { Tells json result (O.heard out.old) (O.heard out.new) (E.heard err.old) (E.heard err.new) end.now }
 {
-    match tell(alloc, out, err, end) {
+    match tell(alloc, out, err, json, end) {
         Ok(()) => status(end),
         Err(_) => 3,
     }
@@ -203,8 +240,8 @@ pub fn rewrite<S: Store, O: Output, E: Output>(
     out: &mut O,
     err: &mut E,
 ) -> u8
-    ensures runs { let known = seen_by S.content S.failures S.replaces in Run (asked_by (map string_bytes words.now)) (known store.old) (known store.new)
-        (S.reads store.old) (S.reads store.new) result (O.heard out.old) (O.heard out.new) (E.heard err.old) (E.heard err.new) }
+    ensures runs { let known = seen_by S.content S.failures S.replaces in Run (asked_by (map string_bytes words.now)) (wants_json (map string_bytes words.now))
+        (known store.old) (known store.new) (S.reads store.old) (S.reads store.new) result (O.heard out.old) (O.heard out.new) (E.heard err.old) (E.heard err.new) }
     ensures untouched { NeedsNoStore (asked_by (map string_bytes words.now)) → store.new ≡ store.old }
     ensures asking { OnlyAsks (asked_by (map string_bytes words.now)) → IsUnchanged (seen_by S.content S.failures S.replaces store.old)
         (seen_by S.content S.failures S.replaces store.new) }
@@ -212,8 +249,8 @@ pub fn rewrite<S: Store, O: Output, E: Output>(
         (seen_by S.content S.failures S.replaces store.new) result }
     ensures reads_all { (result ≡ 0) → ReadsAll (asked_by (map string_bytes words.now)) (S.content store.old) (S.reads store.old) (S.reads store.new) }
 {
-    let end = run(alloc, store, words);
-    let status = ended(alloc, out, err, &end);
+    let Ending { end, json } = run(alloc, store, words);
+    let status = ended(alloc, out, err, json, &end);
     drop(end);
     status
 }

@@ -93,7 +93,8 @@ impl Stop {
                 | ScriptFault::UnknownType(index)
                 | ScriptFault::BadField(index, _)
                 | ScriptFault::UnknownOperation(index)
-                | ScriptFault::Unsupported(index),
+                | ScriptFault::Unsupported(index)
+                | ScriptFault::UnknownMember(index, _),
             ) => Some(*index),
             _ => None,
         }
@@ -140,7 +141,9 @@ impl Stop {
     {
         match self {
             Stop::Refused(fault) => refusal_subject(&fault.refusal),
-            Stop::Script(ScriptFault::BadField(_, member)) => Some(member.get()),
+            Stop::Script(
+                ScriptFault::BadField(_, member) | ScriptFault::UnknownMember(_, member),
+            ) => Some(member.get()),
             _ => None,
         }
     }

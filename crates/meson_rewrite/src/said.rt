@@ -1,18 +1,22 @@
 //! What a completed run says.
 
-ghost use Rattle.std.specs.Prelude.{◌≡◌, [], IfOk, MatchResult, Ok, false};
+ghost use Rattle.std.specs.Prelude.{◌≡◌, [], IfOk, MatchResult, Ok, false, map};
+ghost use Rattle.std.specs.List.{All};
+ghost use Rattle.std.specs.Str.{IsUtf8};
 ghost use Rattle.serde_json.specs.Find.{as_array};
 ghost use Rattle.serde_json.specs.View.{view};
 ghost use Rattle.serde_json.specs.Written.{compact_text, has_float};
 ghost use Rattle.meson_rewrite.specs.Lines.{line};
+ghost use Rattle.meson_rewrite.specs.Objects.{SaysObject};
 ghost use Rattle.meson_rewrite.specs.Runs.{CannotGet, CannotSay, Says};
 ghost use Rattle.meson_rewrite.specs.Steps.{is_empty_array, listing_line, said_of};
 ghost use Rattle.meson_store.specs.Output.{Gets};
 
 use crate::lines::{all_forgotten_text, done_text, forgotten_text, step_text};
+use crate::objects::{done_object_line, forgot_object_line};
 use crate::request::Step;
 use meson_script::Report;
-use meson_splice::{Bytes, Text};
+use meson_splice::{Bytes, FileSet, Text};
 use meson_store::Output;
 use serde_json::Value;
 use std::alloc::{AllocError, Global};
@@ -104,9 +108,34 @@ impl Said {
         })
     }
 
+    /// What is said in JSON of a step that makes the second files, which are text, of the first.
+    pub(crate) fn object(
+        alloc: Global,
+        step: &Step,
+        old: &FileSet,
+        new: &FileSet,
+        report: Report,
+    ) -> Result<Said, AllocError>
+        requires same_files { map (λ f. f.name) old.now ≡ map (λ f. f.name) new.now }
+        requires old_text { All (λ f. IsUtf8 f.bytes) old.now }
+        requires new_text { All (λ f. IsUtf8 f.bytes) new.now }
+        requires plain { has_float (view report.info) ≡ false }
+        ensures { IfOk result (SaysObject step.now old.now new.now report) }
+    {
+        let out = match step {
+            Step::ForgetOldest(count) => forgot_object_line(alloc, Value::from(*count))?,
+            Step::ForgetAll => forgot_object_line(alloc, Value::try_from_str(alloc, "all")?)?,
+            _ => done_object_line(alloc, old, new, report)?,
+        };
+        Ok(Said {
+            out: Bytes::of(out),
+            err: Bytes::of(Vec::new(alloc)),
+        })
+    }
+
     /// Writes the text for errors, then the text for output, each by one write.
     pub(crate) fn tell<O: Output, E: Output>(&self, out: &mut O, err: &mut E) -> io::Result<()>
-        ensures { MatchResult result (λ _. Says (Ok self.now) (O.heard out.old) (O.heard out.new) (E.heard err.old) (E.heard err.new))
+        ensures { MatchResult result (λ _. Says false (Ok self.now) (O.heard out.old) (O.heard out.new) (E.heard err.old) (E.heard err.new))
             (λ _. CannotSay (Ok self.now) (O.heard out.old) (O.heard out.new) (E.heard err.old) (E.heard err.new)) }
     {
         tell_bytes(err, self.err.get())?;

@@ -1,13 +1,16 @@
 //! A step on a session, and the files that are to be written then.
 
-ghost use Rattle.std.specs.Prelude.{◌≡◌, ◌<◌, ◌⊎◌, [], IfOk, IfErr, List, Ok, OnOk, length, map, true, ℕ};
+ghost use Rattle.std.specs.Prelude.{◌≡◌, ◌<◌, ◌⊎◌, [], IfOk, IfErr, List, Ok, OnOk, false, length, map, true, ℕ};
+ghost use Rattle.std.specs.List.{All};
+ghost use Rattle.std.specs.Str.{IsUtf8};
 ghost use Rattle.serde_json.specs.Data.{array, no_items};
 ghost use Rattle.serde_json.specs.View.{view};
-ghost use Rattle.meson_calls.specs.Loading.{IsProject, name_of_file};
+ghost use Rattle.serde_json.specs.Written.{has_float};
+ghost use Rattle.meson_calls.specs.Loading.{HasFileName, IsProject, name_of_file};
 ghost use Rattle.meson_json.specs.Log.{is_text_history, log_of};
-ghost use Rattle.meson_rewrite.specs.inside.Edited.{IsEdited, IsShown, OnlyTells, IsWithin};
+ghost use Rattle.meson_rewrite.specs.inside.Edited.{IsEdited, IsObject, IsShown, OnlyTells, IsWithin};
 ghost use Rattle.meson_rewrite.specs.Logs.{with_log};
-ghost use Rattle.meson_rewrite.specs.Steps.{Does, IsTitled, MayRefuseStep};
+ghost use Rattle.meson_rewrite.specs.Steps.{Does, IsTitled, MayRefuseStep, SaysStep};
 ghost use Rattle.meson_rewrite.specs.Stops.{WantsMemory, undo_stop};
 
 use crate::opening::{LOG, StoredSession, leave};
@@ -167,12 +170,12 @@ fn new_log(alloc: Global, session: &Session) -> Result<Vec<u8>, Stop>
     }
 }
 
-/// The files of a project, none of which has the log's name, with the log after them.
-fn with_log(alloc: Global, project: &Project, text: Vec<u8>) -> Result<FileSet, AllocError>
-    ensures { IfOk result (λ all. all ≡ with_log project.now.files text.items) }
+/// These files, none of which has the log's name, with the log after them.
+fn with_log(alloc: Global, files: FileSet, text: Vec<u8>) -> Result<FileSet, AllocError>
+    requires { All HasFileName files }
+    ensures { IfOk result (λ all. all ≡ with_log files text.items) }
 {
-    project.reads();
-    let mut all = project.files().clone()?;
+    let mut all = files;
     let name = String::from_str(alloc, LOG)?;
     all.push_new(name, text)?;
     Ok(all)
@@ -185,7 +188,9 @@ fn logged(alloc: Global, session: &Session) -> Result<FileSet, Stop>
     ensures none { IfErr result WantsMemory }
 {
     let text = new_log(alloc, session)?;
-    let all = with_log(alloc, session.project(), text)?;
+    session.project.reads();
+    let files = session.files().clone()?;
+    let all = with_log(alloc, files, text)?;
     Ok(all)
 }
 
@@ -198,17 +203,46 @@ pub(crate) struct Edit {
     pub said: Said,
 }
 
+/// What is said of a step that made the files of a session of these, which are text.
+fn said_of(
+    alloc: Global,
+    step: &Step,
+    json: bool,
+    old: &FileSet,
+    session: &Session,
+    report: Report,
+) -> Result<Said, AllocError>
+    requires same_files { map (λ f. f.name) old.now ≡ map (λ f. f.name) session.now.project.files }
+    requires old_text { All (λ f. IsUtf8 f.bytes) old.now }
+    requires plain { has_float (view report.info) ≡ false }
+    ensures { IfOk result (SaysStep json step.now old.now session.now.project.files report) }
+{
+    if json {
+        session.project.reads();
+        return Said::object(alloc, step, old, session.files(), report);
+    }
+    Said::of(alloc, step, &report)
+}
+
 /// Does a step on a session whose history is text, with this text as its log, and gives what is to be written.
-fn edit_of(alloc: Global, session: &mut Session, log: Vec<u8>, step: &Step) -> Result<Edit, Stop>
+fn edit_of(
+    alloc: Global,
+    session: &mut Session,
+    log: Vec<u8>,
+    step: &Step,
+    json: bool,
+) -> Result<Edit, Stop>
     requires text { is_text_history session.old.history ≡ true }
     requires title { IsTitled step.now }
-    ensures edited { IfOk result (IsEdited session.old log.items step.now) }
+    ensures edited { IfOk result (IsEdited session.old log.items step.now json) }
     ensures same_names { IfOk result (λ edit. map (λ f. f.name) edit.before ≡ map (λ f. f.name) edit.after) }
     ensures refused { IfErr result (λ why. WantsMemory why ⊎ MayRefuseStep step.now session.old why) }
 {
-    let before = with_log(alloc, session.project(), log)?;
+    session.project.reads();
+    let old = session.files().clone()?;
     let report = act(alloc, session, step)?;
-    let said = Said::of(alloc, step, &report)?;
+    let said = said_of(alloc, step, json, &old, session, report)?;
+    let before = with_log(alloc, old, log)?;
     let after = logged(alloc, session)?;
     Ok(Edit {
         before,
@@ -218,50 +252,89 @@ fn edit_of(alloc: Global, session: &mut Session, log: Vec<u8>, step: &Step) -> R
 }
 
 /// What a step makes of a session whose history is text.
-pub(crate) fn edited(alloc: Global, opened: StoredSession, step: &Step) -> Result<Edit, Stop>
+pub(crate) fn edited(
+    alloc: Global,
+    opened: StoredSession,
+    step: &Step,
+    json: bool,
+) -> Result<Edit, Stop>
     requires text { is_text_history opened.session.history ≡ true }
     requires title { IsTitled step.now }
-    ensures edited { IfOk result (IsEdited opened.session opened.log.items step.now) }
+    ensures edited { IfOk result (IsEdited opened.session opened.log.items step.now json) }
     ensures same_names { IfOk result (λ edit. map (λ f. f.name) edit.before ≡ map (λ f. f.name) edit.after) }
     ensures refused { IfErr result (λ why. WantsMemory why ⊎ MayRefuseStep step.now opened.session why) }
 {
     let StoredSession { mut session, log } = opened;
-    let edit = edit_of(alloc, &mut session, log, step);
+    let edit = edit_of(alloc, &mut session, log, step, json);
     leave(session);
     edit
 }
 
-/// What is to be written and said for a step on a borrowed session.
-fn told_of(alloc: Global, session: &mut Session, step: &Step) -> Result<Said, Stop>
+/// What is to be said in JSON for a step on a borrowed session.
+fn object_of(alloc: Global, session: &mut Session, step: &Step) -> Result<Said, Stop>
     requires { IsTitled step.now }
-    ensures told { IfOk result (OnlyTells session.old step.now) }
+    ensures object { IfOk result (IsObject session.old step.now) }
     ensures refused { IfErr result (λ why. WantsMemory why ⊎ MayRefuseStep step.now session.old why) }
 {
+    session.project.reads();
+    let old = session.files().clone()?;
+    let report = act(alloc, session, step)?;
+    session.project.reads();
+    Ok(Said::object(alloc, step, &old, session.files(), report)?)
+}
+
+/// What is to be said for a step on a borrowed session that only reports.
+fn told_of(
+    alloc: Global,
+    session: &mut Session,
+    step: &Step,
+    json: bool,
+) -> Result<Said, Stop>
+    requires { IsTitled step.now }
+    ensures told { IfOk result (OnlyTells session.old step.now json) }
+    ensures refused { IfErr result (λ why. WantsMemory why ⊎ MayRefuseStep step.now session.old why) }
+{
+    if json {
+        return object_of(alloc, session, step);
+    }
     let report = act(alloc, session, step)?;
     Ok(Said::of(alloc, step, &report)?)
 }
 
-/// What is to be written and said for a step on a session.
-pub(crate) fn told(alloc: Global, opened: StoredSession, step: &Step) -> Result<Said, Stop>
+/// What is to be said for a step on a session that only reports.
+pub(crate) fn told(
+    alloc: Global,
+    opened: StoredSession,
+    step: &Step,
+    json: bool,
+) -> Result<Said, Stop>
     requires { IsTitled step.now }
-    ensures told { IfOk result (OnlyTells opened.session step.now) }
+    ensures told { IfOk result (OnlyTells opened.session step.now json) }
     ensures refused { IfErr result (λ why. WantsMemory why ⊎ MayRefuseStep step.now opened.session why) }
 {
     let StoredSession {
         mut session,
         log: _,
     } = opened;
-    let said = told_of(alloc, &mut session, step);
+    let said = told_of(alloc, &mut session, step, json);
     leave(session);
     said
 }
 
 /// What is to be said for a step on a borrowed session, if it is shown and not done.
-fn shown_of(alloc: Global, session: &mut Session, step: &Step) -> Result<Said, Stop>
+fn shown_of(
+    alloc: Global,
+    session: &mut Session,
+    step: &Step,
+    json: bool,
+) -> Result<Said, Stop>
     requires { IsTitled step.now }
-    ensures shown { IfOk result (IsShown session.old step.now) }
+    ensures shown { IfOk result (IsShown session.old step.now json) }
     ensures refused { IfErr result (λ why. WantsMemory why ⊎ MayRefuseStep step.now session.old why) }
 {
+    if json {
+        return object_of(alloc, session, step);
+    }
     let before = session.files().clone()?;
     let report = act(alloc, session, step)?;
     let changes = diff(alloc, &before, session.files())?;
@@ -269,16 +342,21 @@ fn shown_of(alloc: Global, session: &mut Session, step: &Step) -> Result<Said, S
 }
 
 /// What is to be said for a step on a session that is shown, and not done.
-pub(crate) fn shown(alloc: Global, opened: StoredSession, step: &Step) -> Result<Said, Stop>
+pub(crate) fn shown(
+    alloc: Global,
+    opened: StoredSession,
+    step: &Step,
+    json: bool,
+) -> Result<Said, Stop>
     requires { IsTitled step.now }
-    ensures shown { IfOk result (IsShown opened.session step.now) }
+    ensures shown { IfOk result (IsShown opened.session step.now json) }
     ensures refused { IfErr result (λ why. WantsMemory why ⊎ MayRefuseStep step.now opened.session why) }
 {
     let StoredSession {
         mut session,
         log: _,
     } = opened;
-    let said = shown_of(alloc, &mut session, step);
+    let said = shown_of(alloc, &mut session, step, json);
     leave(session);
     said
 }

@@ -10,7 +10,10 @@ use sha2::{Digest, Sha256};
 use std::alloc::{AllocError, Global};
 
 /// The SHA-256 digest of bytes, in hexadecimal digits.
-fn digest(alloc: Global, bytes: &[u8]) -> Result<String, AllocError>
+///
+/// # Errors
+/// Out of memory.
+pub fn digest(alloc: Global, bytes: &[u8]) -> Result<String, AllocError>
     ensures { IfOk result (λ text. string_bytes text ≡ digest bytes.now) }
 {
     encode(alloc, Sha256::digest(bytes))

@@ -4,4 +4,4 @@
 mod digests;
 pub mod laws;
 
-pub use digests::{are_kept, sums};
+pub use digests::{are_kept, digest, sums};

@@ -1,5 +1,5 @@
 -- What is to be written of a session after a step.
-use Rattle.std.specs.Prelude.{◌≡◌, ◌<◌, ⊤, ℕ, List, Ok}
+use Rattle.std.specs.Prelude.{◌≡◌, ◌<◌, ⊤, Bool, ℕ, List, Ok}
 use Rattle.meson_calls.specs.Loading.{IsProject}
 use Rattle.meson_json.specs.Log.{log_of}
 use Rattle.meson_calls.specs.declared.load_fault.LoadFault.TheVariants as load
@@ -8,13 +8,14 @@ use Rattle.meson_script.specs.declared.fault.UndoFault.TheVariants as undo
 use Rattle.meson_script.specs.declared.session.Report.{Report}
 use Rattle.meson_script.specs.declared.session.Session.{Session}
 use Rattle.meson_rewrite.specs.Logs.{with_log}
-use Rattle.meson_rewrite.specs.Steps.{Does, Shows, said_of}
+use Rattle.meson_rewrite.specs.Objects.{SaysObject}
+use Rattle.meson_rewrite.specs.Steps.{Does, SaysStep, ShowsStep}
 use Rattle.meson_rewrite.specs.declared.steps.Edit.{Edit}
 use Rattle.meson_rewrite.specs.declared.request.Step.{Step}
 use Rattle.meson_rewrite.specs.declared.said.Said.{Said}
 
 -- the files with the log before and after a step, and what is said of it
-pub record IsEdited (old : Session) (log : List ℕ) (step : Step) (edit : Edit) : Type 0 where
+pub record IsEdited (old : Session) (log : List ℕ) (step : Step) (json : Bool) (edit : Edit) : Type 0 where
   pub new : Session
   pub is_project : IsProject new.project
   pub report : Report
@@ -23,21 +24,28 @@ pub record IsEdited (old : Session) (log : List ℕ) (step : Step) (edit : Edit)
   pub is_log : log_of new.history ≡ Ok new_log
   pub before : edit.before ≡ with_log old.project.files log
   pub after : edit.after ≡ with_log new.project.files new_log
-  pub said : edit.said ≡ said_of step report
+  pub says : SaysStep json step old.project.files new.project.files report edit.said
 
 -- a step that only reports
-pub record OnlyTells (old : Session) (step : Step) (said : Said) : Type 0 where
+pub record OnlyTells (old : Session) (step : Step) (json : Bool) (said : Said) : Type 0 where
   pub new : Session
   pub report : Report
   pub does : Does step old report new
-  pub is_said : said ≡ said_of step report
+  pub says : SaysStep json step old.project.files new.project.files report said
 
 -- a step that is shown, and not done
-pub record IsShown (old : Session) (step : Step) (said : Said) : Type 0 where
+pub record IsShown (old : Session) (step : Step) (json : Bool) (said : Said) : Type 0 where
   pub new : Session
   pub report : Report
   pub does : Does step old report new
-  pub shows : Shows old report new said
+  pub shows : ShowsStep json step old report new said
+
+-- an object of JSON, of a step that was done or is shown
+pub record IsObject (old : Session) (step : Step) (said : Said) : Type 0 where
+  pub new : Session
+  pub report : Report
+  pub does : Does step old report new
+  pub says : SaysObject step old.project.files new.project.files report said
 
 -- the number of a file that would not be valid is that of one of this number of files
 abbrev pub IsWithin : UndoFault → ℕ → Type 0

@@ -19,16 +19,16 @@ use Rattle.meson_store.specs.Seen.{Seen, Untouched, seen}
 use Rattle.meson_rewrite.proofs.program.do_step.Goals as goal
 
 -- what is told, or why it is not, is the end
-ends-by-telling : (dir : Option (List ℕ)) (step : Step) (dry_run : Bool) (b a : Seen) (u : Untouched b a) (old : Session) (log : List ℕ) → Opens b.content dir old log → only_tells step ≡ true
-    → (end : Result Said Stop) → IfOk end (OnlyTells old step) → IfErr end (λ why. WantsMemory why ⊎ MayRefuseStep step old why) → StepEnds dir step dry_run b a end
-ends-by-telling dir step dry_run b a u old log opens only (Ok said) is_told refused = told-ends dir step dry_run b a u old log opens only said is_told
-ends-by-telling dir step dry_run b a u old log opens only (Err stop) is_told refused = stopped-acting dir step dry_run b a u old log opens stop refused
+ends-by-telling : (dir : Option (List ℕ)) (step : Step) (dry_run json : Bool) (b a : Seen) (u : Untouched b a) (old : Session) (log : List ℕ) → Opens b.content dir old log → only_tells step ≡ true
+    → (end : Result Said Stop) → IfOk end (OnlyTells old step json) → IfErr end (λ why. WantsMemory why ⊎ MayRefuseStep step old why) → StepEnds dir step dry_run json b a end
+ends-by-telling dir step dry_run json b a u old log opens only (Ok said) is_told refused = told-ends dir step dry_run json b a u old log opens only said is_told
+ends-by-telling dir step dry_run json b a u old log opens only (Err stop) is_told refused = stopped-acting dir step dry_run json b a u old log opens stop refused
 
 -- the same of what is shown
-ends-by-showing : (dir : Option (List ℕ)) (step : Step) (dry_run : Bool) (b a : Seen) (u : Untouched b a) (old : Session) (log : List ℕ) → Opens b.content dir old log → only_tells step ≡ false → dry_run ≡ true
-    → (end : Result Said Stop) → IfOk end (IsShown old step) → IfErr end (λ why. WantsMemory why ⊎ MayRefuseStep step old why) → StepEnds dir step dry_run b a end
-ends-by-showing dir step dry_run b a u old log opens writes dry (Ok said) is_shown refused = dry-ends dir step dry_run b a u old log opens writes dry said is_shown
-ends-by-showing dir step dry_run b a u old log opens writes dry (Err stop) is_shown refused = stopped-acting dir step dry_run b a u old log opens stop refused
+ends-by-showing : (dir : Option (List ℕ)) (step : Step) (dry_run json : Bool) (b a : Seen) (u : Untouched b a) (old : Session) (log : List ℕ) → Opens b.content dir old log → only_tells step ≡ false → dry_run ≡ true
+    → (end : Result Said Stop) → IfOk end (IsShown old step json) → IfErr end (λ why. WantsMemory why ⊎ MayRefuseStep step old why) → StepEnds dir step dry_run json b a end
+ends-by-showing dir step dry_run json b a u old log opens writes dry (Ok said) is_shown refused = dry-ends dir step dry_run json b a u old log opens writes dry said is_shown
+ends-by-showing dir step dry_run json b a u old log opens writes dry (Err stop) is_shown refused = stopped-acting dir step dry_run json b a u old log opens stop refused
 
 pub returns-in_err-opened-clause-ends : goal.returns-in_err-opened-clause-ends
 returns-in_err-opened-clause-ends g c =
@@ -38,7 +38,7 @@ returns-in_err-opened-clause-ends g c =
     let a = seen (S.content c.open.new.store) (S.failures c.open.new.store) (S.replaces c.open.new.store) in
     let u : Untouched b a = record { kept = c.open.ensures.kept; counts = c.open.ensures.counts; no_replace = c.open.ensures.no_replace } in
     let error = err_from_is_err_and c.from_residual.result c.from_residual.ensures.1 in
-    rw (error.1, error.2) (stopped-opening dir c.args.step.now c.args.dry_run b a u c.in_err-opened.field-0.0 c.in_err-opened.ensures.none)
+    rw (error.1, error.2) (stopped-opening dir c.args.step.now c.args.dry_run c.args.json b a u c.in_err-opened.field-0.0 c.in_err-opened.ensures.none)
 
 pub returns-then-only_tells-clause-ends : goal.returns-then-only_tells-clause-ends
 returns-then-only_tells-clause-ends g c =
@@ -48,7 +48,7 @@ returns-then-only_tells-clause-ends g c =
     let a = seen (S.content c.open.new.store) (S.failures c.open.new.store) (S.replaces c.open.new.store) in
     let u : Untouched b a = record { kept = c.open.ensures.kept; counts = c.open.ensures.counts; no_replace = c.open.ensures.no_replace } in
     let only : only_tells c.args.step.now ≡ true = cc in
-    ends-by-telling dir c.args.step.now c.args.dry_run b a u c.in_ok-opened.opened.session c.in_ok-opened.opened.log.items c.in_ok-opened.ensures.opens only c.told.result c.told.ensures.told c.told.ensures.refused
+    ends-by-telling dir c.args.step.now c.args.dry_run c.args.json b a u c.in_ok-opened.opened.session c.in_ok-opened.opened.log.items c.in_ok-opened.ensures.opens only c.told.result c.told.ensures.told c.told.ensures.refused
 
 pub returns-then-dry_run-clause-ends : goal.returns-then-dry_run-clause-ends
 returns-then-dry_run-clause-ends g c =
@@ -59,7 +59,7 @@ returns-then-dry_run-clause-ends g c =
     let u : Untouched b a = record { kept = c.open.ensures.kept; counts = c.open.ensures.counts; no_replace = c.open.ensures.no_replace } in
     let writes : only_tells c.args.step.now ≡ false = cc in
     let dry : c.args.dry_run ≡ true = cc in
-    ends-by-showing dir c.args.step.now c.args.dry_run b a u c.in_ok-opened.opened.session c.in_ok-opened.opened.log.items c.in_ok-opened.ensures.opens writes dry c.shown.result c.shown.ensures.shown c.shown.ensures.refused
+    ends-by-showing dir c.args.step.now c.args.dry_run c.args.json b a u c.in_ok-opened.opened.session c.in_ok-opened.opened.log.items c.in_ok-opened.ensures.opens writes dry c.shown.result c.shown.ensures.shown c.shown.ensures.refused
 
 pub returns-in_err-edit-clause-ends : goal.returns-in_err-edit-clause-ends
 returns-in_err-edit-clause-ends g c =
@@ -69,7 +69,7 @@ returns-in_err-edit-clause-ends g c =
     let a = seen (S.content c.open.new.store) (S.failures c.open.new.store) (S.replaces c.open.new.store) in
     let u : Untouched b a = record { kept = c.open.ensures.kept; counts = c.open.ensures.counts; no_replace = c.open.ensures.no_replace } in
     let error = err_from_is_err_and c.from_residual-in_err-edit.result c.from_residual-in_err-edit.ensures.1 in
-    rw (error.1, error.2) (stopped-acting dir c.args.step.now c.args.dry_run b a u c.in_ok-opened.opened.session c.in_ok-opened.opened.log.items c.in_ok-opened.ensures.opens c.in_err-edit.field-0.0 c.in_err-edit.ensures.refused)
+    rw (error.1, error.2) (stopped-acting dir c.args.step.now c.args.dry_run c.args.json b a u c.in_ok-opened.opened.session c.in_ok-opened.opened.log.items c.in_ok-opened.ensures.opens c.in_err-edit.field-0.0 c.in_err-edit.ensures.refused)
 
 pub returns-in-Ok-clause-ends : goal.returns-in-Ok-clause-ends
 returns-in-Ok-clause-ends g c =
@@ -81,7 +81,7 @@ returns-in-Ok-clause-ends g c =
     let u : Untouched b m = record { kept = c.open.ensures.kept; counts = c.open.ensures.counts; no_replace = c.open.ensures.no_replace } in
     let writes : only_tells c.args.step.now ≡ false = cc in
     let wet : c.args.dry_run ≡ false = cc in
-    done-ends dir c.args.step.now c.args.dry_run b m a u writes wet c.in_ok-opened.opened.session c.in_ok-opened.opened.log.items c.in_ok-opened.ensures.opens c.in_ok-edit.edit c.in_ok-edit.ensures.edited c.in-Ok.ensures.done
+    done-ends dir c.args.step.now c.args.dry_run c.args.json b m a u writes wet c.in_ok-opened.opened.session c.in_ok-opened.opened.log.items c.in_ok-opened.ensures.opens c.in_ok-edit.edit c.in_ok-edit.ensures.edited c.in-Ok.ensures.done
 
 pub returns-in-Err-clause-ends : goal.returns-in-Err-clause-ends
 returns-in-Err-clause-ends g c =
@@ -93,7 +93,7 @@ returns-in-Err-clause-ends g c =
     let u : Untouched b m = record { kept = c.open.ensures.kept; counts = c.open.ensures.counts; no_replace = c.open.ensures.no_replace } in
     let writes : only_tells c.args.step.now ≡ false = cc in
     let wet : c.args.dry_run ≡ false = cc in
-    failed-ends dir c.args.step.now c.args.dry_run b m a u writes wet c.in_ok-opened.opened.session c.in_ok-opened.opened.log.items c.in_ok-opened.ensures.opens c.in_ok-edit.edit c.in_ok-edit.ensures.edited c.in-Err.fault c.in-Err.ensures.failed
+    failed-ends dir c.args.step.now c.args.dry_run c.args.json b m a u writes wet c.in_ok-opened.opened.session c.in_ok-opened.opened.log.items c.in_ok-opened.ensures.opens c.in_ok-edit.edit c.in_ok-edit.ensures.edited c.in-Err.fault c.in-Err.ensures.failed
 
 pub returns-in_err-opened-clause-reads : goal.returns-in_err-opened-clause-reads
 returns-in_err-opened-clause-reads g c =

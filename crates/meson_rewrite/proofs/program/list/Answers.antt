@@ -15,7 +15,7 @@ returns-in_err-opened-clause-ends g c =
     let a = seen (S.content c.open.new.store) (S.failures c.open.new.store) (S.replaces c.open.new.store) in
     let u : Untouched b a = record { kept = c.open.ensures.kept; counts = c.open.ensures.counts; no_replace = c.open.ensures.no_replace } in
     let error = err_from_is_err_and c.from_residual.result c.from_residual.ensures.1 in
-    rw (error.1, error.2) (listing-unopened dir c.args.listing b a u c.in_err-opened.field-0.0 c.in_err-opened.ensures.none)
+    rw (error.1, error.2) (listing-unopened dir c.args.listing c.args.json b a u c.in_err-opened.field-0.0 c.in_err-opened.ensures.none)
 
 pub returns-clause-ends : goal.returns-clause-ends
 returns-clause-ends g c =
@@ -24,7 +24,7 @@ returns-clause-ends g c =
     let b = seen (S.content c.args.store.now) (S.failures c.args.store.now) (S.replaces c.args.store.now) in
     let a = seen (S.content c.open.new.store) (S.failures c.open.new.store) (S.replaces c.open.new.store) in
     let u : Untouched b a = record { kept = c.open.ensures.kept; counts = c.open.ensures.counts; no_replace = c.open.ensures.no_replace } in
-    listing-told dir c.args.listing b a u c.in_ok-opened.opened.session c.in_ok-opened.opened.log.items c.in_ok-opened.ensures.opens c.listed.result c.listed.ensures.told c.listed.ensures.none
+    listing-told dir c.args.listing c.args.json b a u c.in_ok-opened.opened.session c.in_ok-opened.opened.log.items c.in_ok-opened.ensures.opens c.listed.result c.listed.ensures.told c.listed.ensures.none
 
 pub returns-in_err-opened-clause-reads : goal.returns-in_err-opened-clause-reads
 returns-in_err-opened-clause-reads g c =

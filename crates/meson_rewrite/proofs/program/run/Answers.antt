@@ -1,11 +1,37 @@
-use Rattle.std.proofs.Common.{◌≡◌, ◌≤◌, Err, arith, map, refl, string_bytes, subst, sym}
-use Rattle.meson_command.specs.Asking.{asked_by}
+use Rattle.std.proofs.Common.{◌≡◌, ◌⊎◌, ◌≤◌, None, Ok, Err, Result, ℕ, List, Option, arith, inl, inr, map, refl, string_bytes, subst, sym, ap, ◌∙◌}
+use Rattle.std.specs.Prelude.{OnOk}
+use Rattle.meson_command.proofs.Json.{json-law}
+use Rattle.meson_command.specs.Asking.{asked_by, without_text}
+use Rattle.meson_command.specs.declared.asked.Asked.{Asked}
+use Rattle.meson_command.specs.declared.fault.UsageFault.{UsageFault}
+use Rattle.meson_command.specs.declared.fault.UsageFault.TheVariants.{OutOfMemory}
 use Rattle.meson_rewrite.proofs.Endings.{not-used}
 use Rattle.meson_rewrite.proofs.Reading.{nothing-read}
 use Rattle.meson_rewrite.proofs.Wants.{usage-or-memory}
-use Rattle.meson_store.specs.Seen.{Untouched, seen}
+use Rattle.meson_rewrite.specs.Runs.{Ends, memory_ran_out}
+use Rattle.meson_rewrite.specs.declared.said.Said.{Said}
+use Rattle.meson_rewrite.specs.declared.stop.Stop.{Stop}
+use Rattle.meson_rewrite.specs.declared.stop.Stop.TheVariants.{Usage}
+use Rattle.meson_store.specs.Content.{Content}
+use Rattle.meson_store.specs.Seen.{Seen, Untouched, seen}
 use Rattle.meson_rewrite.specs.StoreReads.{MayRead, unread_in}
 use Rattle.meson_rewrite.proofs.program.run.Goals as goal
+
+-- it is one of these two faults
+abbrev IsMisuse : UsageFault → Result Said Stop → Type 0
+IsMisuse fault end = (end ≡ Err (Usage fault)) ⊎ (end ≡ Err (Usage OutOfMemory))
+
+misused-ends : (asked : Result Asked UsageFault) (b : Seen) (u : Untouched b b) (fault : UsageFault) (end : Result Said Stop) → Ends asked b b (Err (Usage fault)) → IsMisuse fault end → Ends asked b b end
+misused-ends asked b u fault end ends (inl is) = subst (Ends asked b b) (sym is) ends
+misused-ends asked b u fault end ends (inr is) = subst (Ends asked b b) (sym is) (memory_ran_out (Usage OutOfMemory) u refl)
+
+misused-reads : (asked : Result Asked UsageFault) (before : Option Content) (reads : ℕ) (fault : UsageFault) (end : Result Said Stop) → IsMisuse fault end → MayRead asked before reads reads (unread_in end)
+misused-reads asked before reads fault end (inl is) = subst (λ e. MayRead asked before reads reads (unread_in e)) (sym is) (nothing-read asked before reads)
+misused-reads asked before reads fault end (inr is) = subst (λ e. MayRead asked before reads reads (unread_in e)) (sym is) (nothing-read asked before reads)
+
+misused-all : (P : Type 0) (fault : UsageFault) (end : Result Said Stop) → IsMisuse fault end → OnOk end P
+misused-all P fault end (inl is) = subst (λ e. OnOk e P) (sym is) tt
+misused-all P fault end (inr is) = subst (λ e. OnOk e P) (sym is) tt
 
 pub returns-in-Err-clause-ends : goal.returns-in-Err-clause-ends
 returns-in-Err-clause-ends g c =
@@ -15,10 +41,18 @@ returns-in-Err-clause-ends g c =
     let b = seen (S.content c.args.store.now) failures (S.replaces c.args.store.now) in
     let same : failures ≤ failures = omega arith in
     let u : Untouched b b = record { kept = refl; counts = same; no_replace = refl } in
-    not-used asked b b u c.in-Err.fault (usage-or-memory (λ f. asked ≡ Err f) c.in-Err.fault c.in-Err.ensures.refused)
+    misused-ends asked b u c.in-Err.fault c.misused.result.end
+    (not-used asked b b u c.in-Err.fault (usage-or-memory (λ f. asked ≡ Err f) c.in-Err.fault c.in-Err.ensures.refused)) c.misused.ensures.end
 
 pub returns-in-Err-clause-reads : goal.returns-in-Err-clause-reads
-returns-in-Err-clause-reads g c = nothing-read (asked_by (map string_bytes c.args.words.now)) (g.S.Store.content c.args.store.now) (g.S.Store.reads c.args.store.now)
+returns-in-Err-clause-reads g c =
+    misused-reads (asked_by (map string_bytes c.args.words.now)) (g.S.Store.content c.args.store.now) (g.S.Store.reads c.args.store.now) c.in-Err.fault c.misused.result.end c.misused.ensures.end
+
+pub returns-in-Err-clause-reads_all : goal.returns-in-Err-clause-reads_all
+returns-in-Err-clause-reads_all g c = misused-all _ c.in-Err.fault c.misused.result.end c.misused.ensures.end
+
+pub returns-in-Ok-clause-json : goal.returns-in-Ok-clause-json
+returns-in-Ok-clause-json g c = inl (json-law (map string_bytes c.args.words.now) (without_text c.in-Ok.asked) c.in-Ok.ensures.ok)
 
 pub returns-in-Ok-clause-reads : goal.returns-in-Ok-clause-reads
 returns-in-Ok-clause-reads g c =

@@ -1,4 +1,5 @@
 use Rattle.std.proofs.Common.{◌∙◌, ap, sym, subst}
+use Rattle.std.proofs.lemmas.Result.{IfOk-weaker}
 use Rattle.meson_diff.specs.Diff.{IsDiff}
 use Rattle.meson_script.proofs.RunFacts.{names}
 use Rattle.meson_rewrite.proofs.Listings.{does-plain}
@@ -28,8 +29,12 @@ returns-clause-shown c =
       new = new;
       report = c.in_ok-report.report;
       does = c.in_ok-report.ensures.does;
-      shows = record {
+      shows = rw (c.if-json.false) (record {
         is_diff = subst (IsDiff c.args.session.now.project.files new.project.files) (sym (ap (λ (said : Said). said.out) c.in_ok-shown.ensures)) read;
         is_listing = ap (λ (said : Said). said.err) c.in_ok-shown.ensures;
-      };
+      });
     }
+
+pub returns-then-json-clause-shown : goal.returns-then-json-clause-shown
+returns-then-json-clause-shown c =
+    IfOk-weaker c.object_of.result _ _ (λ said o. record { new = o.new; report = o.report; does = o.does; shows = rw (c.if-json.true) o.says }) c.object_of.ensures.object

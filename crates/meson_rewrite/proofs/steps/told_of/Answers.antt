@@ -1,5 +1,18 @@
+use Rattle.std.proofs.lemmas.Result.{IfOk-weaker}
 use Rattle.meson_rewrite.proofs.Listings.{does-plain}
 use Rattle.meson_rewrite.proofs.steps.told_of.Goals as goal
 
 pub of-requires : goal.of-requires
 of-requires c = does-plain c.args.step.now c.args.session.now c.act.new.session c.in_ok-report.report c.in_ok-report.ensures.does
+
+pub returns-then-json-clause-told : goal.returns-then-json-clause-told
+returns-then-json-clause-told c =
+    IfOk-weaker c.object_of.result _ _ (λ said o. record { new = o.new; report = o.report; does = o.does; says = rw (c.if-json.true) o.says }) c.object_of.ensures.object
+
+pub returns-clause-told : goal.returns-clause-told
+returns-clause-told c = record {
+  new = c.act.new.session;
+  report = c.in_ok-report.report;
+  does = c.in_ok-report.ensures.does;
+  says = rw (c.if-json.false) c.in_ok-of.ensures;
+}

@@ -1,0 +1,83 @@
+-- What is said in JSON, with the members of each object in the order of the bytes of their names.
+use Rattle.std.specs.Prelude.{◌≡◌, ℕ, List, [], ◌∷◌, codes, length, map, reverse}
+use Rattle.serde_json.specs.Data.{Data, array, member, no_members, number, object, string, unsigned}
+use Rattle.serde_json.specs.View.{items_of, view}
+use Rattle.serde_json.specs.Written.{compact_text}
+use Rattle.meson_splice.specs.declared.change.Change.{Change}
+use Rattle.meson_splice.specs.declared.file_set.File.{File}
+use Rattle.meson_splice.specs.declared.history.History.{History}
+use Rattle.meson_ranges.specs.Files.{AreFileEdits}
+use Rattle.meson_ranges.specs.declared.files.FileEdits.{FileEdits}
+use Rattle.meson_ranges.specs.declared.positions.Position.{Position}
+use Rattle.meson_ranges.specs.declared.ranges.Range.{Range}
+use Rattle.meson_ranges.specs.declared.ranges.RangedEdit.{RangedEdit}
+use Rattle.meson_script.specs.declared.session.Report.{Report}
+use Rattle.meson_sums.specs.Sums.{digest}
+use Rattle.meson_rewrite.specs.Changes.{edited_files}
+use Rattle.meson_rewrite.specs.Lines.{line}
+use Rattle.meson_rewrite.specs.declared.request.Step.{Step}
+use Rattle.meson_rewrite.specs.declared.request.Step.TheVariants.{ForgetOldest, ForgetAll}
+use Rattle.meson_rewrite.specs.declared.said.Said.{Said}
+
+-- ---- the edits of files
+
+abbrev pub position_data : Position → Data
+position_data p = object (member (codes "character") (number (unsigned p.character)) (member (codes "line") (number (unsigned p.line)) no_members))
+
+abbrev pub range_data : Range → Data
+range_data r = object (member (codes "end") (position_data r.end) (member (codes "start") (position_data r.start) no_members))
+
+-- of the file as it was: the offset of the first byte, the text that is inserted, the text that is removed, and its range
+abbrev pub edit_data : RangedEdit → Data
+edit_data e = object (member (codes "at") (number (unsigned e.edit.at)) (member (codes "newText") (string e.edit.now)
+    (member (codes "oldText") (string e.edit.was) (member (codes "range") (range_data e.range) no_members))))
+
+abbrev pub file_edits_data : FileEdits → Data
+file_edits_data f = object (member (codes "edits") (array (items_of (map edit_data f.edits.items))) (member (codes "file") (string f.name.now) no_members))
+
+-- ---- a step
+
+-- what it makes of the files, how many of them differ, what was listed, the number of splices and the title
+abbrev pub done_members : Data → Report → Data
+done_members changes report =
+    object (member (codes "changes") changes
+    (member (codes "files") (number (unsigned report.files)) (member (codes "info") (view report.info)
+    (member (codes "splices") (number (unsigned report.splices)) (member (codes "title") (string report.title) no_members)))))
+
+abbrev pub done_data : List FileEdits → Report → Data
+done_data changes report = done_members (array (items_of (map file_edits_data changes))) report
+
+-- the number of changes that the log loses, or that it loses all
+abbrev pub forgot_data : Data → Data
+forgot_data which = object (member (codes "forgot") which no_members)
+
+-- one line of compact JSON on the output, and nothing for errors
+abbrev pub says_data : Data → Said
+says_data d = record { out = line (compact_text d); err = [] }
+
+-- of a step that makes the second files of the first
+abbrev pub SaysObject : Step → List File → List File → Report → Said → Type 0
+SaysObject (ForgetOldest count) old new report said = said ≡ says_data (forgot_data (number (unsigned count)))
+SaysObject ForgetAll old new report said = said ≡ says_data (forgot_data (string (codes "all")))
+SaysObject _ old new report said = (changes : List FileEdits) × AreFileEdits old new changes × (said ≡ says_data (done_data changes report))
+
+-- ---- listings
+
+-- how many files a change edits, the number of its splices and its title
+abbrev pub change_data : Change → Data
+change_data c = object (member (codes "files") (number (unsigned (length (edited_files c.splices))))
+    (member (codes "splices") (number (unsigned (length c.splices))) (member (codes "title") (string c.title) no_members)))
+
+abbrev pub changes_data : List Change → Data
+changes_data changes = array (items_of (map change_data changes))
+
+-- what can be done again, the next first, and what can be undone, the newest first
+abbrev pub history_data : History → Data
+history_data h = object (member (codes "future") (changes_data (reverse h.future)) (member (codes "past") (changes_data (reverse h.past)) no_members))
+
+abbrev pub sum_data : File → Data
+sum_data f = object (member (codes "file") (string f.name) (member (codes "sha256") (string (digest f.bytes)) no_members))
+
+-- the digests of files, in order
+abbrev pub sums_data : List File → Data
+sums_data files = object (member (codes "sums") (array (items_of (map sum_data files))) no_members)
