@@ -5,6 +5,7 @@ ghost use Rattle.serde_json.specs.Read.{read};
 ghost use Rattle.serde_json.specs.View.{items_view, view};
 ghost use Rattle.meson_json.specs.Scripts.{entries_of, script_of};
 ghost use Rattle.meson_json.specs.declared.fault.ScriptFault.TheVariants.{OutOfMemory};
+ghost use Rattle.meson_json.specs.declared.member_check.UnknownMembers.TheVariants.{Ignored};
 
 use crate::fault::ScriptFault;
 use crate::member_check::{UnknownMembers, read_entry};
@@ -23,12 +24,22 @@ pub struct Script {
 }
 
 impl Script {
-    /// The script of a JSON text: an array with an object for each command.
+    /// The script of a JSON text: an array with an object for each command. Members that are not known are ignored.
     ///
     /// # Errors
-    /// The first fault of the text, of the array, and then entry by entry; or out of memory. Where unknown members are refused, the first one is the last
-    /// fault of its entry.
-    pub fn from_json(
+    /// The first fault of the text, of the array, and then entry by entry; or out of memory.
+    pub fn from_json(alloc: Global, text: &str) -> Result<Script, ScriptFault>
+        ensures ok { IfOk result (λ s. script_of Ignored (read text.now) ≡ Ok s.commands) }
+        ensures refused { IfErr result (λ e. e ≢ OutOfMemory → script_of Ignored (read text.now) ≡ Err e) }
+    {
+        Script::from_json_with(alloc, text, UnknownMembers::Ignored)
+    }
+
+    /// The same, where members that are not known may be refused.
+    ///
+    /// # Errors
+    /// As those of `from_json`. Where unknown members are refused, the first one is the last fault of its entry.
+    pub fn from_json_with(
         alloc: Global,
         text: &str,
         unknown: UnknownMembers,

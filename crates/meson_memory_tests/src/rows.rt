@@ -1,7 +1,7 @@
 //! Projects, and a script for each.
 
 use meson_plan::Project;
-use meson_script::{Script, Session, UnknownMembers};
+use meson_script::{Script, Session};
 use meson_splice::{Change, FileSet, History};
 use std::alloc::Global;
 
@@ -195,7 +195,7 @@ impl Row<'_> {
     }
 
     pub fn script(&self, alloc: Global) -> Option<Script> {
-        Script::from_json(alloc, self.script, UnknownMembers::Ignored).ok()
+        Script::from_json(alloc, self.script).ok()
     }
 
     /// The session after the script with a title, if it is not refused.

@@ -46,7 +46,7 @@ impl Call for ReadScript {
     }
 
     fn make(alloc: Global, given: &mut String) -> Result<Script, ScriptFault> {
-        Script::from_json(alloc, given.as_str(), UnknownMembers::Refused)
+        Script::from_json_with(alloc, given.as_str(), UnknownMembers::Refused)
     }
 }
 

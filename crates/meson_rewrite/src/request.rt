@@ -78,7 +78,7 @@ fn script_from(alloc: Global, text: &str, unknown: UnknownMembers) -> Result<Scr
     ensures ok { IfOk result (λ s. script_of unknown (read text.now) ≡ Ok s.commands) }
     ensures none { IfErr result (λ why. WantsMemory why ⊎ IsBad (script_of unknown (read text.now)) why) }
 {
-    match Script::from_json(alloc, text, unknown) {
+    match Script::from_json_with(alloc, text, unknown) {
         Ok(script) => Ok(script),
         Err(fault) => Err(Stop::Script(fault)),
     }

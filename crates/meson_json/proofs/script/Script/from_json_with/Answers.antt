@@ -1,7 +1,7 @@
 use Rattle.std.proofs.Common.{ap}
 use Rattle.std.proofs.lemmas.Result.{err_from_is_err_and}
 use Rattle.meson_json.specs.Scripts.{script_of}
-use Rattle.meson_json.proofs.script.Script.from_json.Goals as goal
+use Rattle.meson_json.proofs.script.Script.from_json_with.Goals as goal
 
 pub returns-in_err-value-clause-refused : goal.returns-in_err-value-clause-refused
 unfolding script_of
