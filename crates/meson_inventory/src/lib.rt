@@ -6,6 +6,9 @@ mod inventory;
 pub mod laws;
 mod line_counter;
 mod lines;
+mod placed;
+mod position_counter;
 
 pub use inventory::project_object;
 pub use lines::project_lines;
+pub use placed::placed_project_object;
