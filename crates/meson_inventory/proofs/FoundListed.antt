@@ -24,7 +24,7 @@ use Rattle.meson_calls.proofs.ExpressionsAt.{assigned_stands, expression_stands}
 use Rattle.meson_details.specs.Details.{head_of}
 use Rattle.meson_targets.specs.TargetEdits.{variable_of}
 use Rattle.meson_targets.proofs.VariableStatements.{value_has_variable}
-use Rattle.meson_inventory.specs.Holdings.{held_call, holdings}
+use Rattle.meson_inventory.specs.Holdings.{call_end, held_call, holdings}
 use Rattle.meson_inventory.specs.Laws.{FoundAreListed, IsListed}
 use Rattle.meson_inventory.specs.declared.holdings.HeldCall.{HeldCall}
 
@@ -89,7 +89,7 @@ pub record HeldAs (l : Loaded) (c : Placed (Call Span)) : Type 0 where
 pub held_as : (l : Loaded) (c : Placed (Call Span)) (e : Expression Span) → expression_at (project l) c.place ≡ Some e → call_of e ≡ Some c.it → HeldAs l c
 held_as l c (call s f list) at is_call =
     let same : call_with f.text list ≡ c.it = cc in
-    record { held = _; is_held = ap (λ o. option_map (λ h. record { file = c.place.file; head = h; variable = variable_of (project l) c.place }) (option_and_then head_of o)) at; file = refl; name = ap first_literal same; variable = refl }
+    record { held = _; is_held = ap (λ o. option_map (λ h. record { file = c.place.file; head = h; variable = variable_of (project l) c.place; end = call_end o }) (option_and_then head_of o)) at; file = refl; name = ap first_literal same; variable = refl }
 held_as l c _ at is_call = absurd (let no : ⊥ = cc in no)
 
 module _ (all : PartsAreAll) (l : Loaded) where

@@ -4,3 +4,4 @@ mod FoundListed
 mod NotEntered
 mod FileSteps
 mod LinesCounted
+mod PositionsCounted

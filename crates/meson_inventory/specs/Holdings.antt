@@ -1,12 +1,14 @@
 -- What a project holds: the calls that make targets, and the `subdir` calls that enter none of its files.
 use Rattle.std.specs.Prelude.{ℕ, Bool, not, List, filter, codes, Option, Some, None, option_map, if◌then◌else◌}
 use Rattle.std.specs.List.{filter_map}
+use Rattle.meson_lex.specs.declared.kinds.Span.{Span}
 use Rattle.meson_splice.specs.declared.file_set.File.{File}
+use Rattle.meson_syntax.specs.Tree.{Expression, call}
 use Rattle.meson_calls.specs.declared.call.CallRef.{CallRef}
 use Rattle.meson_calls.specs.Calls.{Call, all_chosen, calls, calls_function}
 use Rattle.meson_calls.specs.FileNames.{is_entered, meant_in}
 use Rattle.meson_calls.specs.Loading.{Loaded, project}
-use Rattle.meson_calls.specs.Project.{Project}
+use Rattle.meson_calls.specs.Project.{Project, expression_at}
 use Rattle.meson_calls.specs.Roles.{places, targets}
 use Rattle.meson_details.specs.Details.{head}
 use Rattle.meson_targets.specs.TargetEdits.{variable_of}
@@ -15,9 +17,15 @@ use Rattle.meson_inventory.specs.declared.holdings.Holdings.{Holdings}
 
 -- ---- calls
 
--- the call there: the number of its file, its head, and the variable that a statement sets to it
+-- the offset after the last byte of a call; 0 if it is not one
+abbrev pub call_end : Option (Expression Span) → ℕ
+call_end (Some (call s f arguments)) = s.to
+call_end _ = 0
+
+-- the call there: the number of its file, its head, the variable that a statement sets to it, and where it ends
 abbrev pub held_call : Loaded → CallRef → Option HeldCall
-held_call l c = option_map (λ h. record { file = c.file; head = h; variable = variable_of (project l) c }) (head (project l) c)
+held_call l c = option_map (λ h. record { file = c.file; head = h; variable = variable_of (project l) c; end = call_end (expression_at (project l) c) })
+    (head (project l) c)
 
 abbrev pub held_calls : Loaded → List CallRef → List HeldCall
 held_calls l cs = filter_map (held_call l) cs

@@ -14,6 +14,7 @@ use meson_calls::note::{Note, What};
 use meson_calls::notes::notes_of;
 use meson_calls::place::place_of;
 use meson_calls::roles::text_of;
+use meson_details::called::call_at;
 use meson_plan::{CallRef, Head, Project, Role};
 use meson_splice::{FileSet, Many, Text};
 use meson_targets::variable::variable_of;
@@ -28,6 +29,8 @@ pub(crate) struct HeldCall {
     pub head: Head,
     /// The variable that a statement sets to it.
     pub variable: Option<Text>,
+    /// The offset after its last byte.
+    pub end: usize,
 }
 
 /// What a project holds besides its files, each in file order and source order.
@@ -76,10 +79,12 @@ fn held_call(alloc: Global, project: &Project, place: &CallRef) -> Result<HeldCa
     project.reads();
     let head = project.head_at(alloc, place)?;
     let variable = variable_of(alloc, project.files(), project.trees(), place)?;
+    let called = call_at(project.files(), project.trees(), place);
     Ok(HeldCall {
         file: place.file,
         head,
         variable,
+        end: called.span.to,
     })
 }
 

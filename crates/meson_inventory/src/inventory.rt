@@ -13,7 +13,7 @@ use serde_json::{Map, Value, put};
 use std::alloc::{AllocError, Global};
 
 /// The names of the files.
-fn files_value(alloc: Global, files: &FileSet) -> Result<Value, AllocError>
+pub(crate) fn files_value(alloc: Global, files: &FileSet) -> Result<Value, AllocError>
     ensures { IfOk result (λ v. view v ≡ array (items_of (map file_data files.now))) }
 {
     let mut list = Vec::new(alloc);
@@ -31,6 +31,7 @@ fn call_value(alloc: Global, files: &FileSet, call: HeldCall) -> Result<Value, A
         file,
         head,
         variable,
+        end: _,
     } = call;
     let mut members = spot_members(alloc, head.at, file_name(files, file))?;
     put(

@@ -7,7 +7,10 @@ mod inventory;
 pub mod laws;
 mod line_counter;
 mod lines;
+mod placed;
+mod position_counter;
 
 pub use calls::{calls_lines, calls_object};
 pub use inventory::project_object;
 pub use lines::project_lines;
+pub use placed::placed_project_object;

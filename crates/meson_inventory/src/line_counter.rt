@@ -7,7 +7,7 @@ ghost use Rattle.meson_inventory.specs.Inventory.{line_number};
 use meson_splice::FileSet;
 
 /// The bytes of the file of a number.
-fn file_bytes(files: &FileSet, file: usize) -> &[u8]
+pub(crate) fn file_bytes(files: &FileSet, file: usize) -> &[u8]
     ensures { result.now ≡ bytes_at file files.now }
 {
     if file < files.len() {

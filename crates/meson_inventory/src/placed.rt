@@ -1,0 +1,146 @@
+//! What a project holds, as JSON with positions.
+
+ghost use Rattle.std.specs.Prelude.{◌≡◌, IfOk, codes, map};
+ghost use Rattle.serde_json.specs.Data.{array, member, no_members, object, string};
+ghost use Rattle.serde_json.specs.View.{items_of, members_view, view};
+ghost use Rattle.meson_calls.specs.Loading.{name_of_file};
+ghost use Rattle.meson_inventory.specs.Placed.{character_at, count, end_data, line_at, placed_call_data, placed_project_data, placed_spot_data};
+
+use crate::holdings::{HeldCall, Holdings, holdings_of};
+use crate::inventory::files_value;
+use crate::position_counter::PositionCounter;
+use meson_listing::entries::{file_name, text_or_null};
+use meson_plan::Project;
+use meson_ranges::Position;
+use meson_splice::{FileSet, Many};
+use serde_json::{Map, Value, put};
+use std::alloc::{AllocError, Global};
+
+/// An offset with its position.
+fn offset_members(
+    alloc: Global,
+    at: usize,
+    position: Position,
+) -> Result<Map<String, Value>, AllocError>
+    ensures { IfOk result (λ m. members_view m.entries ≡ member (codes "at") (count at)
+        (member (codes "character") (count position.character) (member (codes "line") (count position.line) no_members))) }
+{
+    let mut members = Map::new(alloc);
+    put(&mut members, alloc, "at", Value::from(at))?;
+    put(
+        &mut members,
+        alloc,
+        "character",
+        Value::from(position.character),
+    )?;
+    put(&mut members, alloc, "line", Value::from(position.line))?;
+    Ok(members)
+}
+
+/// The place of a call: where it begins and where it ends.
+fn place_members(
+    alloc: Global,
+    files: &FileSet,
+    positions: &mut PositionCounter<'_>,
+    call: &HeldCall,
+) -> Result<Map<String, Value>, AllocError>
+    requires { positions.old.files.now ≡ files.now }
+    ensures members { IfOk result (λ m. object (members_view m.entries) ≡ placed_spot_data files.now call.now) }
+    ensures files { positions.new.files.now ≡ positions.old.files.now }
+{
+    let start = positions.go_to(call.file, call.head.at);
+    let end = positions.position_of(call.file, call.end);
+    let mut members = offset_members(alloc, call.head.at, start)?;
+    let end = offset_members(alloc, call.end, end)?;
+    put(&mut members, alloc, "end", Value::Object(end))?;
+    put(
+        &mut members,
+        alloc,
+        "file",
+        Value::try_from_str(alloc, file_name(files, call.file))?,
+    )?;
+    Ok(members)
+}
+
+/// A call, with its place and its names.
+fn call_value(
+    alloc: Global,
+    files: &FileSet,
+    positions: &mut PositionCounter<'_>,
+    call: HeldCall,
+) -> Result<Value, AllocError>
+    requires { positions.old.files.now ≡ files.now }
+    ensures value { IfOk result (λ v. view v ≡ placed_call_data files.now call) }
+    ensures files { positions.new.files.now ≡ positions.old.files.now }
+{
+    let mut members = place_members(alloc, files, positions, &call)?;
+    let HeldCall {
+        file: _,
+        head,
+        variable,
+        end: _,
+    } = call;
+    put(
+        &mut members,
+        alloc,
+        "function",
+        Value::String(head.function.take()),
+    )?;
+    put(&mut members, alloc, "name", text_or_null(head.name))?;
+    put(&mut members, alloc, "variable", text_or_null(variable))?;
+    Ok(Value::Object(members))
+}
+
+/// Calls, with their places and their names.
+fn calls_value(alloc: Global, files: &FileSet, calls: Many<HeldCall>) -> Result<Value, AllocError>
+    ensures { IfOk result (λ v. view v ≡ array (items_of (map (placed_call_data files.now) calls))) }
+{
+    let mut positions = PositionCounter::new(files);
+    let mut list = Vec::new(alloc);
+    for call in calls.take() {
+        list.push(call_value(alloc, files, &mut positions, call)?)?;
+    }
+    Ok(Value::Array(list))
+}
+
+/// The places of some calls.
+fn spots_value(alloc: Global, files: &FileSet, calls: &[HeldCall]) -> Result<Value, AllocError>
+    ensures { IfOk result (λ v. view v ≡ array (items_of (map (placed_spot_data files.now) calls.now))) }
+{
+    let mut positions = PositionCounter::new(files);
+    let mut list = Vec::new(alloc);
+    for call in calls {
+        let members = place_members(alloc, files, &mut positions, call)?;
+        list.push(Value::Object(members))?;
+    }
+    Ok(Value::Array(list))
+}
+
+/// What a project holds, as `project_object` has it, with the position of each call and where it ends. Lines are counted from 0, characters in UTF-16 code units.
+///
+/// # Errors
+/// Out of memory.
+pub fn placed_project_object(alloc: Global, project: &Project) -> Result<Value, AllocError>
+    ensures { IfOk result (λ v. view v ≡ placed_project_data project.now) }
+{
+    let Holdings {
+        targets,
+        not_entered,
+    } = holdings_of(alloc, project)?;
+    let files = project.files();
+    let mut members = Map::new(alloc);
+    put(&mut members, alloc, "files", files_value(alloc, files)?)?;
+    put(
+        &mut members,
+        alloc,
+        "not_entered",
+        spots_value(alloc, files, not_entered.get())?,
+    )?;
+    put(
+        &mut members,
+        alloc,
+        "targets",
+        calls_value(alloc, files, targets)?,
+    )?;
+    Ok(Value::Object(members))
+}
