@@ -18,3 +18,9 @@ pub mod Checking
 pub mod CheckedUndos
 pub mod EnteredAsks
 pub mod OneUnread
+pub mod Escapes
+pub mod Insides
+pub mod TextArrays
+pub mod RefusalObjects
+pub mod CodeWords
+pub mod RefusalMembers

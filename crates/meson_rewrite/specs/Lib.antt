@@ -1,6 +1,7 @@
 pub mod Logs
 pub mod Stops
 pub mod Lines
+pub mod Codes
 pub mod Refused
 pub mod Changes
 pub mod Listed
@@ -11,4 +12,5 @@ pub mod Opening
 pub mod Runs
 pub mod StoreReads
 pub mod Laws
+pub mod RefusalLaws
 pub mod inside

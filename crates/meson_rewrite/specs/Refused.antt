@@ -1,7 +1,170 @@
--- STUB: replaced by the helper "refused"
-use Rattle.std.specs.Prelude.{ℕ, List, ◌++◌, codes}
+-- Why a run was stopped, as a JSON object.
+use Rattle.std.specs.Prelude.{ℕ, List, [], ◌∷◌, ◌++◌, map, codes, Option, Some, None, decimal}
+use Rattle.json.specs.Print.{quoted}
+use Rattle.serde_json.specs.Data.{Data, number, unsigned, string, array, object, Members, no_members, member}
+use Rattle.serde_json.specs.View.{items_of}
+use Rattle.serde_json.specs.Written.{compact_text}
+use Rattle.meson_lex.specs.declared.fault.LexFault.{LexFault}
+use Rattle.meson_lex.specs.declared.fault.LexFault.TheVariants as lex
+use Rattle.meson_syntax.specs.declared.fault.ParseFault.{ParseFault}
+use Rattle.meson_syntax.specs.declared.fault.ParseFault.TheVariants as parse
+use Rattle.meson_splice.specs.declared.fault.SpliceFault.{SpliceFault}
+use Rattle.meson_splice.specs.declared.fault.SpliceFault.TheVariants as splice
+use Rattle.meson_calls.specs.declared.refusal.Refusal.{Refusal}
+use Rattle.meson_calls.specs.declared.refusal.Refusal.TheVariants as refusal
+use Rattle.meson_json.specs.declared.fault.ScriptFault.{ScriptFault}
+use Rattle.meson_json.specs.declared.fault.ScriptFault.TheVariants as script
+use Rattle.meson_script.specs.declared.fault.RunFault.{RunFault}
+use Rattle.meson_store.specs.declared.store_fault.StoreFault.{StoreFault}
+use Rattle.meson_store.specs.declared.store_fault.StoreFault.TheVariants as store
+use Rattle.meson_rewrite.specs.Codes.{stop_code}
 use Rattle.meson_rewrite.specs.Lines.{stop_text}
 use Rattle.meson_rewrite.specs.declared.stop.Stop.{Stop}
+use Rattle.meson_rewrite.specs.declared.stop.Stop.TheVariants.{Script, Parse, Refused, Splice, OtherFiles, Store}
 
+-- ---- the offset in a file
+
+abbrev pub lex_offset : LexFault → ℕ
+lex_offset (lex.StrayByte at) = at
+lex_offset (lex.OpenString at) = at
+lex_offset (lex.BadNumber at) = at
+lex_offset (lex.BareCarriageReturn at) = at
+
+abbrev pub parse_offset : ParseFault → Option ℕ
+parse_offset (parse.Lex fault) = Some (lex_offset fault)
+parse_offset (parse.Unexpected at) = Some at
+parse_offset (parse.TooDeep at) = Some at
+parse_offset _ = None
+
+abbrev pub splice_offset : SpliceFault → Option ℕ
+splice_offset (splice.OutOfRange file at) = Some at
+splice_offset (splice.Stale file at) = Some at
+splice_offset _ = None
+
+abbrev pub stop_offset : Stop → Option ℕ
+stop_offset (Parse name fault) = parse_offset fault
+stop_offset (Splice fault) = splice_offset fault
+stop_offset _ = None
+
+-- ---- the number of the command, and that of the entry of a script
+
+abbrev pub refused_command : ℕ → Refusal → Option ℕ
+refused_command index refusal.OutOfMemory = None
+refused_command index _ = Some index
+
+abbrev pub stop_command : Stop → Option ℕ
+stop_command (Refused fault) = refused_command fault.index fault.refusal
+stop_command _ = None
+
+abbrev pub script_entry : ScriptFault → Option ℕ
+script_entry (script.NotObject index) = Some index
+script_entry (script.UnknownType index) = Some index
+script_entry (script.BadField index member_) = Some index
+script_entry (script.UnknownOperation index) = Some index
+script_entry (script.Unsupported index) = Some index
+script_entry _ = None
+
+abbrev pub stop_entry : Stop → Option ℕ
+stop_entry (Script fault) = script_entry fault
+stop_entry _ = None
+
+-- ---- the name of the file
+
+abbrev pub parsed_file : List ℕ → ParseFault → Option (List ℕ)
+parsed_file name parse.OutOfMemory = None
+parsed_file name _ = Some name
+
+abbrev pub splice_file : SpliceFault → Option (List ℕ)
+splice_file (splice.NoFile file) = Some file
+splice_file (splice.OutOfRange file at) = Some file
+splice_file (splice.Stale file at) = Some file
+splice_file _ = None
+
+abbrev pub store_file : StoreFault → Option (List ℕ)
+store_file (store.ReadFailed name) = Some name
+store_file (store.WriteFailed name still_new) = Some name
+store_file (store.NoFile name) = Some name
+store_file _ = None
+
+abbrev pub stop_file : Stop → Option (List ℕ)
+stop_file (Parse name fault) = parsed_file name fault
+stop_file (Splice fault) = splice_file fault
+stop_file (OtherFiles name) = Some name
+stop_file (Store fault) = store_file fault
+stop_file _ = None
+
+-- ---- the files that may have their new bytes, last first
+
+abbrev pub store_left : StoreFault → Option (List (List ℕ))
+store_left (store.WriteFailed name still_new) = Some still_new
+store_left _ = None
+
+abbrev pub stop_left : Stop → Option (List (List ℕ))
+stop_left (Store fault) = store_left fault
+stop_left _ = None
+
+-- ---- the name of the key, the member or the variable that is meant
+
+abbrev pub refusal_subject : Refusal → Option (List ℕ)
+refusal_subject (refusal.UnknownKey name) = Some name
+refusal_subject (refusal.WrongKind name) = Some name
+refusal_subject (refusal.DuplicateKeyword name) = Some name
+refusal_subject (refusal.NotLiteral name) = Some name
+refusal_subject (refusal.InUse name) = Some name
+refusal_subject _ = None
+
+abbrev pub script_subject : ScriptFault → Option (List ℕ)
+script_subject (script.BadField index member_) = Some member_
+script_subject _ = None
+
+abbrev pub stop_name : Stop → Option (List ℕ)
+stop_name (Script fault) = script_subject fault
+stop_name (Refused fault) = refusal_subject fault.refusal
+stop_name _ = None
+
+-- ---- the object
+
+abbrev pub with_number : List ℕ → Option ℕ → Members → Members
+with_number key None more = more
+with_number key (Some n) more = member key (number (unsigned n)) more
+
+abbrev pub with_text : List ℕ → Option (List ℕ) → Members → Members
+with_text key None more = more
+with_text key (Some text) more = member key (string text) more
+
+abbrev pub with_texts : List ℕ → Option (List (List ℕ)) → Members → Members
+with_texts key None more = more
+with_texts key (Some texts) more = member key (array (items_of (map string texts))) more
+
+-- the members that it has, in the order of their names
+abbrev pub stop_members : Stop → Members
+stop_members stop =
+    with_number (codes "at") (stop_offset stop) (member (codes "code") (string (stop_code stop))
+    (with_number (codes "command") (stop_command stop) (with_number (codes "entry") (stop_entry stop)
+    (with_text (codes "file") (stop_file stop) (with_texts (codes "left") (stop_left stop)
+    (member (codes "message") (string (stop_text stop)) (with_text (codes "name") (stop_name stop) no_members)))))))
+
+abbrev pub stop_data : Stop → Data
+stop_data stop = object (member (codes "error") (object (stop_members stop)) no_members)
+
+-- one line of JSON, without its line end
 abbrev pub stop_object : Stop → List ℕ
-stop_object stop = codes "{\"error\":" ++ (stop_text stop ++ codes "}")
+stop_object stop = compact_text (stop_data stop)
+
+-- ---- for private clauses: what is written of a member, with its comma
+
+abbrev pub offset_part : Option ℕ → List ℕ
+offset_part None = []
+offset_part (Some at) = codes "\"at\":" ++ (decimal at ++ codes ",")
+
+abbrev pub number_part : List ℕ → Option ℕ → List ℕ
+number_part key None = []
+number_part key (Some n) = 44 ∷ (quoted key ++ 58 ∷ decimal n)
+
+abbrev pub text_part : List ℕ → Option (List ℕ) → List ℕ
+text_part key None = []
+text_part key (Some text) = 44 ∷ (quoted key ++ 58 ∷ quoted text)
+
+abbrev pub left_part : Option (List (List ℕ)) → List ℕ
+left_part None = []
+left_part (Some names) = codes ",\"left\":" ++ compact_text (array (items_of (map string names)))

@@ -1,6 +1,7 @@
-//! Laws of checked undos, and of a read that failed. The functions do nothing; the contract of each is a law.
+//! Laws of checked undos, of a read that failed, and of refusals as objects. The functions do nothing; the contract of each is a law.
 
 ghost use Rattle.meson_rewrite.specs.Laws.{CheckedUndosRestore, OneUnread, SameSumsUndo};
+ghost use Rattle.meson_rewrite.specs.RefusalLaws.{CodesAreWords, MembersAreWords};
 
 use meson_sums::laws::sums_tell;
 
@@ -24,4 +25,14 @@ pub fn checked_undos_restore()
 /// Which file a run reports as unreadable: if a store tells what it holds and was read that often for some words, exactly one.
 pub fn one_unread()
     ensures { OneUnread }
+{}
+
+/// What the code of a refusal is: the word of its line after the command, the entry or the file; or `memory` when out of memory.
+pub fn codes_are_words()
+    ensures { CodesAreWords }
+{}
+
+/// What the object of a refusal has: as `message` what its line has after `error: `, and as `code` its code.
+pub fn members_are_words()
+    ensures { MembersAreWords }
 {}

@@ -2,12 +2,14 @@
 #![tactic(auto)]
 
 mod changes;
+mod codes;
 pub mod laws;
 mod lines;
 mod listed;
 mod objects;
 mod opening;
 mod program;
+mod quoted;
 mod refused;
 mod request;
 mod said;

@@ -1,29 +1,277 @@
-//! STUB: replaced by the helper "refused".
+//! Why a run was stopped, as a JSON object.
 
-ghost use Rattle.std.specs.Prelude.{◌≡◌, MatchResult};
+ghost use Rattle.std.specs.Prelude.{◌≡◌, MatchResult, Some, map, option_map};
+ghost use Rattle.serde_json.specs.Data.{array, string};
+ghost use Rattle.serde_json.specs.View.{items_of};
+ghost use Rattle.serde_json.specs.Written.{compact_text};
 ghost use Rattle.meson_rewrite.specs.Lines.{line};
-ghost use Rattle.meson_rewrite.specs.Refused.{stop_object};
+ghost use Rattle.meson_rewrite.specs.Refused.{lex_offset, parse_offset, refusal_subject, stop_command, stop_entry, stop_file, stop_left, stop_name, stop_object, stop_offset};
 ghost use Rattle.meson_store.specs.Output.{Fails, Gets};
 
+use crate::codes::code_of;
+use crate::quoted::Quoted;
 use crate::stop::Stop;
-use meson_store::Output;
+use meson_json::ScriptFault;
+use meson_lex::LexFault;
+use meson_plan::Refusal;
+use meson_splice::{SpliceFault, Text};
+use meson_store::{Output, StoreFault};
+use meson_syntax::ParseFault;
 use std::alloc::Global;
-use std::fmt;
-use std::io;
+use std::fmt::{Display, Formatter, Write};
+use std::{fmt, io};
 
-/// Why a run was stopped, as an object of JSON.
+/// The offset of the byte.
+fn lex_offset(fault: LexFault) -> usize
+    ensures { result ≡ lex_offset fault }
+{
+    match fault {
+        LexFault::StrayByte(at)
+        | LexFault::OpenString(at)
+        | LexFault::BadNumber(at)
+        | LexFault::BareCarriageReturn(at) => at,
+    }
+}
+
+/// The offset of the place, if the fault has one.
+fn parse_offset(fault: ParseFault) -> Option<usize>
+    ensures { result ≡ parse_offset fault }
+{
+    match fault {
+        ParseFault::Lex(fault) => Some(lex_offset(fault)),
+        ParseFault::Unexpected(at) | ParseFault::TooDeep(at) => Some(at),
+        _ => None,
+    }
+}
+
+/// The name of the key or of the variable, if one is meant.
+fn refusal_subject(refusal: &Refusal) -> Option<&str>
+    ensures { option_map (λ name. name.now) result ≡ refusal_subject refusal.now }
+{
+    match refusal {
+        Refusal::UnknownKey(name)
+        | Refusal::WrongKind(name)
+        | Refusal::DuplicateKeyword(name)
+        | Refusal::NotLiteral(name)
+        | Refusal::InUse(name) => Some(name.get()),
+        _ => None,
+    }
+}
+
+impl Stop {
+    /// The offset in a file.
+    fn offset(&self) -> Option<usize>
+        ensures { result ≡ stop_offset self.now }
+    {
+        match self {
+            Stop::Parse { fault, .. } => parse_offset(*fault),
+            Stop::Splice(SpliceFault::OutOfRange(_, at) | SpliceFault::Stale(_, at)) => Some(*at),
+            _ => None,
+        }
+    }
+
+    /// The number of the command that is refused.
+    fn command(&self) -> Option<usize>
+        ensures { result ≡ stop_command self.now }
+    {
+        match self {
+            Stop::Refused(fault) => match fault.refusal {
+                Refusal::OutOfMemory => None,
+                _ => Some(fault.index),
+            },
+            _ => None,
+        }
+    }
+
+    /// The number of the entry of the script that is not valid.
+    fn entry(&self) -> Option<usize>
+        ensures { result ≡ stop_entry self.now }
+    {
+        match self {
+            Stop::Script(
+                ScriptFault::NotObject(index)
+                | ScriptFault::UnknownType(index)
+                | ScriptFault::BadField(index, _)
+                | ScriptFault::UnknownOperation(index)
+                | ScriptFault::Unsupported(index),
+            ) => Some(*index),
+            _ => None,
+        }
+    }
+
+    /// The name of the file.
+    fn file(&self) -> Option<&str>
+        ensures { option_map (λ name. name.now) result ≡ stop_file self.now }
+    {
+        match self {
+            Stop::Parse {
+                fault: ParseFault::OutOfMemory,
+                ..
+            } => None,
+            Stop::Parse { name, .. }
+            | Stop::Splice(
+                SpliceFault::NoFile(name)
+                | SpliceFault::OutOfRange(name, _)
+                | SpliceFault::Stale(name, _),
+            )
+            | Stop::OtherFiles(name)
+            | Stop::Store(
+                StoreFault::ReadFailed(name)
+                | StoreFault::WriteFailed { name, .. }
+                | StoreFault::NoFile(name),
+            ) => Some(name.get()),
+            _ => None,
+        }
+    }
+
+    /// The files that may have their new bytes, last first, if a file could not be written.
+    fn left(&self) -> Option<&[Text]>
+        ensures { option_map (λ names. names.now) result ≡ stop_left self.now }
+    {
+        match self {
+            Stop::Store(StoreFault::WriteFailed { still_new, .. }) => Some(still_new.get()),
+            _ => None,
+        }
+    }
+
+    /// The name of the key, of the member or of the variable that is meant.
+    fn name(&self) -> Option<&str>
+        ensures { option_map (λ name. name.now) result ≡ stop_name self.now }
+    {
+        match self {
+            Stop::Refused(fault) => refusal_subject(&fault.refusal),
+            Stop::Script(ScriptFault::BadField(_, member)) => Some(member.get()),
+            _ => None,
+        }
+    }
+}
+
+/// The member `at` and a comma, if there is an offset.
+#[derive(Drop)]
+struct Offset(Option<usize>);
+
+impl Display for Offset {
+    ghost use Rattle.meson_rewrite.specs.Refused.{offset_part};
+
+    ghost output = { λ offset. Some (offset_part offset.0) };
+
+    fn fmt<W: Write>(&self, f: &mut Formatter<W>) -> fmt::Result {
+        match self.0 {
+            Some(at) => write!(f, "\"at\":{at},"),
+            None => Ok(()),
+        }
+    }
+}
+
+/// A comma and a member that is a number, if there is one.
+#[derive(Drop)]
+struct Number {
+    key: &'static str,
+    value: Option<usize>,
+}
+
+impl Display for Number {
+    ghost use Rattle.meson_rewrite.specs.Refused.{number_part};
+
+    ghost output = { λ member. Some (number_part member.key.now member.value) };
+
+    fn fmt<W: Write>(&self, f: &mut Formatter<W>) -> fmt::Result {
+        match self.value {
+            Some(value) => write!(f, ",{}:{value}", Quoted(self.key)),
+            None => Ok(()),
+        }
+    }
+}
+
+/// A comma and a member that is a text, if there is one.
+#[derive(Drop)]
+struct Name<'a> {
+    key: &'static str,
+    value: Option<&'a str>,
+}
+
+impl Display for Name<'_> {
+    ghost use Rattle.meson_rewrite.specs.Refused.{text_part};
+
+    ghost output = { λ member. Some (text_part member.key.now (option_map (λ text. text.now) member.value)) };
+
+    fn fmt<W: Write>(&self, f: &mut Formatter<W>) -> fmt::Result {
+        match self.value {
+            Some(value) => write!(f, ",{}:{}", Quoted(self.key), Quoted(value)),
+            None => Ok(()),
+        }
+    }
+}
+
+/// Texts as a JSON array.
+#[derive(Drop)]
+struct Texts<'a>(&'a [Text]);
+
+impl Display for Texts<'_> {
+    ghost output = { λ texts. Some (compact_text (array (items_of (map string texts.0.now)))) };
+
+    fn fmt<W: Write>(&self, f: &mut Formatter<W>) -> fmt::Result {
+        let [first, rest @ ..] = self.0 else {
+            return f.write_str("[]");
+        };
+        write!(f, "[{}", Quoted(first))?;
+        for text in rest {
+            write!(f, ",{}", Quoted(text))?;
+        }
+        f.write_str("]")
+    }
+}
+
+/// A comma and the member `left`, if there are such files.
+#[derive(Drop)]
+struct Left<'a>(Option<&'a [Text]>);
+
+impl Display for Left<'_> {
+    ghost use Rattle.meson_rewrite.specs.Refused.{left_part};
+
+    ghost output = { λ left. Some (left_part (option_map (λ names. names.now) left.0)) };
+
+    fn fmt<W: Write>(&self, f: &mut Formatter<W>) -> fmt::Result {
+        match self.0 {
+            Some(names) => write!(f, ",\"left\":{}", Texts(names)),
+            None => Ok(()),
+        }
+    }
+}
+
+/// Why a run was stopped, displayed as a JSON object with one member, `error`: an object with the members that apply, in the order of their names.
 #[derive(Drop)]
 pub(crate) struct Refused<'a>(pub &'a Stop);
 
-impl fmt::Display for Refused<'_> {
-    ghost use Rattle.std.specs.Prelude.{Some};
-    ghost use Rattle.meson_rewrite.specs.Refused.{stop_object};
+impl Display for Refused<'_> {
+    ghost output = { λ refused. Some (stop_object refused.0.now) };
 
-    ghost output = { λ o. Some (stop_object o.0.now) };
-
-    fn fmt<W: fmt::Write>(&self, f: &mut fmt::Formatter<W>) -> fmt::Result {
+    fn fmt<W: Write>(&self, f: &mut Formatter<W>) -> fmt::Result {
         let stop = self.0;
-        write!(f, "{{\"error\":{stop}}}")
+        write!(
+            f,
+            "{{\"error\":{{{}\"code\":{}{}{}{}{},\"message\":{}{}}}}}",
+            Offset(stop.offset()),
+            Quoted(code_of(stop)),
+            Number {
+                key: "command",
+                value: stop.command()
+            },
+            Number {
+                key: "entry",
+                value: stop.entry()
+            },
+            Name {
+                key: "file",
+                value: stop.file()
+            },
+            Left(stop.left()),
+            Quoted(stop),
+            Name {
+                key: "name",
+                value: stop.name()
+            },
+        )
     }
 }
 

@@ -1,0 +1,123 @@
+-- The code of a refusal is the word of its line after the place.
+use Rattle.std.proofs.Common.{◌≡◌, ℕ, List, [], ◌∷◌, ◌++◌, Option, None, Some, codes, decimal, inl, inr, refl, sym, ap, ◌∙◌, append_assoc, append-nil, ◌⊎◌}
+use Rattle.meson_lex.specs.declared.fault.LexFault.{LexFault}
+use Rattle.meson_lex.specs.declared.fault.LexFault.TheVariants as lex
+use Rattle.meson_syntax.specs.declared.fault.ParseFault.{ParseFault}
+use Rattle.meson_syntax.specs.declared.fault.ParseFault.TheVariants as parse
+use Rattle.meson_splice.specs.declared.fault.SpliceFault.{SpliceFault}
+use Rattle.meson_splice.specs.declared.fault.SpliceFault.TheVariants as splice
+use Rattle.meson_calls.specs.declared.refusal.Refusal.{Refusal}
+use Rattle.meson_calls.specs.declared.refusal.Refusal.TheVariants as refusal
+use Rattle.meson_calls.specs.Messages.{refusal_text}
+use Rattle.meson_json.specs.declared.fault.ScriptFault.{ScriptFault}
+use Rattle.meson_json.specs.declared.fault.ScriptFault.TheVariants as script
+use Rattle.meson_script.specs.declared.fault.RunFault.{RunFault}
+use Rattle.meson_command.specs.declared.fault.UsageFault.{UsageFault}
+use Rattle.meson_command.specs.declared.fault.UsageFault.TheVariants as usage
+use Rattle.meson_store.specs.declared.store_fault.StoreFault.{StoreFault}
+use Rattle.meson_store.specs.declared.store_fault.StoreFault.TheVariants as store
+use Rattle.meson_rewrite.specs.Codes.{memory_code, refusal_code, stop_code}
+use Rattle.meson_rewrite.specs.Lines.{stop_text}
+use Rattle.meson_rewrite.specs.RefusalLaws.{CodesAreWords, HasCode, numbered_place}
+use Rattle.meson_rewrite.specs.declared.stop.Stop.{Stop}
+use Rattle.meson_rewrite.specs.declared.stop.Stop.TheVariants.{Usage, Script, Parse, TooManyFiles, BadFileName, Refused, Splice, OtherFiles, Store}
+
+abbrev Known : Stop → Type 0
+Known stop = ((stop_code stop ≡ memory_code) × (stop_text stop ≡ codes "out of memory")) ⊎ HasCode stop
+
+-- of a script
+in_entry : (n : ℕ) (meaning : List ℕ) → codes "entry " ++ (decimal n ++ (codes ": " ++ meaning)) ≡ numbered_place (codes "entry ") (Some n) ++ meaning
+in_entry n meaning = ap (λ (l : List ℕ). codes "entry " ++ l) (sym (append_assoc (decimal n) (codes ": ") meaning))
+
+of_script : (fault : ScriptFault) → Known (Script fault)
+of_script script.NotJson = inr (record { meaning = codes "not json"; words = refl; one_word = refl })
+of_script script.NotArray = inr (record { meaning = codes "not an array"; words = refl; one_word = refl })
+of_script script.TooMany = inr (record { meaning = codes "too many"; words = refl; one_word = refl })
+of_script (script.NotObject n) = inr (record { meaning = codes "not an object"; words = in_entry n (codes "J4 not an object"); one_word = refl })
+of_script (script.UnknownType n) = inr (record { meaning = codes "unknown type"; words = in_entry n (codes "J5 unknown type"); one_word = refl })
+of_script (script.BadField n name) = inr (record { meaning = codes "bad field " ++ name; words = in_entry n (codes "J6 bad field " ++ name); one_word = refl })
+of_script (script.UnknownOperation n) = inr (record { meaning = codes "unknown operation"; words = in_entry n (codes "J7 unknown operation"); one_word = refl })
+of_script (script.Unsupported n) = inr (record { meaning = codes "unsupported"; words = in_entry n (codes "J8 unsupported"); one_word = refl })
+of_script script.BadLog = inr (record { meaning = codes "bad log"; words = refl; one_word = refl })
+of_script script.OutOfMemory = inl (refl, refl)
+
+of_usage : (fault : UsageFault) → Known (Usage fault)
+of_usage usage.Usage = inr (record { meaning = codes "usage"; words = refl; one_word = refl })
+of_usage usage.OddWords = inr (record { meaning = codes "odd words"; words = refl; one_word = refl })
+of_usage usage.RepeatedKey = inr (record { meaning = codes "repeated key"; words = refl; one_word = refl })
+of_usage usage.Unsupported = inr (record { meaning = codes "unsupported"; words = refl; one_word = refl })
+of_usage usage.BadTitle = inr (record { meaning = codes "bad title"; words = refl; one_word = refl })
+of_usage usage.OutOfMemory = inl (refl, refl)
+
+-- of a file
+in_file : (name meaning : List ℕ) → name ++ (codes ": " ++ meaning) ≡ (name ++ codes ": ") ++ meaning
+in_file name meaning = sym (append_assoc name (codes ": ") meaning)
+
+of_lex : (name : List ℕ) (fault : LexFault) → Known (Parse name (parse.Lex fault))
+of_lex name (lex.StrayByte at) = inr (record { meaning = codes "stray byte at " ++ decimal at; words = in_file name _; one_word = refl })
+of_lex name (lex.OpenString at) = inr (record { meaning = codes "open string at " ++ decimal at; words = in_file name _; one_word = refl })
+of_lex name (lex.BadNumber at) = inr (record { meaning = codes "bad number at " ++ decimal at; words = in_file name _; one_word = refl })
+of_lex name (lex.BareCarriageReturn at) = inr (record { meaning = codes "bare carriage return at " ++ decimal at; words = in_file name _; one_word = refl })
+
+of_parse : (name : List ℕ) (fault : ParseFault) → Known (Parse name fault)
+of_parse name parse.TooLarge = inr (record { meaning = codes "too large"; words = in_file name _; one_word = refl })
+of_parse name parse.NotUtf8 = inr (record { meaning = codes "not utf-8"; words = in_file name _; one_word = refl })
+of_parse name parse.ByteOrderMark = inr (record { meaning = codes "byte order mark"; words = in_file name _; one_word = refl })
+of_parse name (parse.Lex fault) = of_lex name fault
+of_parse name (parse.Unexpected at) = inr (record { meaning = codes "unexpected at " ++ decimal at; words = in_file name _; one_word = refl })
+of_parse name (parse.TooDeep at) = inr (record { meaning = codes "too deep at " ++ decimal at; words = in_file name _; one_word = refl })
+of_parse name parse.OutOfMemory = inl (refl, refl)
+
+-- of a command
+in_command : (n : ℕ) (meaning : List ℕ) → codes "command " ++ (decimal n ++ (codes ": " ++ meaning)) ≡ (numbered_place (codes "command ") (Some n) ++ []) ++ meaning
+in_command n meaning = ap (λ (l : List ℕ). codes "command " ++ l) (sym (append_assoc (decimal n) (codes ": ") meaning)) ∙ ap (λ (l : List ℕ). l ++ meaning) (sym (append-nil (numbered_place (codes "command ") (Some n))))
+
+bare : (n : ℕ) (meaning : List ℕ) → codes "command " ++ (decimal n ++ (codes ": " ++ (meaning ++ []))) ≡ (numbered_place (codes "command ") (Some n) ++ []) ++ meaning
+bare n meaning = ap (λ (l : List ℕ). codes "command " ++ (decimal n ++ (codes ": " ++ l))) (append-nil meaning) ∙ in_command n meaning
+
+of_refusal : (n : ℕ) (why : Refusal) → Known (Refused (record { index = n; refusal = why }))
+of_refusal n refusal.NoProject = inr (record { meaning = codes "no project"; words = bare n _; one_word = refl })
+of_refusal n refusal.NotFound = inr (record { meaning = codes "not found"; words = bare n _; one_word = refl })
+of_refusal n refusal.Ambiguous = inr (record { meaning = codes "ambiguous"; words = bare n _; one_word = refl })
+of_refusal n (refusal.UnknownKey name) = inr (record { meaning = codes "unknown key"; words = bare n _; one_word = refl })
+of_refusal n (refusal.WrongKind name) = inr (record { meaning = codes "wrong kind"; words = bare n _; one_word = refl })
+of_refusal n refusal.BadName = inr (record { meaning = codes "bad name"; words = bare n _; one_word = refl })
+of_refusal n refusal.HiddenKeywords = inr (record { meaning = codes "hidden keywords"; words = bare n _; one_word = refl })
+of_refusal n (refusal.DuplicateKeyword name) = inr (record { meaning = codes "duplicate keyword: " ++ name; words = in_command n _; one_word = refl })
+of_refusal n (refusal.NotLiteral name) = inr (record { meaning = codes "not literal: " ++ name; words = in_command n _; one_word = refl })
+of_refusal n refusal.SourceNotFound = inr (record { meaning = codes "source not found"; words = bare n _; one_word = refl })
+of_refusal n refusal.Unresolved = inr (record { meaning = codes "unresolved"; words = bare n _; one_word = refl })
+of_refusal n refusal.NotRemovable = inr (record { meaning = codes "not removable"; words = bare n _; one_word = refl })
+of_refusal n refusal.NameTaken = inr (record { meaning = codes "name taken"; words = bare n _; one_word = refl })
+of_refusal n refusal.NoFile = inr (record { meaning = codes "no file"; words = bare n _; one_word = refl })
+of_refusal n refusal.NotStatement = inr (record { meaning = codes "not a statement"; words = bare n _; one_word = refl })
+of_refusal n (refusal.InUse name) = inr (record { meaning = codes "in use: " ++ name; words = in_command n _; one_word = refl })
+of_refusal n refusal.TooDeep = inr (record { meaning = codes "too deep"; words = bare n _; one_word = refl })
+of_refusal n refusal.TooLarge = inr (record { meaning = codes "too large"; words = bare n _; one_word = refl })
+of_refusal n refusal.OutOfMemory = inl (refl, refl)
+
+of_splice : (fault : SpliceFault) → Known (Splice fault)
+of_splice (splice.NoFile file) = inr (record { meaning = codes "no file " ++ file; words = refl; one_word = refl })
+of_splice (splice.OutOfRange file at) = inr (record { meaning = codes "out of range in " ++ (file ++ (codes " at " ++ decimal at)); words = refl; one_word = refl })
+of_splice (splice.Stale file at) = inr (record { meaning = codes "stale " ++ (file ++ (codes " at " ++ decimal at)); words = refl; one_word = refl })
+of_splice splice.NothingToUndo = inr (record { meaning = codes "nothing to undo"; words = refl; one_word = refl })
+of_splice splice.NothingToRedo = inr (record { meaning = codes "nothing to redo"; words = refl; one_word = refl })
+of_splice splice.OutOfMemory = inl (refl, refl)
+
+of_store : (fault : StoreFault) → Known (Store fault)
+of_store (store.ReadFailed name) = inr (record { meaning = codes "cannot read " ++ name; words = refl; one_word = refl })
+of_store (store.WriteFailed name still_new) = inr (record { meaning = codes "cannot write " ++ name; words = refl; one_word = refl })
+of_store (store.NoFile name) = inr (record { meaning = codes "no file " ++ name; words = refl; one_word = refl })
+of_store store.OutputFailed = inr (record { meaning = codes "output failed"; words = refl; one_word = refl })
+of_store store.OutOfMemory = inl (refl, refl)
+
+pub codes_are_words : CodesAreWords
+codes_are_words (Usage fault) = of_usage fault
+codes_are_words (Script fault) = of_script fault
+codes_are_words (Parse name fault) = of_parse name fault
+codes_are_words TooManyFiles = inr (record { meaning = codes "too many files"; words = refl; one_word = refl })
+codes_are_words (BadFileName place) = inr (record { meaning = codes "bad file name " ++ decimal place; words = refl; one_word = refl })
+codes_are_words (Refused fault) = of_refusal fault.index fault.refusal
+codes_are_words (Splice fault) = of_splice fault
+codes_are_words (OtherFiles name) = inr (record { meaning = codes "files are not as " ++ (name ++ codes " has them"); words = refl; one_word = refl })
+codes_are_words (Store fault) = of_store fault

@@ -1,0 +1,34 @@
+-- What is promised of the object of a refusal, in the words of its line.
+use Rattle.std.specs.Prelude.{◌≡◌, ◌⊎◌, ℕ, false, List, [], ◌∷◌, ◌++◌, ◌==◌, codes, decimal, Option, None, Some}
+use Rattle.std.specs.List.{list_any}
+use Rattle.serde_json.specs.Data.{Data, Members, object, string}
+use Rattle.serde_json.specs.Find.{get}
+use Rattle.meson_rewrite.specs.Codes.{memory_code, stop_code}
+use Rattle.meson_rewrite.specs.Lines.{stop_text}
+use Rattle.meson_rewrite.specs.Refused.{stop_command, stop_entry, stop_members}
+use Rattle.meson_rewrite.specs.declared.stop.Stop.{Stop}
+use Rattle.meson_rewrite.specs.declared.stop.Stop.TheVariants.{Parse}
+
+-- a word and a number before the words of a fault, where it has that number
+abbrev pub numbered_place : List ℕ → Option ℕ → List ℕ
+numbered_place word None = []
+numbered_place word (Some n) = word ++ (decimal n ++ codes ": ")
+
+-- what is before the code in the line of a refusal: the command, the entry of the script or the file that is not valid
+abbrev pub place_text : Stop → List ℕ
+place_text (Parse name fault) = name ++ codes ": "
+place_text stop = numbered_place (codes "command ") (stop_command stop) ++ numbered_place (codes "entry ") (stop_entry stop)
+
+-- The code is the word of the line after its place; or memory ran out.
+pub record HasCode (stop : Stop) : Type 0 where
+  pub meaning : List ℕ
+  pub words : stop_text stop ≡ place_text stop ++ (stop_code stop ++ 32 ∷ meaning)
+  pub one_word : list_any (λ b. b == 32) (stop_code stop) ≡ false
+
+abbrev pub CodesAreWords : Type 0
+CodesAreWords = (stop : Stop) → ((stop_code stop ≡ memory_code) × (stop_text stop ≡ codes "out of memory")) ⊎ HasCode stop
+
+-- The member `message` is what the line has after `error: `, and the member `code` is the code.
+abbrev pub MembersAreWords : Type 0
+MembersAreWords = (stop : Stop) → (get (codes "message") (object (stop_members stop)) ≡ Some (string (stop_text stop)))
+    × (get (codes "code") (object (stop_members stop)) ≡ Some (string (stop_code stop)))
