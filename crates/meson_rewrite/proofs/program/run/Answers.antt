@@ -56,4 +56,4 @@ returns-in-Ok-clause-json g c = inl (json-law (map string_bytes c.args.words.now
 
 pub returns-in-Ok-clause-reads : goal.returns-in-Ok-clause-reads
 returns-in-Ok-clause-reads g c =
-    subst (λ r. MayRead r (g.S.Store.content c.args.store.now) (g.S.Store.reads c.args.store.now) (g.S.Store.reads c.answer.new.store) (unread_in c.answer.result)) (sym c.in-Ok.ensures.ok) c.answer.ensures.reads
+    subst (λ r. MayRead r (g.S.Store.content c.args.store.now) (g.S.Store.reads c.args.store.now) (g.S.Store.reads c.answer-end.new.store) (unread_in c.answer-end.result)) (sym c.in-Ok.ensures.ok) c.answer-end.ensures.reads
