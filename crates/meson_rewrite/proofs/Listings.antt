@@ -28,6 +28,7 @@ use Rattle.meson_listing.specs.Entries.{call_data, id_data, item_data, put_each,
 use Rattle.meson_inventory.specs.Holdings.{holdings}
 use Rattle.meson_inventory.specs.Inventory.{file_data, project_data, spot_data}
 use Rattle.meson_inventory.specs.Inventory as inventory
+use Rattle.meson_inventory.specs.Placed.{placed_call_data, placed_project_data, placed_spot_data}
 use Rattle.meson_plan.specs.Listing.{call_listing, kwargs_listing, or_not_found, target_at, target_listing, told}
 use Rattle.meson_script.specs.Running.{Runs, nothing_ran, ran_more}
 use Rattle.meson_script.specs.declared.session.Report.{Report}
@@ -103,6 +104,13 @@ project-plain l =
     let files = all-plain file_data l.files (λ f. refl) in
     let spots = all-plain (spot_data l.files) (holdings l).not_entered (λ c. refl) in
     let calls = all-plain (inventory.held_data l.files) (holdings l).targets (λ c. rw (text-plain c.head.name, text-plain c.variable) refl) in
+    rw (files, spots, calls) refl
+
+pub project-with-positions-plain : (l : Loaded) → has_float (placed_project_data l) ≡ false
+project-with-positions-plain l =
+    let files = all-plain file_data l.files (λ f. refl) in
+    let spots = all-plain (placed_spot_data l.files) (holdings l).not_entered (λ c. refl) in
+    let calls = all-plain (placed_call_data l.files) (holdings l).targets (λ c. rw (text-plain c.head.name, text-plain c.variable) refl) in
     rw (files, spots, calls) refl
 
 -- ---- a listing, if it is made

@@ -21,7 +21,7 @@ use Rattle.meson_rewrite.specs.Listed.{listed_data}
 use Rattle.meson_rewrite.specs.declared.request.Listing.{Listing}
 use Rattle.meson_rewrite.specs.declared.request.Listing.TheVariants.{History, Holdings, Sums}
 use Rattle.meson_rewrite.specs.Objects.{change_data, changes_data, done_members, edit_data, file_edits_data, forgot_data, history_data, sum_data, sums_data}
-use Rattle.meson_rewrite.proofs.Listings.{all-plain, either, project-plain}
+use Rattle.meson_rewrite.proofs.Listings.{all-plain, either, project-with-positions-plain}
 
 -- ---- numbers
 
@@ -48,7 +48,7 @@ sums-plain files = rw (all-plain sum_data files (λ f. refl)) refl
 
 pub listed-plain : (listing : Listing) (session : Session) → has_float (listed_data listing session) ≡ false
 listed-plain History session = history-plain session.history
-listed-plain (Holdings json) session = project-plain session.project
+listed-plain (Holdings json) session = project-with-positions-plain session.project
 listed-plain Sums session = sums-plain session.project.files
 
 -- ---- text

@@ -4,6 +4,7 @@ use Rattle.serde_json.specs.Data.{Data}
 use Rattle.serde_json.specs.Written.{compact_text}
 use Rattle.meson_calls.specs.Loading.{Loaded}
 use Rattle.meson_inventory.specs.Inventory.{project_data, project_lines}
+use Rattle.meson_inventory.specs.Placed.{placed_project_data}
 use Rattle.meson_script.specs.declared.session.Session.{Session}
 use Rattle.meson_sums.specs.Sums.{sums}
 use Rattle.meson_rewrite.specs.Changes.{history_lines}
@@ -25,7 +26,7 @@ listed_text Sums session = sums session.project.files
 
 abbrev pub listed_data : Listing → Session → Data
 listed_data History session = history_data session.history
-listed_data (Holdings json) session = project_data session.project
+listed_data (Holdings json) session = placed_project_data session.project
 listed_data Sums session = sums_data session.project.files
 
 -- where the answer is JSON, one line of it

@@ -11,7 +11,7 @@ use crate::opening::{StoredSession, leave};
 use crate::request::Listing;
 use crate::said::{Said, json_line};
 use crate::stop::Stop;
-use meson_inventory::{project_lines, project_object};
+use meson_inventory::{placed_project_object, project_lines, project_object};
 use meson_plan::Project;
 use meson_script::Session;
 use meson_splice::Bytes;
@@ -37,7 +37,7 @@ fn listed_object(alloc: Global, session: &Session, listing: Listing) -> Result<V
 {
     match listing {
         Listing::History => history_object(alloc, &session.history),
-        Listing::Holdings { .. } => project_object(alloc, session.project()),
+        Listing::Holdings { .. } => placed_project_object(alloc, session.project()),
         Listing::Sums => sums_object(alloc, session.files()),
     }
 }
