@@ -2,3 +2,4 @@ pub mod EachFacts
 pub mod LogFacts
 pub mod LogLines
 pub mod ScriptFacts
+pub mod TextsFacts

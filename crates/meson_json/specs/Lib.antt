@@ -7,4 +7,5 @@ pub mod Settings
 pub mod Titles
 pub mod Scripts
 pub mod Messages
+pub mod TextsFile
 pub mod Rows

@@ -9,6 +9,7 @@ mod members;
 pub mod names;
 pub mod script;
 pub mod target;
+mod texts_file;
 mod title;
 mod version;
 
@@ -16,4 +17,5 @@ pub use fault::ScriptFault;
 pub use log::{empty_log, history_text, read_log};
 pub use members::owned;
 pub use script::Script;
+pub use texts_file::read_texts;
 pub use title::is_title;
