@@ -16,7 +16,7 @@ use std::marker::{Brand, PhantomData};
 
 /// Reads the project over the texts, and hands the store back, of which this was known. `gathered` becomes what comes of it.
 ///
-/// They are apart because of a store that is handed back beside memory the caller learns nothing.
+/// The two are apart, since a caller learns nothing of a reference that is returned together with memory.
 fn gather_over<'a, S: Store, B: Below>(
     alloc: Global,
     store: &'a mut S,
