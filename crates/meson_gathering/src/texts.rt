@@ -14,27 +14,30 @@ use meson_store::{Below, Overlaid, Store};
 use std::alloc::Global;
 use std::marker::{Brand, PhantomData};
 
-/// Reads the project over the texts, and gives the store back, of which this was known.
+/// Reads the project over the texts, and hands the store back, of which this was known. `gathered` becomes what comes of it.
+///
+/// The two are apart, since a caller learns nothing of a reference that is returned together with memory.
 fn gather_over<'a, S: Store, B: Below>(
     alloc: Global,
     store: &'a mut S,
     folder: Option<&str>,
     texts: &'a FileSet,
-) -> (Result<Project, GatherFault>, &'a mut S)
+    gathered: &mut Result<Project, GatherFault>,
+) -> &'a mut S
     requires same { store.ghost_name ≡ B.name }
     requires content { S.content store.old ≡ B.content }
     requires failures { S.failures store.old ≡ B.failures }
     requires reads { S.reads store.old ≡ B.reads }
     requires replaces { S.replaces store.old ≡ B.replaces }
-    ensures same { result.1.ghost_name ≡ B.name }
-    ensures files { IfOk result.0 (λ project. Finds (texts_over texts.now B.content) (named_folder folder.entry) (whole project.files)) }
-    ensures stopped { IfErr result.0 (StopsAt B.failures (S.failures result.1.now) (Finds (texts_over texts.now B.content) (named_folder folder.entry))) }
-    ensures kept { S.content result.1.now ≡ B.content }
-    ensures counts { B.failures ≤ S.failures result.1.now }
-    ensures no_replace { S.replaces result.1.now ≡ B.replaces }
-    ensures asks { IfOk result.0 (λ project. (n : ℕ) × (S.reads result.1.now ≤ B.reads + n)
+    ensures same { result.ghost_name ≡ B.name }
+    ensures files { IfOk gathered.new (λ project. Finds (texts_over texts.now B.content) (named_folder folder.entry) (whole project.files)) }
+    ensures stopped { IfErr gathered.new (StopsAt B.failures (S.failures result.now) (Finds (texts_over texts.now B.content) (named_folder folder.entry))) }
+    ensures kept { S.content result.now ≡ B.content }
+    ensures counts { B.failures ≤ S.failures result.now }
+    ensures no_replace { S.replaces result.now ≡ B.replaces }
+    ensures asks { IfOk gathered.new (λ project. (n : ℕ) × (S.reads result.now ≤ B.reads + n)
         × ReadsFiles (texts_over texts.now B.content) (named_folder folder.entry) 0 project.files n) }
-    ensures asks_at_most { IfErr result.0 (λ fault. (n : ℕ) × (S.reads result.1.now ≤ B.reads + n)
+    ensures asks_at_most { IfErr gathered.new (λ fault. (n : ℕ) × (S.reads result.now ≤ B.reads + n)
         × StopsReading (texts_over texts.now B.content) (named_folder folder.entry) 0 n (unread_file fault)) }
 {
     let failures = store.failures();
@@ -46,9 +49,9 @@ fn gather_over<'a, S: Store, B: Below>(
         refused: 0,
         below: PhantomData,
     };
-    let gathered = gather(alloc, &mut laid, folder);
+    *gathered = gather(alloc, &mut laid, folder);
     let Overlaid { store, .. } = laid;
-    (gathered, store)
+    store
 }
 
 /// Reads the project in this folder as `gather` does, of a store in which each of these texts is the file of its name. The names are those in the store.
@@ -73,6 +76,8 @@ pub fn gather_with_texts<S: Store>(
     ensures asks_at_most { IfErr result (λ fault. (n : ℕ) × (S.reads store.new ≤ S.reads store.old + n)
         × StopsReading (texts_over texts.now (S.content store.old)) (named_folder folder.entry) 0 n (unread_file fault)) }
 {
-    let (gathered, _) = gather_over::<S, Brand>(alloc, store, folder, texts);
+    // Until it is gathered.
+    let mut gathered = Err(GatherFault::TooManyFiles);
+    gather_over::<S, Brand>(alloc, store, folder, texts, &mut gathered);
     gathered
 }

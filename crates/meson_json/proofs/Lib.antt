@@ -3,3 +3,4 @@ pub mod LogFacts
 pub mod LogLines
 pub mod ScriptFacts
 pub mod KnownFacts
+pub mod TextsFacts

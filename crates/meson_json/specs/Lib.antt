@@ -8,4 +8,5 @@ pub mod Titles
 pub mod Known
 pub mod Scripts
 pub mod Messages
+pub mod TextsFile
 pub mod Rows

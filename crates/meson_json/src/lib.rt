@@ -10,6 +10,7 @@ mod members;
 pub mod names;
 pub mod script;
 pub mod target;
+mod texts_file;
 mod title;
 mod version;
 
@@ -18,4 +19,5 @@ pub use log::{empty_log, history_text, read_log};
 pub use member_check::UnknownMembers;
 pub use members::owned;
 pub use script::Script;
+pub use texts_file::read_texts;
 pub use title::is_title;

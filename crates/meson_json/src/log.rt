@@ -147,7 +147,7 @@ fn whole_at(value: &Value, name: &str) -> Option<u64>
     value.get(name).and_then(Value::as_u64)
 }
 
-fn has_members(value: &Value, count: usize) -> bool
+pub(crate) fn has_members(value: &Value, count: usize) -> bool
     ensures { result ≡ has_members count (view value.now) }
 {
     match value.as_object() {

@@ -165,12 +165,12 @@ fn keep_owner_and_mode<F: OpenFile + AsFd>(
     new.set_permissions(old.permissions())
 }
 
-/// Writes the new file, and makes the device store its bytes. Says which file it is.
+/// Writes the new file, and makes the device store its bytes. Returns which file it is, if that is known.
 fn fill<F: Write + OpenFile + AsFd>(
     new: &mut F,
     old: Option<Metadata>,
     bytes: &[u8],
-) -> io::Result<FileId> {
+) -> io::Result<Option<FileId>> {
     let made = new.metadata()?;
     if let Some(old) = old {
         keep_owner_and_mode(new, &made, &old)?;
@@ -205,8 +205,8 @@ fn replaceable<R: Files>(
     path: &str,
 ) -> Result<Option<Metadata>, StoreError> {
     let old = known(fs::metadata(rt, path))?;
-    if let Some(old) = &old {
-        if replaced.has_by_other_name(FileId::of(old), name) {
+    if let Some(file) = old.as_ref().and_then(FileId::of) {
+        if replaced.has_by_other_name(file, name) {
             return Err(StoreError::Unchanged);
         }
     }

@@ -12,12 +12,13 @@ pub(crate) struct FileId {
 }
 
 impl FileId {
-    /// The file of which the system knows this.
-    pub(crate) fn of(known: &Metadata) -> Self {
-        FileId {
-            device: known.dev(),
-            inode: known.ino(),
+    /// The file of which the system knows this, or none if it gives files no numbers.
+    pub(crate) fn of(known: &Metadata) -> Option<Self> {
+        let (device, inode) = (known.dev(), known.ino());
+        if inode == 0 {
+            return None;
         }
+        Some(FileId { device, inode })
     }
 }
 
@@ -25,7 +26,7 @@ impl FileId {
 #[derive(Drop)]
 struct Replaced {
     name: String,
-    /// The new file; none until it has the name.
+    /// The new file; none until it has the name, or if it has no number.
     file: Option<FileId>,
 }
 
@@ -62,10 +63,10 @@ impl ReplacedFiles {
     }
 
     /// Keeps that this name got this file, if the name is expected. Does not allocate.
-    pub(crate) fn keep(&mut self, name: &str, file: FileId) {
+    pub(crate) fn keep(&mut self, name: &str, file: Option<FileId>) {
         for replaced in &mut self.names {
             if replaced.name.as_str() == name {
-                replaced.file = Some(file);
+                replaced.file = file;
             }
         }
     }
