@@ -1,5 +1,5 @@
 -- How a run of the program ends: what it says, and what the store then holds.
-use Rattle.std.specs.Prelude.{◌≡◌, ◌≢◌, ◌⊎◌, ◌||◌, ◌&&◌, ⊤, Bool, IsTrue, false, true, not, if◌then◌else◌, ℕ, List, [], Option, Some, None, Result, Ok, Err, IfErr}
+use Rattle.std.specs.Prelude.{◌≡◌, ◌≢◌, ◌⊎◌, ◌||◌, ⊤, Bool, IsTrue, false, true, if◌then◌else◌, ℕ, List, [], Option, Some, None, Result, Ok, Err, IfErr}
 use Rattle.std.specs.FinMap.{get}
 use Rattle.std.specs.List.{Contains}
 use Rattle.meson_calls.specs.Loading.{IsProject}
@@ -149,14 +149,14 @@ OnlyAsks (Ok a) = IsTrue (only_asks a.action || a.dry_run)
 
 -- ---- what is written
 
--- memory ran out while the words were read: then it is not known whether they want JSON
-abbrev pub left_words_unread : Stop → Bool
-left_words_unread (Usage usage.OutOfMemory) = true
-left_words_unread _ = false
+-- whether it is known that the words want JSON: not where memory ran out while they were read
+abbrev pub knows_json : Bool → Stop → Bool
+knows_json json (Usage usage.OutOfMemory) = false
+knows_json json stop = json
 
 -- why a run was stopped, as an object of JSON where it is known that the words want it, else as lines
 abbrev pub stopped_text : Bool → Stop → List ℕ
-stopped_text json stop = if json && not (left_words_unread stop) then line (stop_object stop) else stop_lines stop
+stopped_text json stop = if knows_json json stop then line (stop_object stop) else stop_lines stop
 
 -- What a run says is written to the writer of errors and to that of output. Why it was stopped is written to that of errors alone: lines, or an object of JSON.
 abbrev pub Says : Bool → Result Said Stop → Heard → Heard → Heard → Heard → Type 0

@@ -1,8 +1,9 @@
 //! The lines that the program writes.
 
-ghost use Rattle.std.specs.Prelude.{◌≡◌, IfOk, MatchResult, codes, decimal};
-ghost use Rattle.meson_rewrite.specs.Lines.{done_line, forgot_line, left_by, left_lines, title_line, version_line};
-ghost use Rattle.meson_rewrite.specs.Runs.{left_words_unread, stopped_text};
+ghost use Rattle.std.specs.Prelude.{◌≡◌, IfOk, MatchResult, codes, decimal, if◌then◌else◌};
+ghost use Rattle.meson_rewrite.specs.Lines.{done_line, forgot_line, left_by, left_lines, line, stop_lines, title_line, version_line};
+ghost use Rattle.meson_rewrite.specs.Refused.{stop_object};
+ghost use Rattle.meson_rewrite.specs.Runs.{knows_json, stopped_text};
 ghost use Rattle.meson_rewrite.specs.Steps.{step_lines};
 ghost use Rattle.meson_store.specs.Output.{Gets, Fails};
 
@@ -39,11 +40,34 @@ fn tell_left<O: Output>(alloc: Global, to: &mut O, names: &[Text]) -> io::Result
     Ok(())
 }
 
-/// Whether memory ran out while the words were read: then it is not known whether they want JSON.
-fn left_words_unread(stop: &Stop) -> bool
-    ensures { result ≡ left_words_unread stop.now }
+/// Writes why a run was stopped, as lines.
+fn tell_lines<O: Output>(alloc: Global, to: &mut O, stop: &Stop) -> io::Result<()>
+    ensures { MatchResult result (λ _. Gets (O.heard to.old) (O.heard to.new) (stop_lines stop.now))
+        (λ _. Fails (O.heard to.old) (O.heard to.new)) }
 {
-    matches!(stop, Stop::Usage(UsageFault::OutOfMemory))
+    to.tell_line(alloc, &format_args!("error: {stop}"))?;
+    tell_left(alloc, to, left_by(stop))
+}
+
+/// Writes why a run was stopped, as an object of JSON or as lines.
+fn tell_stop_as<O: Output>(alloc: Global, to: &mut O, json: bool, stop: &Stop) -> io::Result<()>
+    ensures { MatchResult result (λ _. Gets (O.heard to.old) (O.heard to.new) (if json then line (stop_object stop.now) else stop_lines stop.now))
+        (λ _. Fails (O.heard to.old) (O.heard to.new)) }
+{
+    if json {
+        return tell_refused(alloc, to, stop);
+    }
+    tell_lines(alloc, to, stop)
+}
+
+/// Whether it is known that the words want JSON: not where memory ran out while they were read.
+fn knows_json(json: bool, stop: &Stop) -> bool
+    ensures { result ≡ knows_json json stop.now }
+{
+    match stop {
+        Stop::Usage(UsageFault::OutOfMemory) => false,
+        _ => json,
+    }
 }
 
 /// Writes why a run was stopped: an object of JSON where it is known that the words want it, else lines.
@@ -56,11 +80,7 @@ pub(crate) fn tell_stop<O: Output>(
     ensures { MatchResult result (λ _. Gets (O.heard to.old) (O.heard to.new) (stopped_text json stop.now))
         (λ _. Fails (O.heard to.old) (O.heard to.new)) }
 {
-    if json && !left_words_unread(stop) {
-        return tell_refused(alloc, to, stop);
-    }
-    to.tell_line(alloc, &format_args!("error: {stop}"))?;
-    tell_left(alloc, to, left_by(stop))
+    tell_stop_as(alloc, to, knows_json(json, stop), stop)
 }
 
 /// The line that says what a run did.

@@ -7,18 +7,18 @@ use Rattle.meson_rewrite.proofs.program.rewrite.Goals as goal
 
 pub returns-clause-runs : goal.returns-clause-runs
 returns-clause-runs g c = record {
-  end = c.run.result.end;
-  ends = c.run.ensures.ends;
-  tells = told-wanted _ _ _ _ _ c.run.result.json (wants_json (map string_bytes c.args.words.now)) c.run.result.end c.run.ensures.json c.ended-status.ensures;
-  kept = run-untold _ _ _ _ c.run.ensures.ends;
-  may_read = c.run.ensures.reads;
+  end = c.run-end.result.end;
+  ends = c.run-end.ensures.ends;
+  tells = told-wanted _ _ _ _ _ c.run-end.result.json (wants_json (map string_bytes c.args.words.now)) c.run-end.result.end c.run-end.ensures.json c.ended-status.ensures;
+  kept = run-untold _ _ _ _ c.run-end.ensures.ends;
+  may_read = c.run-end.ensures.reads;
 }
 
 pub returns-clause-asking : goal.returns-clause-asking
-returns-clause-asking g c = λ t. asking-keeps _ _ _ _ c.run.ensures.ends t
+returns-clause-asking g c = λ t. asking-keeps _ _ _ _ c.run-end.ensures.ends t
 
 pub returns-clause-kept : goal.returns-clause-kept
-returns-clause-kept g c = λ s. told-keeps _ _ _ _ _ _ _ _ _ _ c.run.ensures.ends c.ended-status.ensures s
+returns-clause-kept g c = λ s. told-keeps _ _ _ _ _ _ _ _ _ _ c.run-end.ensures.ends c.ended-status.ensures s
 
 pub returns-clause-reads_all : goal.returns-clause-reads_all
-returns-clause-reads_all g c = λ s. told-reads _ _ _ _ _ _ c.run.result.end _ c.run.ensures.reads_all c.ended-status.ensures s
+returns-clause-reads_all g c = λ s. told-reads _ _ _ _ _ _ c.run-end.result.end _ c.run-end.ensures.reads_all c.ended-status.ensures s
