@@ -37,6 +37,9 @@ with_function f c = if calls_function f c then Some c else None
 abbrev pub calls_of : {S : Type 0} → Project S → List ℕ → List CallRef
 calls_of p f = places (all_chosen (with_function f) (calls p))
 
+abbrev pub calls_held : Loaded → List ℕ → List HeldCall
+calls_held l f = held_calls l (calls_of (project l) f)
+
 -- ---- what a project holds
 
 -- whether a `subdir` call enters one of the files: its folder is a plain literal, and that file is among them
@@ -50,7 +53,7 @@ abbrev pub targets_held : Loaded → List HeldCall
 targets_held l = held_calls l (targets (project l))
 
 abbrev pub subdirs_held : Loaded → List HeldCall
-subdirs_held l = not_entered l.files (held_calls l (calls_of (project l) (codes "subdir")))
+subdirs_held l = not_entered l.files (calls_held l (codes "subdir"))
 
 abbrev pub holdings : Loaded → Holdings
 holdings l = record { targets = targets_held l; not_entered = subdirs_held l }

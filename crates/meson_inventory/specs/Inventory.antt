@@ -6,7 +6,7 @@ use Rattle.meson_splice.specs.declared.file_set.File.{File}
 use Rattle.meson_splice.specs.Files.{bytes_at}
 use Rattle.meson_calls.specs.Loading.{Loaded, name_of_file}
 use Rattle.meson_listing.specs.Entries.{text_or_null}
-use Rattle.meson_inventory.specs.Holdings.{holdings}
+use Rattle.meson_inventory.specs.Holdings.{calls_held, holdings}
 use Rattle.meson_inventory.specs.declared.holdings.HeldCall.{HeldCall}
 
 -- ---- as JSON
@@ -59,3 +59,7 @@ abbrev pub project_lines : Loaded → List ℕ
 project_lines l =
     flat_map (call_line l.files []) (holdings l).targets ++ (flat_map file_line l.files
     ++ flat_map (call_line l.files (codes ", not entered")) (holdings l).not_entered)
+
+-- a line for each call of a function
+abbrev pub calls_lines : Loaded → List ℕ → List ℕ
+calls_lines l function = flat_map (call_line l.files []) (calls_held l function)

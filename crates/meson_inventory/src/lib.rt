@@ -10,5 +10,5 @@ mod placed;
 mod position_counter;
 
 pub use inventory::project_object;
-pub use lines::project_lines;
-pub use placed::placed_project_object;
+pub use lines::{calls_lines, project_lines};
+pub use placed::{calls_object, placed_project_object};
