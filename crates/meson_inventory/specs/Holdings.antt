@@ -37,7 +37,6 @@ with_function f c = if calls_function f c then Some c else None
 abbrev pub calls_of : {S : Type 0} → Project S → List ℕ → List CallRef
 calls_of p f = places (all_chosen (with_function f) (calls p))
 
--- those of a function
 abbrev pub calls_held : Loaded → List ℕ → List HeldCall
 calls_held l f = held_calls l (calls_of (project l) f)
 

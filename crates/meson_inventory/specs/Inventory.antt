@@ -31,10 +31,6 @@ project_data l =
     (member (codes "not_entered") (array (items_of (map (spot_data l.files) (holdings l).not_entered)))
     (member (codes "targets") (array (items_of (map (held_data l.files) (holdings l).targets))) no_members)))
 
--- the calls of a function
-abbrev pub calls_data : Loaded → List ℕ → Data
-calls_data l f = object (member (codes "calls") (array (items_of (map (held_data l.files) (calls_held l f)))) no_members)
-
 -- ---- as lines
 
 -- the number of the line of the byte at an offset, counted from 1: each line feed (10) before it ends a line
@@ -66,4 +62,4 @@ project_lines l =
 
 -- a line for each call of a function
 abbrev pub calls_lines : Loaded → List ℕ → List ℕ
-calls_lines l f = flat_map (call_line l.files []) (calls_held l f)
+calls_lines l function = flat_map (call_line l.files []) (calls_held l function)

@@ -7,7 +7,7 @@ use Rattle.meson_splice.specs.Files.{bytes_at}
 use Rattle.meson_ranges.specs.Positions.{position_of}
 use Rattle.meson_calls.specs.Loading.{Loaded, name_of_file}
 use Rattle.meson_listing.specs.Entries.{text_or_null}
-use Rattle.meson_inventory.specs.Holdings.{holdings}
+use Rattle.meson_inventory.specs.Holdings.{calls_held, holdings}
 use Rattle.meson_inventory.specs.Inventory.{file_data}
 use Rattle.meson_inventory.specs.declared.holdings.HeldCall.{HeldCall}
 
@@ -44,3 +44,7 @@ placed_project_data l =
     object (member (codes "files") (array (items_of (map file_data l.files)))
     (member (codes "not_entered") (array (items_of (map (placed_spot_data l.files) (holdings l).not_entered)))
     (member (codes "targets") (array (items_of (map (placed_call_data l.files) (holdings l).targets))) no_members)))
+
+-- the calls of a function, of any name
+abbrev pub calls_data : Loaded → List ℕ → Data
+calls_data l function = object (member (codes "calls") (array (items_of (map (placed_call_data l.files) (calls_held l function)))) no_members)

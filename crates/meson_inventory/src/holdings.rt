@@ -104,20 +104,6 @@ fn held_calls(
     Ok(Many::of(calls))
 }
 
-/// The calls of a function, among the notes of a project.
-pub(crate) fn calls_held(
-    alloc: Global,
-    project: &Project,
-    function: &[u8],
-    notes: &[Note<'_, '_>],
-) -> Result<Many<HeldCall>, AllocError>
-    requires { AreAllNotes project.now (note_views notes.now) }
-    ensures { IfOk result (λ calls. calls ≡ calls_held project.now function.now) }
-{
-    let places = calls_of(alloc, function, notes)?;
-    held_calls(alloc, project, places.as_slice())
-}
-
 /// Whether a `subdir` call enters one of the files.
 fn enters_one(
     alloc: Global,
@@ -167,6 +153,34 @@ fn targets_held(
     held_calls(alloc, project, places.as_slice())
 }
 
+/// The calls of a function, among the notes of a project.
+fn calls_among(
+    alloc: Global,
+    project: &Project,
+    function: &[u8],
+    notes: &[Note<'_, '_>],
+) -> Result<Many<HeldCall>, AllocError>
+    requires { AreAllNotes project.now (note_views notes.now) }
+    ensures { IfOk result (λ calls. calls ≡ calls_held project.now function.now) }
+{
+    let places = calls_of(alloc, function, notes)?;
+    held_calls(alloc, project, places.as_slice())
+}
+
+/// The calls of a function of a project, in file order and source order.
+pub(crate) fn calls_held(
+    alloc: Global,
+    project: &Project,
+    function: &str,
+) -> Result<Many<HeldCall>, AllocError>
+    ensures { IfOk result (λ calls. calls ≡ calls_held project.now function.now) }
+{
+    project.reads();
+    let taken = notes_of(alloc, project.files(), project.trees())?;
+    let notes = taken.all(alloc)?;
+    calls_among(alloc, project, function.as_bytes(), notes.as_slice())
+}
+
 /// The `subdir` calls that enter none of the files, among the notes of a project.
 fn subdirs_held(
     alloc: Global,
@@ -177,7 +191,7 @@ fn subdirs_held(
     ensures { IfOk result (λ calls. calls ≡ subdirs_held project.now) }
 {
     project.reads();
-    let calls = calls_held(alloc, project, b"subdir".as_slice(), notes)?;
+    let calls = calls_among(alloc, project, b"subdir".as_slice(), notes)?;
     not_entered(alloc, project.files(), calls)
 }
 

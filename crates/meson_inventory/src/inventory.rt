@@ -46,11 +46,7 @@ fn call_value(alloc: Global, files: &FileSet, call: HeldCall) -> Result<Value, A
 }
 
 /// Calls, with their names.
-pub(crate) fn calls_value(
-    alloc: Global,
-    files: &FileSet,
-    calls: Many<HeldCall>,
-) -> Result<Value, AllocError>
+fn calls_value(alloc: Global, files: &FileSet, calls: Many<HeldCall>) -> Result<Value, AllocError>
     ensures { IfOk result (λ v. view v ≡ array (items_of (map (held_data files.now) calls))) }
 {
     let mut list = Vec::new(alloc);

@@ -1,7 +1,6 @@
-//! What a project holds: its files, its targets, the `subdir` calls that enter none of its files, and the calls of any function; as JSON and as lines.
+//! What a project holds: its files, its targets, and the `subdir` calls that enter none of its files, as JSON and as lines.
 #![tactic(auto)]
 
-mod calls;
 mod holdings;
 mod inventory;
 pub mod laws;
@@ -10,7 +9,6 @@ mod lines;
 mod placed;
 mod position_counter;
 
-pub use calls::{calls_lines, calls_object};
 pub use inventory::project_object;
-pub use lines::project_lines;
-pub use placed::placed_project_object;
+pub use lines::{calls_lines, project_lines};
+pub use placed::{calls_object, placed_project_object};

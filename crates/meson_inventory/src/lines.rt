@@ -2,9 +2,9 @@
 
 ghost use Rattle.std.specs.Prelude.{◌≡◌, IfOk, flat_map, string_bytes};
 ghost use Rattle.meson_splice.specs.Files.{bytes_at};
-ghost use Rattle.meson_inventory.specs.Inventory.{call_line, file_line, line_number, named_part, project_lines, variable_part};
+ghost use Rattle.meson_inventory.specs.Inventory.{call_line, calls_lines, file_line, line_number, named_part, project_lines, variable_part};
 
-use crate::holdings::{HeldCall, holdings_of};
+use crate::holdings::{HeldCall, calls_held, holdings_of};
 use crate::line_counter::LineCounter;
 use meson_listing::entries::file_name;
 use meson_plan::Project;
@@ -56,7 +56,7 @@ fn call_line(
 }
 
 /// The lines of some calls; each says more at its end.
-pub(crate) fn call_lines(
+fn call_lines(
     alloc: Global,
     files: &FileSet,
     more: &str,
@@ -102,4 +102,15 @@ pub fn project_lines(alloc: Global, project: &Project) -> Result<String, AllocEr
     let left = call_lines(alloc, files, ", not entered", held.not_entered.get())?;
     text.push_str(left.as_str())?;
     Ok(text)
+}
+
+/// The calls of a function, of any name, in lines of the form `FILE:LINE: WHAT`, with the number of the line counted from 1.
+///
+/// # Errors
+/// Out of memory.
+pub fn calls_lines(alloc: Global, project: &Project, function: &str) -> Result<String, AllocError>
+    ensures { IfOk result (λ text. string_bytes text ≡ calls_lines project.now function.now) }
+{
+    let calls = calls_held(alloc, project, function)?;
+    call_lines(alloc, project.files(), "", calls.get())
 }

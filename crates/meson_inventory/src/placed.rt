@@ -4,9 +4,9 @@ ghost use Rattle.std.specs.Prelude.{◌≡◌, IfOk, codes, map};
 ghost use Rattle.serde_json.specs.Data.{array, member, no_members, object, string};
 ghost use Rattle.serde_json.specs.View.{items_of, members_view, view};
 ghost use Rattle.meson_calls.specs.Loading.{name_of_file};
-ghost use Rattle.meson_inventory.specs.Placed.{character_at, count, end_data, line_at, placed_call_data, placed_project_data, placed_spot_data};
+ghost use Rattle.meson_inventory.specs.Placed.{calls_data, character_at, count, end_data, line_at, placed_call_data, placed_project_data, placed_spot_data};
 
-use crate::holdings::{HeldCall, Holdings, holdings_of};
+use crate::holdings::{HeldCall, Holdings, calls_held, holdings_of};
 use crate::inventory::files_value;
 use crate::position_counter::PositionCounter;
 use meson_listing::entries::{file_name, text_or_null};
@@ -141,6 +141,24 @@ pub fn placed_project_object(alloc: Global, project: &Project) -> Result<Value, 
         alloc,
         "targets",
         calls_value(alloc, files, targets)?,
+    )?;
+    Ok(Value::Object(members))
+}
+
+/// The calls of a function, of any name, with their places and their names: an object with the member `calls`.
+///
+/// # Errors
+/// Out of memory.
+pub fn calls_object(alloc: Global, project: &Project, function: &str) -> Result<Value, AllocError>
+    ensures { IfOk result (λ v. view v ≡ calls_data project.now function.now) }
+{
+    let calls = calls_held(alloc, project, function)?;
+    let mut members = Map::new(alloc);
+    put(
+        &mut members,
+        alloc,
+        "calls",
+        calls_value(alloc, project.files(), calls)?,
     )?;
     Ok(Value::Object(members))
 }

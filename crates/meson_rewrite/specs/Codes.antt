@@ -48,14 +48,14 @@ lex_code (lex.OpenString at) = codes "L2"
 lex_code (lex.BadNumber at) = codes "L3"
 lex_code (lex.BareCarriageReturn at) = codes "L4"
 
-abbrev pub parse_code : ParseFault → List ℕ
-parse_code parse.TooLarge = codes "S1"
-parse_code parse.NotUtf8 = codes "S2"
-parse_code parse.ByteOrderMark = codes "S3"
-parse_code (parse.Lex fault) = lex_code fault
-parse_code (parse.Unexpected at) = codes "S5"
-parse_code (parse.TooDeep at) = codes "S6"
-parse_code parse.OutOfMemory = memory_code
+abbrev pub file_fault_code : ParseFault → List ℕ
+file_fault_code parse.TooLarge = codes "S1"
+file_fault_code parse.NotUtf8 = codes "S2"
+file_fault_code parse.ByteOrderMark = codes "S3"
+file_fault_code (parse.Lex fault) = lex_code fault
+file_fault_code (parse.Unexpected at) = codes "S5"
+file_fault_code (parse.TooDeep at) = codes "S6"
+file_fault_code parse.OutOfMemory = memory_code
 
 abbrev pub refusal_code : Refusal → List ℕ
 refusal_code refusal.NoProject = codes "C1"
@@ -96,7 +96,7 @@ store_code store.OutOfMemory = memory_code
 abbrev pub stop_code : Stop → List ℕ
 stop_code (Usage fault) = usage_code fault
 stop_code (Script fault) = script_code fault
-stop_code (Parse name fault) = parse_code fault
+stop_code (Parse name fault) = file_fault_code fault
 stop_code TooManyFiles = codes "M1"
 stop_code (BadFileName place) = codes "M2"
 stop_code (Refused fault) = refusal_code fault.refusal

@@ -30,11 +30,11 @@ lex_offset (lex.OpenString at) = at
 lex_offset (lex.BadNumber at) = at
 lex_offset (lex.BareCarriageReturn at) = at
 
-abbrev pub parse_offset : ParseFault → Option ℕ
-parse_offset (parse.Lex fault) = Some (lex_offset fault)
-parse_offset (parse.Unexpected at) = Some at
-parse_offset (parse.TooDeep at) = Some at
-parse_offset _ = None
+abbrev pub file_fault_offset : ParseFault → Option ℕ
+file_fault_offset (parse.Lex fault) = Some (lex_offset fault)
+file_fault_offset (parse.Unexpected at) = Some at
+file_fault_offset (parse.TooDeep at) = Some at
+file_fault_offset _ = None
 
 abbrev pub splice_offset : SpliceFault → Option ℕ
 splice_offset (splice.OutOfRange file at) = Some at
@@ -42,7 +42,7 @@ splice_offset (splice.Stale file at) = Some at
 splice_offset _ = None
 
 abbrev pub stop_offset : Stop → Option ℕ
-stop_offset (Parse name fault) = parse_offset fault
+stop_offset (Parse name fault) = file_fault_offset fault
 stop_offset (Splice fault) = splice_offset fault
 stop_offset _ = None
 

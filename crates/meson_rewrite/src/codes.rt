@@ -1,7 +1,7 @@
 //! The codes of the reasons for which a run is stopped.
 
 ghost use Rattle.std.specs.Prelude.{◌≡◌};
-ghost use Rattle.meson_rewrite.specs.Codes.{lex_code, parse_code, refusal_code, script_code, splice_code, stop_code, store_code, usage_code};
+ghost use Rattle.meson_rewrite.specs.Codes.{lex_code, file_fault_code, refusal_code, script_code, splice_code, stop_code, store_code, usage_code};
 
 use crate::stop::Stop;
 use meson_command::UsageFault;
@@ -57,8 +57,8 @@ fn lex_code(fault: LexFault) -> &'static str
     }
 }
 
-fn parse_code(fault: ParseFault) -> &'static str
-    ensures { result.now ≡ parse_code fault }
+fn file_fault_code(fault: ParseFault) -> &'static str
+    ensures { result.now ≡ file_fault_code fault }
 {
     match fault {
         ParseFault::TooLarge => "S1",
@@ -129,7 +129,7 @@ pub(crate) fn code_of(stop: &Stop) -> &'static str
     match stop {
         Stop::Usage(fault) => usage_code(fault),
         Stop::Script(fault) => script_code(fault),
-        Stop::Parse { fault, .. } => parse_code(*fault),
+        Stop::Parse { fault, .. } => file_fault_code(*fault),
         Stop::TooManyFiles => "M1",
         Stop::BadFileName(_) => "M2",
         Stop::Refused(fault) => refusal_code(&fault.refusal),

@@ -5,7 +5,7 @@ ghost use Rattle.serde_json.specs.Data.{array, string};
 ghost use Rattle.serde_json.specs.View.{items_of};
 ghost use Rattle.serde_json.specs.Written.{compact_text};
 ghost use Rattle.meson_rewrite.specs.Lines.{line};
-ghost use Rattle.meson_rewrite.specs.Refused.{lex_offset, parse_offset, refusal_subject, stop_command, stop_entry, stop_file, stop_left, stop_name, stop_object, stop_offset};
+ghost use Rattle.meson_rewrite.specs.Refused.{lex_offset, file_fault_offset, refusal_subject, stop_command, stop_entry, stop_file, stop_left, stop_name, stop_object, stop_offset};
 ghost use Rattle.meson_store.specs.Output.{Fails, Gets};
 
 use crate::codes::code_of;
@@ -34,8 +34,8 @@ fn lex_offset(fault: LexFault) -> usize
 }
 
 /// The offset of the place, if the fault has one.
-fn parse_offset(fault: ParseFault) -> Option<usize>
-    ensures { result ≡ parse_offset fault }
+fn file_fault_offset(fault: ParseFault) -> Option<usize>
+    ensures { result ≡ file_fault_offset fault }
 {
     match fault {
         ParseFault::Lex(fault) => Some(lex_offset(fault)),
@@ -64,7 +64,7 @@ impl Stop {
         ensures { result ≡ stop_offset self.now }
     {
         match self {
-            Stop::Parse { fault, .. } => parse_offset(*fault),
+            Stop::Parse { fault, .. } => file_fault_offset(*fault),
             Stop::Splice(SpliceFault::OutOfRange(_, at) | SpliceFault::Stale(_, at)) => Some(*at),
             _ => None,
         }
@@ -105,12 +105,11 @@ impl Stop {
         ensures { option_map (λ name. name.now) result ≡ stop_file self.now }
     {
         match self {
-            Stop::Parse {
-                fault: ParseFault::OutOfMemory,
-                ..
-            } => None,
-            Stop::Parse { name, .. }
-            | Stop::Splice(
+            Stop::Parse { name, fault } => match fault {
+                ParseFault::OutOfMemory => None,
+                _ => Some(name.get()),
+            },
+            Stop::Splice(
                 SpliceFault::NoFile(name)
                 | SpliceFault::OutOfRange(name, _)
                 | SpliceFault::Stale(name, _),

@@ -1,24 +1,8 @@
-use Rattle.std.proofs.Common.{◌∙◌, ap, subst, sym}
-use Rattle.std.specs.Prelude.{All}
-use Rattle.std.proofs.lemmas.Result.{IfOk-weaker}
-use Rattle.meson_calls.specs.Loading.{project}
-use Rattle.meson_calls.specs.ChosenNotes.{places_that}
-use Rattle.meson_inventory.specs.Holdings.{held_calls}
-use Rattle.meson_inventory.specs.inside.Holdings.{IsCall, note_calls}
-use Rattle.meson_inventory.proofs.CallPlacesListed.{function_places}
-use Rattle.meson_inventory.proofs.CallsHeld.{calls_called}
+use Rattle.std.proofs.Common.{◌∙◌, ap, ap₂}
+use Rattle.meson_calls.specs.Loading.{named_trees, views}
+use Rattle.meson_calls.specs.Notes.{note_views, notes}
 use Rattle.meson_inventory.proofs.holdings.calls_held.Goals as goal
 
-pub held_calls-requires : goal.held_calls-requires
-held_calls-requires c =
-    let l = c.args.project.now in
-    let f = c.args.function.now in
-    let are = c.as_slice.ensures.value ∙ c.in_ok-places.ensures ∙ ap (places_that (note_calls f)) c.requires ∙ function_places f (project l) in
-    subst (All (IsCall l)) (sym are) (calls_called l f)
-
-pub returns : goal.returns
-returns c =
-    let l = c.args.project.now in
-    let f = c.args.function.now in
-    let are = c.as_slice.ensures.value ∙ c.in_ok-places.ensures ∙ ap (places_that (note_calls f)) c.requires ∙ function_places f (project l) in
-    IfOk-weaker c.held_calls.result _ _ (λ calls is. is ∙ ap (held_calls l) are) c.held_calls.ensures
+pub calls_among-requires : goal.calls_among-requires
+calls_among-requires c =
+    ap note_views c.as_slice.ensures.value ∙ c.in_ok-notes.ensures ∙ c.in_ok-taken.ensures ∙ ap₂ (λ fs ts. notes (named_trees fs (views fs ts))) c.files.ensures c.trees.ensures
