@@ -1,5 +1,5 @@
 -- The code of a refusal is the word of its line after the place.
-use Rattle.std.proofs.Common.{◌≡◌, ℕ, List, [], ◌∷◌, ◌++◌, Option, None, Some, codes, decimal, inl, inr, refl, sym, ap, ◌∙◌, append_assoc, append-nil, ◌⊎◌}
+use Rattle.std.proofs.Common.{◌≡◌, ℕ, List, [], ◌++◌, Some, codes, decimal, inl, inr, refl, sym, ap, ◌∙◌, append_assoc, append-nil, ◌⊎◌}
 use Rattle.meson_lex.specs.declared.fault.LexFault.{LexFault}
 use Rattle.meson_lex.specs.declared.fault.LexFault.TheVariants as lex
 use Rattle.meson_syntax.specs.declared.fault.ParseFault.{ParseFault}
@@ -8,15 +8,13 @@ use Rattle.meson_splice.specs.declared.fault.SpliceFault.{SpliceFault}
 use Rattle.meson_splice.specs.declared.fault.SpliceFault.TheVariants as splice
 use Rattle.meson_calls.specs.declared.refusal.Refusal.{Refusal}
 use Rattle.meson_calls.specs.declared.refusal.Refusal.TheVariants as refusal
-use Rattle.meson_calls.specs.Messages.{refusal_text}
 use Rattle.meson_json.specs.declared.fault.ScriptFault.{ScriptFault}
 use Rattle.meson_json.specs.declared.fault.ScriptFault.TheVariants as script
-use Rattle.meson_script.specs.declared.fault.RunFault.{RunFault}
 use Rattle.meson_command.specs.declared.fault.UsageFault.{UsageFault}
 use Rattle.meson_command.specs.declared.fault.UsageFault.TheVariants as usage
 use Rattle.meson_store.specs.declared.store_fault.StoreFault.{StoreFault}
 use Rattle.meson_store.specs.declared.store_fault.StoreFault.TheVariants as store
-use Rattle.meson_rewrite.specs.Codes.{memory_code, refusal_code, stop_code}
+use Rattle.meson_rewrite.specs.Codes.{memory_code, stop_code}
 use Rattle.meson_rewrite.specs.Lines.{stop_text}
 use Rattle.meson_rewrite.specs.RefusalLaws.{CodesAreWords, HasCode, numbered_place}
 use Rattle.meson_rewrite.specs.declared.stop.Stop.{Stop}

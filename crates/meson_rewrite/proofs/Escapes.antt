@@ -1,9 +1,8 @@
 -- What is written for a character of a JSON string.
-use Rattle.std.proofs.Common.{◌≡◌, ◌≢◌, ℕ, zero, suc, ◌<◌, ◌≤◌, ◌/◌, ◌%◌, ◌^◌, ◌-◌, Bool, true, false, cond, List, [], ◌∷◌, ◌++◌, length, get_or, inl, inr, refl, sym, ap, ap₂, ◌∙◌, subst, arith, append-nil, encode_utf8, lit<, nat_lt, ◌==◌}
-use Rattle.std.proofs.lemmas.Bool.{cases_lt, cases_eq, lt-ltb, eqb-true}
+use Rattle.std.proofs.Common.{◌≡◌, ℕ, suc, ◌<◌, ◌≤◌, ◌^◌, ◌-◌, true, false, List, [], ◌∷◌, ◌++◌, length, get_or, inl, inr, refl, sym, ap₂, ◌∙◌, subst, arith, append-nil, encode_utf8, lit<, nat_lt}
+use Rattle.std.proofs.lemmas.Bool.{cases_lt, lt-ltb}
 use Rattle.std.proofs.lemmas.Fmt.{hex_byte}
 use Rattle.std.proofs.lemmas.Str.{encode_ascii, inside_one}
-use Rattle.std.specs.Char.{digit_char}
 use Rattle.std.specs.Fmt.{digits, format_spec, padded_integral}
 use Rattle.json.specs.Print.{escape, escape_byte, escape_letter}
 use Rattle.json.proofs.Printed.Strings.{escape_byte_plain}

@@ -1,11 +1,8 @@
 -- What is found in the object of a refusal.
 use Rattle.std.proofs.Common.{◌≡◌, ℕ, List, Option, None, Some, codes, refl, ◌∙◌}
-use Rattle.serde_json.specs.Data.{Data, Members, member, no_members, object, string}
+use Rattle.serde_json.specs.Data.{Data, Members, member}
 use Rattle.serde_json.specs.Find.{get_member}
-use Rattle.serde_json.proofs.OnLiterals.{serde_json_on_literals}
-use Rattle.meson_rewrite.specs.Codes.{stop_code}
-use Rattle.meson_rewrite.specs.Lines.{stop_text}
-use Rattle.meson_rewrite.specs.Refused.{stop_command, stop_entry, stop_file, stop_left, stop_name, stop_offset, with_number, with_text, with_texts}
+use Rattle.meson_rewrite.specs.Refused.{stop_command, stop_entry, stop_file, stop_left, stop_offset, with_number, with_text, with_texts}
 use Rattle.meson_rewrite.specs.RefusalLaws.{MembersAreWords}
 
 -- a member with the one key is passed in search of the other

@@ -1,8 +1,7 @@
 -- The text of the object of a refusal, member after member.
-use Rattle.std.proofs.Common.{◌≡◌, ℕ, List, [], ◌∷◌, ◌++◌, Option, None, Some, Bool, true, false, codes, decimal, map, refl, sym, ap, ◌∙◌, append_assoc}
+use Rattle.std.proofs.Common.{◌≡◌, ℕ, List, [], ◌∷◌, ◌++◌, Option, None, Some, true, false, codes, decimal, refl, sym, ap, ◌∙◌, append_assoc}
 use Rattle.json.specs.Print.{escape_byte, quoted}
-use Rattle.serde_json.specs.Data.{Data, Members, array, member, no_members, object, string}
-use Rattle.serde_json.specs.View.{items_of}
+use Rattle.serde_json.specs.Data.{Members, member, no_members, object, string}
 use Rattle.serde_json.specs.Written.{compact_text, members_text}
 use Rattle.meson_rewrite.specs.Codes.{stop_code}
 use Rattle.meson_rewrite.specs.Lines.{stop_text}

@@ -1,7 +1,7 @@
 -- What is promised of the object of a refusal, in the words of its line.
 use Rattle.std.specs.Prelude.{◌≡◌, ◌⊎◌, ℕ, false, List, [], ◌∷◌, ◌++◌, ◌==◌, codes, decimal, Option, None, Some}
 use Rattle.std.specs.List.{list_any}
-use Rattle.serde_json.specs.Data.{Data, Members, object, string}
+use Rattle.serde_json.specs.Data.{object, string}
 use Rattle.serde_json.specs.Find.{get}
 use Rattle.meson_rewrite.specs.Codes.{memory_code, stop_code}
 use Rattle.meson_rewrite.specs.Lines.{stop_text}

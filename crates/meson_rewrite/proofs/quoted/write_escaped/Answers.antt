@@ -1,6 +1,4 @@
-use Rattle.std.proofs.Common.{◌≡◌, ℕ, List, [], ◌∷◌, refl, sym, subst, encode_utf8}
 use Rattle.std.proofs.Output.{has_written_of_eq}
-use Rattle.json.specs.Print.{escape, escape_byte}
 use Rattle.meson_rewrite.proofs.Escapes.{with_letter, with_digits, as_it_is}
 use Rattle.meson_rewrite.proofs.quoted.write_escaped.Goals as goal
 

@@ -1,5 +1,4 @@
 use Rattle.std.proofs.Output.{has_written_of_eq}
-use Rattle.json.specs.Print.{escape_byte}
 use Rattle.meson_rewrite.proofs.RefusalObjects.{parts_are_object}
 use Rattle.meson_rewrite.proofs.refused.RefusedDisplay.fmt.Goals as goal
 
