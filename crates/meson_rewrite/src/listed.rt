@@ -32,11 +32,7 @@ fn holdings_text(alloc: Global, project: &Project, json: bool) -> Result<Vec<u8>
 }
 
 /// The content of a listing of a session, as JSON.
-fn listed_object(
-    alloc: Global,
-    session: &Session,
-    listing: Listing,
-) -> Result<Value, AllocError>
+fn listed_object(alloc: Global, session: &Session, listing: Listing) -> Result<Value, AllocError>
     ensures { IfOk result (λ v. view v ≡ listed_data listing session.now) }
 {
     match listing {

@@ -284,12 +284,7 @@ fn object_of(alloc: Global, session: &mut Session, step: &Step) -> Result<Said, 
 }
 
 /// What is to be said for a step on a borrowed session that only reports.
-fn told_of(
-    alloc: Global,
-    session: &mut Session,
-    step: &Step,
-    json: bool,
-) -> Result<Said, Stop>
+fn told_of(alloc: Global, session: &mut Session, step: &Step, json: bool) -> Result<Said, Stop>
     requires { IsTitled step.now }
     ensures told { IfOk result (OnlyTells session.old step.now json) }
     ensures refused { IfErr result (λ why. WantsMemory why ⊎ MayRefuseStep step.now session.old why) }
@@ -322,12 +317,7 @@ pub(crate) fn told(
 }
 
 /// What is to be said for a step on a borrowed session, if it is shown and not done.
-fn shown_of(
-    alloc: Global,
-    session: &mut Session,
-    step: &Step,
-    json: bool,
-) -> Result<Said, Stop>
+fn shown_of(alloc: Global, session: &mut Session, step: &Step, json: bool) -> Result<Said, Stop>
     requires { IsTitled step.now }
     ensures shown { IfOk result (IsShown session.old step.now json) }
     ensures refused { IfErr result (λ why. WantsMemory why ⊎ MayRefuseStep step.now session.old why) }
