@@ -4,17 +4,21 @@ ghost use Rattle.std.specs.Prelude.{◌≡◌, IfOk, codes, map};
 ghost use Rattle.serde_json.specs.Data.{array, member, no_members, object, string};
 ghost use Rattle.serde_json.specs.View.{items_of, members_view, view};
 ghost use Rattle.meson_calls.specs.Loading.{name_of_file};
-ghost use Rattle.meson_inventory.specs.Placed.{calls_data, character_at, count, end_data, line_at, placed_call_data, placed_project_data, placed_spot_data};
+ghost use Rattle.meson_inventory.specs.Placed.{bytes_data, calls_data, character_at, count, end_data, line_at, placed_call_data, placed_project_data, placed_spot_data, unentered_data};
 
 use crate::holdings::{HeldCall, Holdings, calls_held, holdings_of};
 use crate::inventory::files_value;
+use crate::line_counter::file_bytes;
 use crate::position_counter::PositionCounter;
+use meson_calls::roles::text_of;
+use meson_lex::Span;
 use meson_listing::entries::{file_name, text_or_null};
 use meson_plan::Project;
 use meson_ranges::Position;
 use meson_splice::{FileSet, Many};
 use serde_json::{Map, Value, put};
 use std::alloc::{AllocError, Global};
+use std::str;
 
 /// An offset with its position.
 fn offset_members(
@@ -103,20 +107,50 @@ fn calls_value(alloc: Global, files: &FileSet, calls: Many<HeldCall>) -> Result<
     Ok(Value::Array(list))
 }
 
-/// The places of some calls.
-fn spots_value(alloc: Global, files: &FileSet, calls: &[HeldCall]) -> Result<Value, AllocError>
-    ensures { IfOk result (λ v. view v ≡ array (items_of (map (placed_spot_data files.now) calls.now))) }
+/// Bytes as a text; null if they are not UTF-8.
+fn bytes_value(alloc: Global, bytes: &[u8]) -> Result<Value, AllocError>
+    ensures { IfOk result (λ v. view v ≡ bytes_data bytes.now) }
+{
+    match str::from_utf8(bytes) {
+        Ok(text) => Value::try_from_str(alloc, text),
+        Err(_) => Ok(Value::Null),
+    }
+}
+
+/// A call with its place and its text.
+fn unentered_value(
+    alloc: Global,
+    files: &FileSet,
+    positions: &mut PositionCounter<'_>,
+    call: &HeldCall,
+) -> Result<Value, AllocError>
+    requires { positions.old.files.now ≡ files.now }
+    ensures value { IfOk result (λ v. view v ≡ unentered_data files.now call.now) }
+    ensures files { positions.new.files.now ≡ positions.old.files.now }
+{
+    let mut members = place_members(alloc, files, positions, call)?;
+    let span = Span {
+        from: call.head.at,
+        to: call.end,
+    };
+    let text = text_of(file_bytes(files, call.file), span);
+    put(&mut members, alloc, "text", bytes_value(alloc, text)?)?;
+    Ok(Value::Object(members))
+}
+
+/// Calls with their places and their texts.
+fn unentered_values(alloc: Global, files: &FileSet, calls: &[HeldCall]) -> Result<Value, AllocError>
+    ensures { IfOk result (λ v. view v ≡ array (items_of (map (unentered_data files.now) calls.now))) }
 {
     let mut positions = PositionCounter::new(files);
     let mut list = Vec::new(alloc);
     for call in calls {
-        let members = place_members(alloc, files, &mut positions, call)?;
-        list.push(Value::Object(members))?;
+        list.push(unentered_value(alloc, files, &mut positions, call)?)?;
     }
     Ok(Value::Array(list))
 }
 
-/// What a project holds, as `project_object` has it, with the position of each call and where it ends. Lines are counted from 0, characters in UTF-16 code units.
+/// What a project holds, as `project_object` has it, with the position of each call and where it ends, and the text of each `subdir` call that enters none of the files. Lines are counted from 0, characters in UTF-16 code units.
 ///
 /// # Errors
 /// Out of memory.
@@ -134,7 +168,7 @@ pub fn placed_project_object(alloc: Global, project: &Project) -> Result<Value, 
         &mut members,
         alloc,
         "not_entered",
-        spots_value(alloc, files, not_entered.get())?,
+        unentered_values(alloc, files, not_entered.get())?,
     )?;
     put(
         &mut members,
