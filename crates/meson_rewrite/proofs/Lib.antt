@@ -24,3 +24,4 @@ pub mod TextArrays
 pub mod RefusalObjects
 pub mod CodeWords
 pub mod RefusalMembers
+pub mod ObjectEdits

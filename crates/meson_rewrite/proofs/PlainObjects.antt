@@ -1,5 +1,5 @@
 -- Objects of JSON hold no number with a fraction, and the files of a project are text.
-use Rattle.std.proofs.Common.{◌≡◌, ◌<◌, ◌+◌, ◌++◌, ◌∙◌, ℕ, Bool, false, List, [], ◌∷◌, append_assoc, drop, get_or, length, map, refl, sym, ap, ap₂}
+use Rattle.std.proofs.Common.{◌≡◌, ◌<◌, ◌+◌, ◌++◌, ◌∙◌, ℕ, false, List, [], ◌∷◌, append_assoc, drop, get_or, length, map, refl, sym, ap, ap₂}
 use Rattle.std.proofs.lemmas.List.{at_drop_more, map-append}
 use Rattle.std.specs.List.{All}
 use Rattle.std.specs.Str.{IsUtf8}

@@ -13,4 +13,5 @@ pub mod Runs
 pub mod StoreReads
 pub mod Laws
 pub mod RefusalLaws
+pub mod ObjectLaws
 pub mod inside

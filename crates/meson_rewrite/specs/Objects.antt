@@ -1,5 +1,5 @@
 -- What is said in JSON, with the members of each object in the order of the bytes of their names.
-use Rattle.std.specs.Prelude.{◌≡◌, ℕ, List, [], ◌∷◌, codes, length, map, reverse}
+use Rattle.std.specs.Prelude.{◌≡◌, List, [], codes, length, map, reverse}
 use Rattle.serde_json.specs.Data.{Data, array, member, no_members, number, object, string, unsigned}
 use Rattle.serde_json.specs.View.{items_of, view}
 use Rattle.serde_json.specs.Written.{compact_text}

@@ -1,6 +1,7 @@
-//! Laws of checked undos, of a read that failed, and of refusals as objects. The functions do nothing; the contract of each is a law.
+//! Laws of checked undos, of a read that failed, and of answers and refusals as objects. The functions do nothing; the contract of each is a law.
 
 ghost use Rattle.meson_rewrite.specs.Laws.{CheckedUndosRestore, OneUnread, SameSumsUndo};
+ghost use Rattle.meson_rewrite.specs.ObjectLaws.{EditsOfObjectsMake};
 ghost use Rattle.meson_rewrite.specs.RefusalLaws.{CodesAreWords, MembersAreWords};
 
 use meson_sums::laws::sums_tell;
@@ -35,4 +36,10 @@ pub fn codes_are_words()
 /// What the object of a refusal has: as `message` what its line has after `error: `, and as `code` its code.
 pub fn members_are_words()
     ensures { MembersAreWords }
+{}
+
+/// What the edits in an answer promise: done on the files as they were before the step, they make the files as they are after it, to every byte. A file that
+/// is not listed is as it was.
+pub fn edits_of_objects_make()
+    ensures { EditsOfObjectsMake }
 {}

@@ -1,12 +1,10 @@
 -- Steps with a title, and the words that name a file.
 use Rattle.std.specs.Prelude.{⊤, Bool, true, false}
-use Rattle.serde_json.specs.Read.{read}
 use Rattle.meson_command.specs.declared.asked.Action.{Action}
 use Rattle.meson_command.specs.declared.asked.Action.TheVariants as action
 use Rattle.meson_rewrite.specs.Steps.{IsTitled}
 use Rattle.meson_rewrite.specs.declared.request.ProgramRequest.{ProgramRequest}
 use Rattle.meson_rewrite.specs.declared.request.ProgramRequest.TheVariants as request
-use Rattle.meson_rewrite.specs.Requests.{script}
 
 -- a file is read for it: a script, or digests
 abbrev pub names_file : Action → Bool

@@ -1,4 +1,4 @@
-use Rattle.std.proofs.Common.{◌≡◌, ◌⊎◌, ◌≤◌, None, Ok, Err, Result, ℕ, List, Option, arith, inl, inr, map, refl, string_bytes, subst, sym, ap, ◌∙◌}
+use Rattle.std.proofs.Common.{◌≡◌, ◌⊎◌, ◌≤◌, Err, Result, ℕ, Option, arith, inl, inr, map, refl, string_bytes, subst, sym}
 use Rattle.std.specs.Prelude.{OnOk}
 use Rattle.meson_command.proofs.Json.{json-law}
 use Rattle.meson_command.specs.Asking.{asked_by, without_text}
