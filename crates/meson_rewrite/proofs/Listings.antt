@@ -1,9 +1,10 @@
 -- No listing holds a number with a fraction, so each has its compact text.
 use Rattle.std.proofs.Common.{◌≡◌, ◌++◌, ℕ, Bool, true, false, List, [], ◌∷◌, map, Option, Some, None, option_map, Result, Ok, Err, Ordering, Less, Equal, Greater, nat_cmp, refl, sym, ap, subst, ◌∙◌}
-use Rattle.std.specs.Prelude.{◌||◌, option_and_then}
+use Rattle.std.specs.Prelude.{◌||◌, option_and_then, if◌then◌else◌}
 use Rattle.std.specs.Ordering.{match_ordering}
 use Rattle.std.specs.Cmp.Lexicographic.{slice_cmp}
-use Rattle.serde_json.specs.Data.{Data, Members, no_members, member, put, string}
+use Rattle.std.specs.Str.{is_utf8}
+use Rattle.serde_json.specs.Data.{Data, Members, no_members, member, null, put, string}
 use Rattle.serde_json.specs.View.{items_of, view}
 use Rattle.serde_json.specs.Written.{has_float, items_have_float, members_have_float}
 use Rattle.meson_splice.specs.declared.file_set.File.{File}
@@ -28,7 +29,7 @@ use Rattle.meson_listing.specs.Entries.{call_data, id_data, item_data, put_each,
 use Rattle.meson_inventory.specs.Holdings.{holdings}
 use Rattle.meson_inventory.specs.Inventory.{file_data, project_data, spot_data}
 use Rattle.meson_inventory.specs.Inventory as inventory
-use Rattle.meson_inventory.specs.Placed.{placed_call_data, placed_project_data, placed_spot_data}
+use Rattle.meson_inventory.specs.Placed.{bytes_data, call_text, placed_call_data, placed_project_data, unentered_data}
 use Rattle.meson_plan.specs.Listing.{call_listing, kwargs_listing, or_not_found, target_at, target_listing, told}
 use Rattle.meson_script.specs.Running.{Runs, nothing_ran, ran_more}
 use Rattle.meson_script.specs.declared.session.Report.{Report}
@@ -106,10 +107,13 @@ project-plain l =
     let calls = all-plain (inventory.held_data l.files) (holdings l).targets (λ c. rw (text-plain c.head.name, text-plain c.variable) refl) in
     rw (files, spots, calls) refl
 
+bytes-plain : (bytes : List ℕ) → has_float (bytes_data bytes) ≡ false
+bytes-plain bytes = elim (is_utf8 bytes) as (λ t. has_float (if t then string bytes else null) ≡ false) [ true ↦ refl | false ↦ refl ]
+
 pub project-with-positions-plain : (l : Loaded) → has_float (placed_project_data l) ≡ false
 project-with-positions-plain l =
     let files = all-plain file_data l.files (λ f. refl) in
-    let spots = all-plain (placed_spot_data l.files) (holdings l).not_entered (λ c. refl) in
+    let spots = all-plain (unentered_data l.files) (holdings l).not_entered (λ c. rw (bytes-plain (call_text l.files c)) refl) in
     let calls = all-plain (placed_call_data l.files) (holdings l).targets (λ c. rw (text-plain c.head.name, text-plain c.variable) refl) in
     rw (files, spots, calls) refl
 
