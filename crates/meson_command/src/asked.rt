@@ -184,7 +184,8 @@ fn shown(alloc: Global, action: Action) -> Asked
 }
 
 /// The request of the words of a command line, of which the first is the program's name. They are those of the Rewriter page of the Meson manual; `undo`,
-/// `redo`, `history`, `list`, `--title`, `--dry-run`, `--json`, `--subdir` and `--type` are this program's own. Values, ids and names are passed on as given.
+/// `redo`, `history`, `list`, `unset`, `--title`, `--dry-run`, `--json`, `--strict`, `--subdir` and `--type` are this program's own. Values, ids and names are
+/// passed on as given.
 ///
 /// # Errors
 /// The first of these faults, in this order. A word is missing, unknown or one too many, a number is not valid, two listings are requested, or the folder is

@@ -55,7 +55,7 @@ fn gather_over<'a, S: Store, B: Below>(
 }
 
 /// Reads the project in this folder as `gather` does, of a store in which each of these texts is the file of its name. The names are those in the store.
-/// The store below is read for other names alone, and nothing is written.
+/// Nothing is written.
 ///
 /// # Errors
 /// As `gather` has them for such a store.

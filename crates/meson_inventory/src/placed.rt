@@ -150,7 +150,8 @@ fn unentered_values(alloc: Global, files: &FileSet, calls: &[HeldCall]) -> Resul
     Ok(Value::Array(list))
 }
 
-/// What a project holds, as `project_object` has it, with the position of each call and where it ends, and the text of each `subdir` call that enters none of the files. Lines are counted from 0, characters in UTF-16 code units.
+/// What a project holds, as `project_object` has it, with the position of each call and where it ends, and the text of each `subdir` call that enters none
+/// of the files. Lines are counted from 0, characters in UTF-16 code units.
 ///
 /// # Errors
 /// Out of memory.

@@ -224,7 +224,7 @@ impl Display for Texts<'_> {
     }
 }
 
-/// A comma and the member `left`, if there are such files.
+/// A comma and the member `left`, if a file could not be written.
 #[derive(Drop)]
 struct Left<'a>(Option<&'a [Text]>);
 
