@@ -55,7 +55,8 @@ Done =
     × asks (codes "target e rm a.c") (in_place (run (command.SourcesRemove (codes "e") (codes "a.c" ∷ []))))
     × asks (codes "target e add_extra_files x.h") (in_place (run (command.ExtraAdd (codes "e") (codes "x.h" ∷ []))))
     × asks (codes "target e rm_extra_files x.h") (in_place (run (command.ExtraRemove (codes "e") (codes "x.h" ∷ []))))
-    × asks (codes "target l add_target a.c --subdir sub --type jar") (in_place (run (command.TargetAdd (codes "l") (codes "jar") (codes "sub") (codes "a.c" ∷ []))))
+    × asks (codes "target l add_target a.c --subdir sub --type jar")
+    (in_place (run (command.TargetAdd (codes "l") (codes "jar") (codes "sub") (codes "a.c" ∷ []))))
     × asks (codes "target l add_target") (in_place (run (command.TargetAdd (codes "l") (codes "executable") [] [])))
     × asks (codes "target l rm_target a.c") (in_place (run (command.TargetRemove (codes "l"))))
     × asks (codes "kwargs set project / version 1.0.0") (in_place
@@ -111,7 +112,8 @@ abbrev pub Shown : Type 0
 Shown =
     asks (codes "--dry-run undo") (shown Undo)
     × asks (codes "--dry-run target e rm a.c") (shown (run (command.SourcesRemove (codes "e") (codes "a.c" ∷ []))))
-    × asks (codes "--sourcedir d --dry-run --title a redo") (Ok (record { dir = Some (codes "d"); title = codes "a"; dry_run = true; json = false; action = Redo }))
+    × asks (codes "--sourcedir d --dry-run --title a redo")
+    (Ok (record { dir = Some (codes "d"); title = codes "a"; dry_run = true; json = false; action = Redo }))
     × asks (codes "--dry-run undo --to 2") (shown (UndoTo 2))
     × asks (codes "--dry-run undo --check sums") (shown (UndoChecked 1 (codes "sums")))
     × asks (codes "--dry-run list --json") (shown (action.List true))

@@ -26,7 +26,8 @@ character_at files file offset = count (position_of (bytes_at file files) offset
 -- where a call ends: after its last byte
 abbrev pub end_data : List File → HeldCall → Data
 end_data files c =
-    object (member (codes "at") (count c.end) (member (codes "character") (character_at files c.file c.end) (member (codes "line") (line_at files c.file c.end) no_members)))
+    object (member (codes "at") (count c.end) (member (codes "character") (character_at files c.file c.end)
+    (member (codes "line") (line_at files c.file c.end) no_members)))
 
 -- the place of a call
 abbrev pub placed_spot_data : List File → HeldCall → Data
@@ -54,7 +55,8 @@ abbrev pub placed_call_data : List File → HeldCall → Data
 placed_call_data files c =
     object (member (codes "at") (count c.head.at) (member (codes "character") (character_at files c.file c.head.at) (member (codes "end") (end_data files c)
     (member (codes "file") (string (name_of_file c.file files)) (member (codes "function") (string c.head.function)
-    (member (codes "line") (line_at files c.file c.head.at) (member (codes "name") (text_or_null c.head.name) (member (codes "variable") (text_or_null c.variable) no_members))))))))
+    (member (codes "line") (line_at files c.file c.head.at) (member (codes "name") (text_or_null c.head.name)
+    (member (codes "variable") (text_or_null c.variable) no_members))))))))
 
 abbrev pub placed_project_data : Loaded → Data
 placed_project_data l =

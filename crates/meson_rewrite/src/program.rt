@@ -224,8 +224,8 @@ fn ended<O: Output, E: Output>(
 }
 
 /// Runs the program on these words, of which the first is its name. It reads the build files of a project in the store and does what the words request. It
-/// replaces the files that changed and then the undo log. It writes what it did to `out`, and listings and faults to `err`. Where the words want JSON, it writes
-/// one line of JSON in place of all this: to `out` if it was done, to `err` if it was stopped. Returns the exit status.
+/// replaces the files that changed and then the undo log. It writes what it did to `out`, and listings and faults to `err`. Where the words want JSON, it
+/// writes one line of JSON in place of all this: to `out` if it was done, to `err` if it was stopped. Returns the exit status.
 ///
 /// If it is done, the store is read once for the file that the words name, if they name one (a script, or digests). It is read once for the root file and once
 /// for the log. It is read once for each name that a `subdir` call enters and for which no file was read before. Help and the version read nothing. If it ends
@@ -242,7 +242,8 @@ pub fn rewrite<S: Store, O: Output, E: Output>(
     err: &mut E,
 ) -> u8
     ensures runs { let known = seen_by S.content S.failures S.replaces in Run (asked_by (map string_bytes words.now)) (wants_json (map string_bytes words.now))
-        (known store.old) (known store.new) (S.reads store.old) (S.reads store.new) result (O.heard out.old) (O.heard out.new) (E.heard err.old) (E.heard err.new) }
+        (known store.old) (known store.new) (S.reads store.old) (S.reads store.new) result
+        (O.heard out.old) (O.heard out.new) (E.heard err.old) (E.heard err.new) }
     ensures untouched { NeedsNoStore (asked_by (map string_bytes words.now)) → store.new ≡ store.old }
     ensures asking { OnlyAsks (asked_by (map string_bytes words.now)) → IsUnchanged (seen_by S.content S.failures S.replaces store.old)
         (seen_by S.content S.failures S.replaces store.new) }
