@@ -9,7 +9,7 @@ use Rattle.clap.specs.declared.error.kind.ErrorKind.TheVariants as kind
 use Rattle.clap.specs.declared.error.kind.ErrorKind.TheVariants.{DisplayHelp, DisplayVersion, OutOfMemory}
 use Rattle.meson_json.specs.Titles.{is_title}
 use Rattle.meson_command.specs.Actions.{action_of}
-use Rattle.meson_command.specs.Asking.{answer, answer_by, asked_from, asked_of, is_json_answer, json_by, names_no_folder, title_in}
+use Rattle.meson_command.specs.Asking.{answer, answer_by, asked_from, asked_of, is_dry, is_json_answer, json_by, names_no_folder, texts_fit, title_in}
 use Rattle.meson_command.specs.Laws.{JsonWhereWanted}
 use Rattle.meson_command.specs.Program.{program}
 use Rattle.meson_command.specs.declared.asked.Asked.{Asked}
@@ -20,14 +20,15 @@ use Rattle.meson_command.proofs.Taken.{rows-of}
 
 -- ---- the request of words that clap takes
 
-from_words : (rows : List Row) (subcommand : Option (Text × List Row)) → Answers (λ a. a.json ≡ is_json_answer rows) (asked_from rows subcommand)
+from_words : (rows : List Row) (subcommand : Option (Text × List Row)) → Answers (λ a. a.flags.json ≡ is_json_answer rows) (asked_from rows subcommand)
 unfolding asked_from
 from_words rows subcommand =
     after (ok_or subcommand Usage) _ (λ s. either (names_no_folder (first_of (codes "DIR") rows)) _ _ (err _)
-    (after (action_of s.0 s.1) _ (λ action. either (is_title (title_in rows)) _ _ (ok _ refl) (err BadTitle))))
+    (after (action_of s.0 s.1) _ (λ action. either (texts_fit action (first_of (codes "FILE") rows) (is_dry rows)) _ _
+    (either (is_title (title_in rows)) _ _ (ok _ refl) (err BadTitle)) (err Usage))))
 
 -- help and the version are not answered in JSON
-by_kind : (k : ErrorKind) → Answers (λ a. a.json ≡ false) (answer_by k)
+by_kind : (k : ErrorKind) → Answers (λ a. a.flags.json ≡ false) (answer_by k)
 by_kind DisplayHelp = ok _ refl
 by_kind DisplayVersion = ok _ refl
 by_kind kind.InvalidValue = err _
@@ -46,13 +47,13 @@ by_kind kind.Io = err _
 by_kind kind.Format = err _
 by_kind kind.OutOfMemory = err _
 
-by_kinds : (ks : Kinds) (words : List Text) → Answers (λ a. a.json ≡ json_by ks (is_json_answer (matches_of program words))) (answer ks (asked_of words))
+by_kinds : (ks : Kinds) (words : List Text) → Answers (λ a. a.flags.json ≡ json_by ks (is_json_answer (matches_of program words))) (answer ks (asked_of words))
 by_kinds [] words = from_words _ _
 by_kinds (k ∷ ks) words = by_kind k
 
 pub json-law : JsonWhereWanted
 json-law words asked is =
-    let wanted : Asked → Type 0 = λ a. a.json ≡ json_by (fault_of program words) (is_json_answer (matches_of program words)) in
+    let wanted : Asked → Type 0 = λ a. a.flags.json ≡ json_by (fault_of program words) (is_json_answer (matches_of program words)) in
     subst (λ r. IfOk r wanted) is (by_kinds (fault_of program words) words).so
 
 -- ---- what is read of the words

@@ -5,7 +5,7 @@ use Rattle.clap.specs.Words.{Row, Text, first_of}
 use Rattle.meson_calls.specs.declared.call.Role.{Role}
 use Rattle.meson_splice.specs.Patch.{then_ok}
 use Rattle.meson_command.specs.Actions.{action_of, count_in, kwargs_action, history_by, kwargs_by, has_flag, list_by, options_action, options_by, is_json, other_action, script_action, target_action, target_by, target_words, undo_of, unknown_members, word_at, words_at}
-use Rattle.meson_command.specs.Asking.{asked_from, names_no_folder, title_in, with_title, without_help_text, without_text}
+use Rattle.meson_command.specs.Asking.{asked_from, is_dry, names_no_folder, texts_fit, title_in, with_texts, with_title, without_help_text, without_text}
 use Rattle.meson_command.specs.declared.asked.Action.{Action}
 use Rattle.meson_command.specs.declared.asked.Action.TheVariants as action
 use Rattle.meson_command.specs.declared.asked.Action.TheVariants.{Run, Info, ScriptText, ScriptFile, Undo, UndoTo, UndoChecked, Redo, History, ForgetOldest, ForgetAll, Sums, Help, Version}
@@ -133,10 +133,13 @@ action-plain name rows =
 titled : (rows : List Row) (a : Action) → IsPlain a → Answers (λ x. IsPlain x.action) (with_title rows a)
 titled rows a plain = either (is_title (title_in rows)) _ _ (ok _ plain) (err BadTitle)
 
+texted : (rows : List Row) (a : Action) → IsPlain a → Answers (λ x. IsPlain x.action) (with_texts rows a)
+texted rows a plain = either (texts_fit a (first_of (codes "FILE") rows) (is_dry rows)) _ _ (titled rows a plain) (err Usage)
+
 asked : (rows : List Row) (subcommand : Option (Text × List Row)) → Answers (λ a. IsPlain a.action) (asked_from rows subcommand)
 unfolding asked_from
 asked rows subcommand = after (ok_or subcommand Usage) _ (λ s. either (names_no_folder (first_of (codes "DIR") rows)) _ _ (err _)
-    (after_some IsPlain (action_of s.0 s.1) _ (action-plain s.0 s.1) (titled rows)))
+    (after_some IsPlain (action_of s.0 s.1) _ (action-plain s.0 s.1) (texted rows)))
 
 pub not_help : (rows : List Row) (subcommand : Option (Text × List Row)) (a : Asked) → asked_from rows subcommand ≡ Ok a → IsPlain a.action
 not_help rows subcommand a is = subst (λ r. IfOk r (λ x. IsPlain x.action)) is (asked rows subcommand).so

@@ -13,12 +13,13 @@ use Rattle.clap.specs.declared.error.kind.ErrorKind.{ErrorKind}
 use Rattle.clap.specs.declared.error.kind.ErrorKind.TheVariants as kind
 use Rattle.clap.specs.declared.error.kind.ErrorKind.TheVariants.{DisplayHelp, DisplayVersion, OutOfMemory}
 use Rattle.meson_json.specs.Titles.{is_title}
-use Rattle.meson_command.specs.Asking.{answer, answer_by, asked_from, asked_of, help, is_dry, is_json_answer, names_no_folder, title_in, version}
+use Rattle.meson_command.specs.Asking.{answer, answer_by, asked_from, asked_of, flags_in, help, is_dry, names_no_folder, texts_fit, title_in, version}
 use Rattle.meson_command.specs.Program.{command, default_options, history, kwargs, list, program, redo, target, undo}
 use Rattle.meson_command.proofs.HelpAlone.{Clean, clean}
 use Rattle.meson_command.specs.declared.asked.Action.{Action}
 use Rattle.meson_command.specs.declared.asked.Action.TheVariants.{Help, Version}
 use Rattle.meson_command.specs.declared.asked.Asked.{Asked}
+use Rattle.meson_command.specs.declared.asked.Flags.{Flags}
 use Rattle.meson_command.specs.declared.fault.UsageFault.{UsageFault}
 use Rattle.meson_command.specs.declared.fault.UsageFault.TheVariants.{Usage, BadTitle}
 
@@ -47,12 +48,14 @@ module _ {Z : Type 0} where
       let at : rows ≡ rows_of (found_of (out-SubCommand (box_value b)).matches) = cc in
       ap₂ (λ (n : Text) (r : List Row). Some (n, r)) (sym same) (sym at)
 
-pub asks : (rows : List Row) (sub : Option (Text × List Row)) (name : Text) (inner : List Row) (dir : Option Text) (title : Text) (dry json : Bool) (a : Action) → sub ≡ Some (name, inner)
+pub asks : (rows : List Row) (sub : Option (Text × List Row)) (name : Text) (inner : List Row) (dir : Option Text) (title : Text) (flags : Flags) (texts : Option Text) (a : Action)
+    → sub ≡ Some (name, inner)
     → names_no_folder (first_of (codes "DIR") rows) ≡ false → dir ≡ first_of (codes "DIR") rows → action_of name inner ≡ Ok a
-    → is_title (title_in rows) ≡ true → title ≡ title_in rows → dry ≡ is_dry rows → json ≡ is_json_answer rows
-    → asked_from rows sub ≡ Ok (record { dir = dir; title = title; dry_run = dry; json = json; action = a })
+    → texts_fit a (first_of (codes "FILE") rows) (is_dry rows) ≡ true → texts ≡ first_of (codes "FILE") rows
+    → is_title (title_in rows) ≡ true → title ≡ title_in rows → flags ≡ flags_in rows
+    → asked_from rows sub ≡ Ok (record { dir = dir; title = title; flags = flags; texts = texts; action = a })
 unfolding asked_from
-asks rows sub name inner dir title dry json a is folder at action good same flagged answered = rw (is, folder, action, good, at, same, flagged, answered) refl
+asks rows sub name inner dir title flags texts a is folder at action fit read good same flagged = rw (is, folder, action, fit, good, at, read, same, flagged) refl
 
 pub refuses : (rows : List Row) (sub : Option (Text × List Row)) (name : Text) (inner : List Row) (e : UsageFault) → sub ≡ Some (name, inner)
     → names_no_folder (first_of (codes "DIR") rows) ≡ false → action_of name inner ≡ Err e → asked_from rows sub ≡ Err e
@@ -60,9 +63,16 @@ unfolding asked_from
 refuses rows sub name inner e is folder action = rw (is, folder, action) refl
 
 pub refuses_title : (rows : List Row) (sub : Option (Text × List Row)) (name : Text) (inner : List Row) (a : Action) → sub ≡ Some (name, inner)
-    → names_no_folder (first_of (codes "DIR") rows) ≡ false → action_of name inner ≡ Ok a → is_title (title_in rows) ≡ false → asked_from rows sub ≡ Err BadTitle
+    → names_no_folder (first_of (codes "DIR") rows) ≡ false → action_of name inner ≡ Ok a → texts_fit a (first_of (codes "FILE") rows) (is_dry rows) ≡ true
+    → is_title (title_in rows) ≡ false → asked_from rows sub ≡ Err BadTitle
 unfolding asked_from
-refuses_title rows sub name inner a is folder action bad = rw (is, folder, action, bad) refl
+refuses_title rows sub name inner a is folder action fit bad = rw (is, folder, action, fit, bad) refl
+
+pub refuses_texts : (rows : List Row) (sub : Option (Text × List Row)) (name : Text) (inner : List Row) (a : Action) → sub ≡ Some (name, inner)
+    → names_no_folder (first_of (codes "DIR") rows) ≡ false → action_of name inner ≡ Ok a → texts_fit a (first_of (codes "FILE") rows) (is_dry rows) ≡ false
+    → asked_from rows sub ≡ Err Usage
+unfolding asked_from
+refuses_texts rows sub name inner a is folder action misfit = rw (is, folder, action, misfit) refl
 
 pub refuses_folder : (rows : List Row) (sub : Option (Text × List Row)) (s : Text × List Row) → sub ≡ Some s → names_no_folder (first_of (codes "DIR") rows) ≡ true → asked_from rows sub ≡ Err Usage
 unfolding asked_from

@@ -14,9 +14,9 @@ use Rattle.clap.specs.declared.error.kind.ErrorKind.TheVariants.{DisplayHelp, Di
 use Rattle.meson_calls.specs.declared.call.Role.{Role}
 use Rattle.meson_splice.specs.Patch.{then_ok}
 use Rattle.meson_command.specs.Actions.{action_of, count_in, history_by, kwargs_action, kwargs_by, list_by, options_action, options_by, other_action, target_action, undo_of, word_at, words_at}
-use Rattle.meson_command.specs.Asking.{answer, asked_from, asked_of, help, is_dry, is_json_answer, names_no_folder, title_in, version, with_title}
+use Rattle.meson_command.specs.Asking.{answer, asked_from, asked_of, help, is_dry, names_no_folder, texts_fit, title_in, version, with_texts, with_title}
 use Rattle.meson_command.specs.Counts.{count_of}
-use Rattle.meson_command.specs.Laws.{HelpWhereAsked, IsNoCount, IsUnknown, UsageMeansUnknown, VersionWhereAsked}
+use Rattle.meson_command.specs.Laws.{HelpWhereAsked, IsNoCount, IsUnknown, TextsAreMisused, UsageMeansUnknown, VersionWhereAsked}
 use Rattle.meson_json.specs.Titles.{is_title}
 use Rattle.meson_json.specs.Operations.{kwargs_operation, role_of}
 use Rattle.meson_command.specs.Operations.{operation_of_word, options_word}
@@ -240,24 +240,31 @@ unknown name rows k e =
 -- ---- wrong usage
 
 abbrev Wrong : List Row → Option (Text × List Row) → Type 0
-Wrong rows sub = (names_no_folder (first_of (codes "DIR") rows) ≡ true) ⊎ ((name : Text) × (inner : List Row) × (sub ≡ Some (name, inner)) × (action_of name inner ≡ Err Usage))
+Wrong rows sub = (names_no_folder (first_of (codes "DIR") rows) ≡ true)
+    ⊎ ((name : Text) × (inner : List Row) × (sub ≡ Some (name, inner)) × ((action_of name inner ≡ Err Usage) ⊎ TextsAreMisused rows name inner))
 
 abbrev wrong : Result Asked UsageFault
 wrong = Err Usage
 
 -- a title that is none is no wrong usage
-by_title : (rows : List Row) (a : Action) (b : Bool) → (if b then Ok (record { dir = first_of (codes "DIR") rows; title = title_in rows; dry_run = is_dry rows; json = is_json_answer rows; action = a }) else Err BadTitle) ≡ wrong → ⊥
-by_title rows a true e = cc
-by_title rows a false e = cc
+by_title : (asked : Asked) (b : Bool) → (if b then Ok asked else Err BadTitle) ≡ wrong → ⊥
+by_title asked true e = cc
+by_title asked false e = cc
 
-not_done : (rows : List Row) (r : Result Action UsageFault) → then_ok r (with_title rows) ≡ wrong → r ≡ Err Usage
-not_done rows (Ok a) e = absurd (by_title rows a (is_title (title_in rows)) e)
-not_done rows (Err fault) e = let at : fault ≡ Usage = cc in ap (λ (u : UsageFault). Err u) at
+by_texts : (rows : List Row) (a : Action) (b : Bool) → texts_fit a (first_of (codes "FILE") rows) (is_dry rows) ≡ b → (if b then with_title rows a else Err Usage) ≡ wrong
+    → texts_fit a (first_of (codes "FILE") rows) (is_dry rows) ≡ false
+by_texts rows a true is e = absurd (by_title _ (is_title (title_in rows)) e)
+by_texts rows a false is e = is
+
+not_done : (rows : List Row) (name : Text) (inner : List Row) (r : Result Action UsageFault) → action_of name inner ≡ r → then_ok r (with_texts rows) ≡ wrong
+    → (action_of name inner ≡ Err Usage) ⊎ TextsAreMisused rows name inner
+not_done rows name inner (Ok a) is e = inr (a, is, by_texts rows a (texts_fit a (first_of (codes "FILE") rows) (is_dry rows)) refl e)
+not_done rows name inner (Err fault) is e = inl (let at : fault ≡ Usage = cc in is ∙ ap (λ (u : UsageFault). Err u) at)
 
 by_folder : (rows : List Row) (s : Text × List Row) (b : Bool) → names_no_folder (first_of (codes "DIR") rows) ≡ b
-    → (if b then Err Usage else then_ok (action_of s.0 s.1) (with_title rows)) ≡ wrong → Wrong rows (Some s)
+    → (if b then Err Usage else then_ok (action_of s.0 s.1) (with_texts rows)) ≡ wrong → Wrong rows (Some s)
 by_folder rows s true is e = inl is
-by_folder rows s false is e = inr (s.0, s.1, refl, not_done rows (action_of s.0 s.1) e)
+by_folder rows s false is e = inr (s.0, s.1, refl, not_done rows s.0 s.1 (action_of s.0 s.1) refl e)
 
 split : (rows : List Row) (sub : Option (Text × List Row)) → is_some sub ≡ true → asked_from rows sub ≡ Err Usage → Wrong rows sub
 unfolding asked_from
@@ -269,5 +276,5 @@ usage-law words none e =
     let asked : asked_of words ≡ Err Usage = sym (as_taken (fault_of program words) (asked_of words) none) ∙ e in
     elim (split (matches_of program words) (subcommand_of program words) (entered_one words none) asked) [
       | inl folder ↦ inl folder
-      | inr u ↦ inr (u.0, u.1, u.2, unknown u.0 u.1 (known words u.0 u.1 u.2) u.3)
+      | inr u ↦ inr (u.0, u.1, u.2, elim u.3 [ inl no ↦ inl (unknown u.0 u.1 (known words u.0 u.1 u.2) no) | inr misused ↦ inr misused ])
     ]

@@ -1,5 +1,5 @@
 -- The request of a command line.
-use Rattle.std.specs.Prelude.{Bool, false, List, [], ◌∷◌, length, ◌==◌, codes, if◌then◌else◌, Option, None, ok_or, Result, Ok, Err}
+use Rattle.std.specs.Prelude.{Bool, false, true, not, ◌||◌, ◌&&◌, bytes_eq, List, [], ◌∷◌, length, ◌==◌, codes, if◌then◌else◌, Option, None, ok_or, Result, Ok, Err}
 use Rattle.std.specs.Option.{option_map_or}
 use Rattle.clap.specs.Words.{Kinds, Row, Text, fault_of, first_of, matches_of, subcommand_of}
 use Rattle.clap.specs.declared.error.kind.ErrorKind.{ErrorKind}
@@ -9,8 +9,10 @@ use Rattle.meson_json.specs.Titles.{is_title}
 use Rattle.meson_command.specs.Actions.{action_of, has_flag, word_at}
 use Rattle.meson_command.specs.Program.{program}
 use Rattle.meson_command.specs.declared.asked.Action.{Action}
+use Rattle.meson_command.specs.declared.asked.Action.TheVariants as action
 use Rattle.meson_command.specs.declared.asked.Action.TheVariants.{Help, Version}
 use Rattle.meson_command.specs.declared.asked.Asked.{Asked}
+use Rattle.meson_command.specs.declared.asked.Flags.{Flags}
 use Rattle.meson_command.specs.declared.fault.UsageFault.{UsageFault}
 use Rattle.meson_command.specs.declared.fault.UsageFault.TheVariants.{Usage, BadTitle}
 
@@ -30,19 +32,69 @@ is_dry rows = has_flag (codes "dry-run") rows
 abbrev pub is_json_answer : List Row → Bool
 is_json_answer rows = has_flag (codes "json") rows
 
+abbrev pub flags_in : List Row → Flags
+flags_in rows = record {
+  dry_run = is_dry rows;
+  json = is_json_answer rows;
+  exit_code = has_flag (codes "exit-code") rows;
+  no_log = has_flag (codes "no-log") rows;
+}
+
+abbrev pub no_flags : Flags
+no_flags = record { dry_run = false; json = false; exit_code = false; no_log = false }
+
+-- ---- texts of files, for what writes nothing
+
+-- help or the version: the store is not used
+abbrev pub only_shows : Action → Bool
+only_shows (Help text) = true
+only_shows Version = true
+only_shows _ = false
+
+-- the request is only help, the version, a listing, or what an info command reports
+abbrev pub only_asks : Action → Bool
+only_asks (action.Info c) = true
+only_asks action.History = true
+only_asks (action.List json) = true
+only_asks action.Sums = true
+only_asks a = only_shows a
+
+-- standard input, which a folder reads by this name
+abbrev pub is_input : Text → Bool
+is_input word = bytes_eq word (codes "-")
+
+abbrev pub reads_input : Action → Bool
+reads_input (action.ScriptFile name unknown) = is_input name
+reads_input (action.UndoChecked count sums) = is_input sums
+reads_input _ = false
+
+-- nothing is written, and standard input is not to be read twice
+abbrev pub takes_texts : Action → Text → Bool → Bool
+takes_texts action word dry_run = (dry_run || only_asks action) && not (is_input word && reads_input action)
+
+-- so it is if a file of texts is named
+abbrev pub texts_fit : Action → Option Text → Bool → Bool
+texts_fit action texts dry_run = option_map_or (λ word. takes_texts action word dry_run) texts true
+
+-- ---- the request
+
 -- this action, in the given folder and with the given title
 abbrev pub with_title : List Row → Action → Result Asked UsageFault
 with_title rows action =
     if is_title (title_in rows)
-    then Ok (record { dir = first_of (codes "DIR") rows; title = title_in rows; dry_run = is_dry rows; json = is_json_answer rows; action = action })
+    then Ok (record { dir = first_of (codes "DIR") rows; title = title_in rows; flags = flags_in rows; texts = first_of (codes "FILE") rows; action = action })
     else Err BadTitle
+
+-- the same, if the texts that are named fit it
+abbrev pub with_texts : List Row → Action → Result Asked UsageFault
+with_texts rows action = if texts_fit action (first_of (codes "FILE") rows) (is_dry rows) then with_title rows action else Err Usage
 
 -- the request of the words before the subcommand, and of its name and words
 unfoldable pub asked_from : List Row → Option (Text × List Row) → Result Asked UsageFault
 asked_from rows subcommand =
     then_ok (ok_or subcommand Usage) (λ s.
     if names_no_folder (first_of (codes "DIR") rows) then Err Usage else
-    then_ok (action_of s.0 s.1) (with_title rows))
+    then_ok (action_of s.0 s.1) (with_texts rows))
 
 -- if clap takes the words, of which the first is the program's name
 abbrev pub asked_of : List Text → Result Asked UsageFault
@@ -50,11 +102,11 @@ asked_of words = asked_from (matches_of program words) (subcommand_of program wo
 
 -- `--help`; nothing is said of its text
 abbrev pub help : Asked
-help = record { dir = None; title = []; dry_run = false; json = false; action = Help [] }
+help = record { dir = None; title = []; flags = no_flags; texts = None; action = Help [] }
 
 -- `--version`
 abbrev pub version : Asked
-version = record { dir = None; title = []; dry_run = false; json = false; action = Version }
+version = record { dir = None; title = []; flags = no_flags; texts = None; action = Version }
 
 -- by a kind of fault that clap finds: it shows help or the version, or refuses the words
 abbrev pub answer_by : ErrorKind → Result Asked UsageFault

@@ -1,16 +1,17 @@
 -- What holds of any command line.
-use Rattle.std.specs.Prelude.{◌≡◌, ◌≢◌, ◌↔◌, ◌⊎◌, ◌%◌, List, [], ◌∷◌, length, codes, true, Option, Some, None, Ok, Err}
+use Rattle.std.specs.Prelude.{◌≡◌, ◌≢◌, ◌↔◌, ◌⊎◌, ◌%◌, List, [], ◌∷◌, length, codes, false, true, Option, Some, None, Ok, Err}
 use Rattle.std.specs.List.{AllPairs}
 use Rattle.clap.specs.Words.{Row, Text, fault_of, first_of, matches_of, subcommand_of}
 use Rattle.clap.specs.declared.error.kind.ErrorKind.TheVariants.{DisplayHelp, DisplayVersion}
-use Rattle.meson_command.specs.Actions.{has_flag, options_by, word_at}
-use Rattle.meson_command.specs.Asking.{asked_by, help, names_no_folder, version, wants_json}
+use Rattle.meson_command.specs.Actions.{action_of, has_flag, options_by, word_at}
+use Rattle.meson_command.specs.Asking.{asked_by, help, is_dry, names_no_folder, texts_fit, version, wants_json}
 use Rattle.meson_json.specs.Operations.{kwargs_operation, role_of}
 use Rattle.meson_command.specs.Counts.{count_of}
 use Rattle.meson_command.specs.Operations.{operation_of_word, options_word}
 use Rattle.meson_command.specs.Pairs.{pair_names, pairs_of}
 use Rattle.meson_command.specs.Program.{program}
 use Rattle.meson_command.specs.declared.operations.OptionsWord.TheVariants as options
+use Rattle.meson_command.specs.declared.asked.Action.{Action}
 use Rattle.meson_command.specs.declared.asked.Asked.{Asked}
 use Rattle.meson_command.specs.declared.fault.UsageFault.TheVariants.{Usage, OddWords}
 
@@ -44,7 +45,7 @@ VersionWhereAsked = (words : List Text) → (asked_by words ≡ Ok version) ↔ 
 
 -- a request is answered in JSON exactly where the words want it
 abbrev pub JsonWhereWanted : Type 0
-JsonWhereWanted = (words : List Text) (asked : Asked) → asked_by words ≡ Ok asked → asked.json ≡ wants_json words
+JsonWhereWanted = (words : List Text) (asked : Asked) → asked_by words ≡ Ok asked → asked.flags.json ≡ wants_json words
 
 -- the given word is not a number
 abbrev pub IsNoCount : Option Text → Text → Type 0
@@ -64,8 +65,13 @@ IsUnknown subcommand rows =
     ⊎ (((subcommand ≡ codes "history") × ((word : Text) × (word ≢ codes "all") × IsNoCount (first_of (codes "N") rows) word))
     ⊎ ((subcommand ≡ codes "list") × AsksForBoth rows)))))
 
--- if clap takes the words and the usage is wrong: the folder is empty, a word is unknown or not a number, or two listings are requested
+-- a file of texts is named for an action that writes, or standard input would be read twice
+abbrev pub TextsAreMisused : List Row → Text → List Row → Type 0
+TextsAreMisused own subcommand rows = (asked : Action) × (action_of subcommand rows ≡ Ok asked) × (texts_fit asked (first_of (codes "FILE") own) (is_dry own) ≡ false)
+
+-- if clap takes the words and the usage is wrong: the folder is empty, a word is unknown or not a number, two listings are requested, or texts do not fit
 abbrev pub UsageMeansUnknown : Type 0
 UsageMeansUnknown = (words : List Text) → fault_of program words ≡ [] → asked_by words ≡ Err Usage
     → (names_no_folder (first_of (codes "DIR") (matches_of program words)) ≡ true)
-    ⊎ ((name : Text) × (rows : List Row) × (subcommand_of program words ≡ Some (name, rows)) × IsUnknown name rows)
+    ⊎ ((name : Text) × (rows : List Row) × (subcommand_of program words ≡ Some (name, rows))
+    × (IsUnknown name rows ⊎ TextsAreMisused (matches_of program words) name rows))

@@ -5,11 +5,12 @@ use Rattle.meson_steps.specs.declared.command.Command.TheVariants as command
 use Rattle.meson_steps.specs.declared.command.Setting.TheVariants as setting
 use Rattle.meson_json.specs.declared.member_check.UnknownMembers.TheVariants as unknown
 use Rattle.meson_command.specs.Actions.{run}
-use Rattle.meson_command.specs.Asking.{asked_by, help, version, wants_json}
+use Rattle.meson_command.specs.Asking.{asked_by, help, no_flags, version, wants_json}
 use Rattle.meson_command.specs.declared.asked.Action.{Action}
 use Rattle.meson_command.specs.declared.asked.Action.TheVariants as action
 use Rattle.meson_command.specs.declared.asked.Action.TheVariants.{Info, ScriptText, ScriptFile, Undo, UndoTo, UndoChecked, Redo, History, ForgetOldest, ForgetAll, Sums}
 use Rattle.meson_command.specs.declared.asked.Asked.{Asked}
+use Rattle.meson_command.specs.declared.asked.Flags.{Flags}
 use Rattle.meson_command.specs.declared.fault.UsageFault.{UsageFault}
 use Rattle.meson_command.specs.declared.fault.UsageFault.TheVariants.{Usage, OddWords, RepeatedKey, Unsupported, BadTitle}
 
@@ -24,21 +25,32 @@ words_in [] = [] ∷ []
 words_in (b ∷ bytes) = if b == 32 then [] ∷ words_in bytes else onto b (words_in bytes)
 
 abbrev in_place : Action → Result Asked UsageFault
-in_place action = Ok (record { dir = None; title = []; dry_run = false; json = false; action = action })
+in_place action = Ok (record { dir = None; title = []; flags = no_flags; texts = None; action = action })
 
 abbrev there : List ℕ → Action → Result Asked UsageFault
-there dir action = Ok (record { dir = Some dir; title = []; dry_run = false; json = false; action = action })
+there dir action = Ok (record { dir = Some dir; title = []; flags = no_flags; texts = None; action = action })
 
 abbrev named : List ℕ → Action → Result Asked UsageFault
-named title action = Ok (record { dir = None; title = title; dry_run = false; json = false; action = action })
+named title action = Ok (record { dir = None; title = title; flags = no_flags; texts = None; action = action })
 
--- the same, shown and not done
+-- in place, with these flags
+abbrev flagged : Flags → Action → Result Asked UsageFault
+flagged flags action = Ok (record { dir = None; title = []; flags = flags; texts = None; action = action })
+
+-- shown and not done
+abbrev dry : Flags
+dry = record no_flags { dry_run = true }
+
 abbrev shown : Action → Result Asked UsageFault
-shown action = Ok (record { dir = None; title = []; dry_run = true; json = false; action = action })
+shown = flagged dry
 
--- the same, in place and answered in JSON
+-- answered in JSON
 abbrev in_json : Action → Result Asked UsageFault
-in_json action = Ok (record { dir = None; title = []; dry_run = false; json = true; action = action })
+in_json = flagged (record no_flags { json = true })
+
+-- with the texts of a file of that name, and these flags
+abbrev texted : Flags → List ℕ → Action → Result Asked UsageFault
+texted flags texts action = Ok (record { dir = None; title = []; flags = flags; texts = Some texts; action = action })
 
 -- a line after the program's name has this request
 abbrev asks : List ℕ → Result Asked UsageFault → Type 0
@@ -98,7 +110,7 @@ Done =
 abbrev pub Titled : Type 0
 Titled =
     asks (codes "--title more target e rm a.c") (named (codes "more") (run (command.SourcesRemove (codes "e") (codes "a.c" ∷ []))))
-    × asks (codes "--title a --sourcedir d redo") (Ok (record { dir = Some (codes "d"); title = codes "a"; dry_run = false; json = false; action = Redo }))
+    × asks (codes "--title a --sourcedir d redo") (Ok (record { dir = Some (codes "d"); title = codes "a"; flags = no_flags; texts = None; action = Redo }))
     × asks_titled (codes "add B") (named (codes "add B") Undo)
     × asks_titled [] (in_place Undo)
     × asks_titled (codes "a\tb") (Err BadTitle)
@@ -113,7 +125,7 @@ Shown =
     asks (codes "--dry-run undo") (shown Undo)
     × asks (codes "--dry-run target e rm a.c") (shown (run (command.SourcesRemove (codes "e") (codes "a.c" ∷ []))))
     × asks (codes "--sourcedir d --dry-run --title a redo")
-    (Ok (record { dir = Some (codes "d"); title = codes "a"; dry_run = true; json = false; action = Redo }))
+    (Ok (record { dir = Some (codes "d"); title = codes "a"; flags = dry; texts = None; action = Redo }))
     × asks (codes "--dry-run undo --to 2") (shown (UndoTo 2))
     × asks (codes "--dry-run undo --check sums") (shown (UndoChecked 1 (codes "sums")))
     × asks (codes "--dry-run list --json") (shown (action.List true))
@@ -132,7 +144,7 @@ Json =
     × asks (codes "--json list") (in_json (action.List false))
     × asks (codes "--json list --json") (in_json (action.List true))
     × asks (codes "--sourcedir d --json --dry-run --title a redo")
-    (Ok (record { dir = Some (codes "d"); title = codes "a"; dry_run = true; json = true; action = Redo }))
+    (Ok (record { dir = Some (codes "d"); title = codes "a"; flags = record dry { json = true }; texts = None; action = Redo }))
     × asks (codes "undo --json") (Err Usage)
     × asks (codes "--json --json undo") (Err Usage)
     × asks (codes "--json=true undo") (Err Usage)
@@ -147,6 +159,41 @@ Json =
     × wants (codes "--json --help") false
     × wants (codes "--json") false
     × wants (codes "undo") false
+
+-- how the status counts, and whether the log is used
+abbrev pub Flagged : Type 0
+Flagged =
+    asks (codes "--exit-code undo") (flagged (record no_flags { exit_code = true }) Undo)
+    × asks (codes "--no-log undo") (flagged (record no_flags { no_log = true }) Undo)
+    × asks (codes "--no-log --exit-code --json --dry-run redo") (flagged (record { dry_run = true; json = true; exit_code = true; no_log = true }) Redo)
+    × asks (codes "--exit-code list") (flagged (record no_flags { exit_code = true }) (action.List false))
+    × asks (codes "undo --exit-code") (Err Usage)
+    × asks (codes "undo --no-log") (Err Usage)
+    × asks (codes "--exit-code --exit-code undo") (Err Usage)
+    × asks (codes "--no-log=true undo") (Err Usage)
+
+-- what has texts
+abbrev pub Texts : Type 0
+Texts =
+    asks (codes "--texts t.json list") (texted no_flags (codes "t.json") (action.List false))
+    × asks (codes "--texts - list --sums") (texted no_flags (codes "-") Sums)
+    × asks (codes "--texts - history") (texted no_flags (codes "-") History)
+    × asks (codes "--texts=t target e info") (texted no_flags (codes "t") (Info (command.TargetInfo (codes "e"))))
+    × asks (codes "--texts t --dry-run target e rm a.c") (texted dry (codes "t") (run (command.SourcesRemove (codes "e") (codes "a.c" ∷ []))))
+    × asks (codes "--texts - --dry-run undo") (texted dry (codes "-") Undo)
+    × asks (codes "--dry-run --texts t command -") (texted dry (codes "t") (ScriptFile (codes "-") unknown.Ignored))
+    × asks (codes "--dry-run --texts - command s") (texted dry (codes "-") (ScriptFile (codes "s") unknown.Ignored))
+    × asks (codes "--texts t target e rm a.c") (Err Usage)
+    × asks (codes "--texts t undo") (Err Usage)
+    × asks (codes "--texts t history --forget 1") (Err Usage)
+    × asks (codes "--texts t command [1]") (Err Usage)
+    × asks (codes "--dry-run --texts - command -") (Err Usage)
+    × asks (codes "--dry-run --texts - undo --check -") (Err Usage)
+    × asks (codes "--texts a --texts b list") (Err Usage)
+    × asks (codes "--texts") (Err Usage)
+    × asks (codes "list --texts t") (Err Usage)
+    × asks (codes "--texts t kwargs set project / version") (Err OddWords)
+    × (asked_by (codes "T" ∷ codes "--title" ∷ codes "\t" ∷ codes "--texts" ∷ codes "t" ∷ codes "undo" ∷ []) ≡ Err Usage)
 
 -- what is listed, which scripts are meant, help and the version
 abbrev pub Other : Type 0

@@ -4,7 +4,7 @@ ghost use Rattle.std.specs.Prelude.{◌≡◌, ◌≢◌, [], Err, IfErr, IfOk, 
 ghost use Rattle.clap.specs.Words.{Row, Text as Word, found_of, rows_of, subcommand_rows_of, takes};
 ghost use Rattle.meson_json.specs.Titles.{is_title};
 ghost use Rattle.meson_command.specs.Actions.{action_of, other_action};
-ghost use Rattle.meson_command.specs.Asking.{asked_by, asked_from, asked_of, names_no_folder, wants_json, without_text};
+ghost use Rattle.meson_command.specs.Asking.{asked_by, asked_from, asked_of, flags_in, names_no_folder, no_flags, only_asks, reads_input, takes_texts, texts_fit, wants_json, without_text};
 ghost use Rattle.meson_command.specs.Program.{program};
 ghost use Rattle.meson_command.specs.declared.fault.UsageFault.TheVariants.{BadTitle, OutOfMemory, Usage};
 
@@ -59,6 +59,19 @@ pub enum Action {
     Version,
 }
 
+/// The options before the subcommand that have no value.
+#[derive(Clone, Copy)]
+pub struct Flags {
+    /// Whether the change is shown, and not done.
+    pub dry_run: bool,
+    /// Whether it is answered in JSON.
+    pub json: bool,
+    /// Whether the status says that a build file was changed.
+    pub exit_code: bool,
+    /// Whether the undo log is left alone.
+    pub no_log: bool,
+}
+
 /// The request of a command line.
 #[derive(Drop)]
 pub struct Asked {
@@ -66,10 +79,9 @@ pub struct Asked {
     pub dir: Option<Text>,
     /// What the run is for; empty if no title is given.
     pub title: Text,
-    /// Whether the change is shown, and not done.
-    pub dry_run: bool,
-    /// Whether it is answered in JSON.
-    pub json: bool,
+    pub flags: Flags,
+    /// The name of a file of texts that stand in place of those of the project's files, if one is named. A folder reads `-` from standard input.
+    pub texts: Option<Text>,
     pub action: Action,
 }
 
@@ -131,6 +143,66 @@ fn folder(alloc: Global, dir: Option<&str>) -> Result<Option<Text>, UsageFault>
     }
 }
 
+/// Whether it changes nothing: help, the version, a listing, or what an info command reports.
+fn only_asks(action: &Action) -> bool
+    ensures { result ≡ only_asks action.now }
+{
+    match action {
+        Action::Info(_) | Action::History | Action::List { .. } | Action::Sums => true,
+        Action::Help(_) | Action::Version => true,
+        _ => false,
+    }
+}
+
+/// Whether it reads standard input, where that is what a store has by the name `-`.
+fn reads_input(action: &Action) -> bool
+    ensures { result ≡ reads_input action.now }
+{
+    match action {
+        Action::ScriptFile { name, .. } => name.get() == "-",
+        Action::UndoChecked { sums, .. } => sums.get() == "-",
+        _ => false,
+    }
+}
+
+/// Whether a file of texts may be named for the action: it writes nothing, and standard input is not to be read twice.
+fn takes_texts(action: &Action, word: &str, dry_run: bool) -> bool
+    ensures { result ≡ takes_texts action.now word.now dry_run }
+{
+    (dry_run || only_asks(action)) && !(word == "-" && reads_input(action))
+}
+
+/// The name of the file of texts, if one is named.
+fn texts_for(
+    alloc: Global,
+    action: &Action,
+    word: Option<&str>,
+    dry_run: bool,
+) -> Result<Option<Text>, UsageFault>
+    ensures ok { IfOk result (λ t. (texts_fit action.now (option_map (λ w. w.now) word.entry) dry_run ≡ true) × (t ≡ option_map (λ w. w.now) word.entry)) }
+    ensures refused { IfErr result (λ e. e ≢ OutOfMemory → (e ≡ Usage) × (texts_fit action.now (option_map (λ w. w.now) word.entry) dry_run ≡ false)) }
+{
+    let Some(word) = word else {
+        return Ok(None);
+    };
+    if !takes_texts(action, word, dry_run) {
+        return Err(UsageFault::Usage);
+    }
+    Ok(Some(owned(alloc, word)?))
+}
+
+/// The flags that are there.
+fn flags_in(matches: &ArgMatches<'_>) -> Flags
+    ensures { result ≡ flags_in (rows_of (found_of matches.now)) }
+{
+    Flags {
+        dry_run: is_set(matches, "dry-run"),
+        json: is_set(matches, "json"),
+        exit_code: is_set(matches, "exit-code"),
+        no_log: is_set(matches, "no-log"),
+    }
+}
+
 /// What was read before the title, and the given title.
 fn with_title<T: Drop>(alloc: Global, read: T, word: &str) -> Result<(T, Text), UsageFault>
     ensures read { IfOk result (λ p. p.0 ≡ read) }
@@ -156,41 +228,46 @@ fn asked_from(alloc: Global, matches: &ArgMatches<'_>) -> Result<Asked, UsageFau
     };
     let dir = folder(alloc, matches.get_str("DIR"))?;
     let action = action_of(alloc, subcommand, words)?;
+    let flags = flags_in(matches);
+    let texts = texts_for(alloc, &action, matches.get_str("FILE"), flags.dry_run)?;
     let word = word_or(matches, "TEXT", "");
-    let titled = with_title(alloc, (dir, action), word)?;
-    let ((dir, action), title) = titled;
-    let dry_run = is_set(matches, "dry-run");
-    let json = is_set(matches, "json");
+    let titled = with_title(alloc, (dir, texts, action), word)?;
+    let ((dir, texts, action), title) = titled;
     Ok(Asked {
         dir,
         title,
-        dry_run,
-        json,
+        flags,
+        texts,
         action,
     })
 }
 
 /// The request of words that clap answers itself: without a folder, and without a title.
 fn shown(alloc: Global, action: Action) -> Asked
-    ensures { result ≡ record { dir = None; title = []; dry_run = false; json = false; action = action } }
+    ensures { result ≡ record { dir = None; title = []; flags = no_flags; texts = None; action = action } }
 {
     Asked {
         dir: None,
         title: Text::of(String::new(alloc)),
-        dry_run: false,
-        json: false,
+        flags: Flags {
+            dry_run: false,
+            json: false,
+            exit_code: false,
+            no_log: false,
+        },
+        texts: None,
         action,
     }
 }
 
 /// The request of the words of a command line, of which the first is the program's name. They are those of the Rewriter page of the Meson manual; `undo`,
-/// `redo`, `history`, `list`, `unset`, `--title`, `--dry-run`, `--json`, `--strict`, `--subdir` and `--type` are this program's own. Values, ids and names are
-/// passed on as given.
+/// `redo`, `history`, `list`, `unset`, `--title`, `--dry-run`, `--json`, `--exit-code`, `--no-log`, `--texts`, `--strict`, `--subdir` and `--type` are this
+/// program's own. Values, ids and names are passed on as given.
 ///
 /// # Errors
 /// The first of these faults, in this order. A word is missing, unknown or one too many, a number is not valid, two listings are requested, or the folder is
-/// empty. In words that are names with values, the last name has no value. A name is repeated. The operation is not done here. The title is not valid. And out
-/// of memory, at any time.
+/// empty. In words that are names with values, the last name has no value. A name is repeated. The operation is not done here. Texts are named for what writes,
+/// or standard input would be read twice. The title is not valid. And out of memory, at any time.
 pub fn command_of(alloc: Global, words: &[String]) -> Result<Asked, UsageFault>
     ensures ok { IfOk result (λ a. asked_by (map string_bytes words.now) ≡ Ok (without_text a)) }
     ensures refused { IfErr result (λ e. e ≢ OutOfMemory → asked_by (map string_bytes words.now) ≡ Err e) }

@@ -29,6 +29,14 @@ pub(crate) const DRY_RUN: &str = "Show the changes as a unified diff, and write 
 
 pub(crate) const ANSWER_JSON: &str = "Print what is done, or the refusal, as one line of JSON";
 
+pub(crate) const EXIT_CODE: &str = "End with status 4 if a build file is changed";
+
+pub(crate) const NO_LOG: &str = "Do not read or write the undo log";
+
+pub(crate) const TEXTS: &str = "\
+Build files as FILE has them, in JSON; with --dry-run,
+list, history or info; - is standard input";
+
 pub(crate) const VERBOSE: &str = "Print no more than without it";
 
 pub(crate) const TITLE: &str = "\

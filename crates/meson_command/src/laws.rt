@@ -1,7 +1,7 @@
 //! Laws of the command line. The functions do nothing: what they ensure is the law.
 
 ghost use Rattle.meson_command.specs.Laws.{HelpWhereAsked, JsonWhereWanted, OddWordsAreOdd, PairsAreTheWords, UnsetIsDelete, UsageMeansUnknown, VersionWhereAsked};
-ghost use Rattle.meson_command.specs.Rows.{Done, Json, Other, Refused, Shown, Titled};
+ghost use Rattle.meson_command.specs.Rows.{Done, Flagged, Json, Other, Refused, Shown, Texts, Titled};
 
 /// The requests of some command lines.
 pub fn rows()
@@ -9,6 +9,8 @@ pub fn rows()
     ensures titled { Titled }
     ensures shown { Shown }
     ensures json { Json }
+    ensures flagged { Flagged }
+    ensures texts { Texts }
     ensures other { Other }
     ensures refused { Refused }
 {}
@@ -31,8 +33,8 @@ pub fn json_where_wanted()
     ensures { JsonWhereWanted }
 {}
 
-/// Words that clap takes are wrong usage only in these cases: the folder is empty, an operation or a function is unknown, a number is not valid, or two
-/// listings are requested.
+/// Words that clap takes are wrong usage only in these cases: the folder is empty, an operation or a function is unknown, a number is not valid, two listings
+/// are requested, or texts are named for what writes or would read standard input, too.
 pub fn usage_means_unknown()
     ensures { UsageMeansUnknown }
 {}

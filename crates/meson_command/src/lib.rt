@@ -16,5 +16,5 @@ mod script;
 mod target;
 mod words;
 
-pub use asked::{Action, Asked, command_of, wants_json};
+pub use asked::{Action, Asked, Flags, command_of, wants_json};
 pub use fault::UsageFault;

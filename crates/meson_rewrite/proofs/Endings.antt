@@ -1,7 +1,7 @@
 -- How a run ends, from what its steps did.
 use Rattle.std.proofs.Common.{◌≡◌, ◌⊎◌, ◌≤◌, ◌||◌, Bool, false, true, ℕ, List, [], ◌∷◌, length, Option, Some, None, Result, Ok, Err, inl, inr, refl, sym, ap, ◌∙◌, subst, arith}
 use Rattle.std.specs.Prelude.{IfErr, IfOk, IsTrue}
-use Rattle.meson_command.specs.Asking.{without_text}
+use Rattle.meson_command.specs.Asking.{no_flags, only_asks, without_text}
 use Rattle.meson_command.specs.declared.asked.Action.{Action}
 use Rattle.meson_command.specs.declared.asked.Action.TheVariants as action
 use Rattle.meson_command.specs.declared.asked.Asked.{Asked}
@@ -22,7 +22,7 @@ use Rattle.meson_rewrite.proofs.Holding.{IsHeld, held-collected}
 use Rattle.meson_rewrite.specs.Listed.{listing_text}
 use Rattle.meson_rewrite.specs.Logs.{log_name, with_log}
 use Rattle.meson_rewrite.specs.Opening.{IsNoLog, Opens, OpensNone, log_unread, bad_log, no_log, no_project}
-use Rattle.meson_rewrite.specs.Requests.{AsksFor, AsksForNone, only_asks, script}
+use Rattle.meson_rewrite.specs.Requests.{AsksFor, AsksForNone, script}
 use Rattle.meson_rewrite.specs.Runs.{Edits, Ends, IsUnchanged, KeepsFiles, ListingEnds, OnlyAsks, StepEnds, asks_for_none, done, has_none, helped, listed, lists, memory_ran_out, misused, no_memory, not_opened, refused, shown, steps, told, told_version, unwritten, wants_memory, written}
 use Rattle.meson_rewrite.specs.Steps.{MayRefuseStep, only_tells}
 use Rattle.meson_rewrite.specs.Stops.{WantsMemory}
@@ -222,7 +222,7 @@ module _ (asked : Result Asked UsageFault) (before after : Seen) where
     unwritten-keeps e store.OutOfMemory t s =
         (ran-out a.dir step before after e t, inr (refl, record { a = a; is_asked = is; step = step; asks = asks; edits = e; taken = t }))
 
-    step-keeps : (end : Result Said Stop) → StepEnds a.dir step a.dry_run a.json before after end → Refusing (status end) → Keeps (status end)
+    step-keeps : (end : Result Said Stop) → StepEnds a.dir step a.flags.dry_run a.flags.json before after end → Refusing (status end) → Keeps (status end)
     step-keeps _ (not_opened stop u opens) s = untouched-keeps (stop_status stop) u
     step-keeps _ (refused old log stop u opens may) s = untouched-keeps (stop_status stop) u
     step-keeps _ (told old new log report said u opens does only says) s = untouched-keeps 0 u
@@ -238,7 +238,7 @@ status-keeps asked before after _ (helped a text u is shows) s = untouched-keeps
 status-keeps asked before after _ (told_version a u is shows) s = untouched-keeps asked before after 0 u
 status-keeps asked before after _ (asks_for_none a stop u is none) s = untouched-keeps asked before after (stop_status stop) u
 status-keeps asked before after _ (steps a step end is asks ends) s = step-keeps asked before after a step is asks end ends s
-status-keeps asked before after _ (lists a listing end is asks ends) s = untouched-keeps asked before after (status end) (listing-untouched a.dir listing a.json before after end ends)
+status-keeps asked before after _ (lists a listing end is asks ends) s = untouched-keeps asked before after (status end) (listing-untouched a.dir listing a.flags.json before after end ends)
 status-keeps asked before after _ (memory_ran_out stop u wants) s = untouched-keeps asked before after (stop_status stop) u
 
 -- ---- what was asked for
@@ -296,7 +296,7 @@ asks-only title action.Version held step is t = absurd (let no : ⊥ = cc in no)
 asks-same : (a : Asked) → IsTrue (only_asks (without_text a).action) → IsTrue (only_asks a.action)
 asks-same a t = go a.action t
   where
-    go : (x : Action) → IsTrue (only_asks (without_text (record { dir = None; title = []; dry_run = false; json = false; action = x })).action) → IsTrue (only_asks x)
+    go : (x : Action) → IsTrue (only_asks (without_text (record { dir = None; title = []; flags = no_flags; texts = None; action = x })).action) → IsTrue (only_asks x)
     go (action.Run s) t = t
     go (action.Info c) t = t
     go (action.ScriptText text unknown) t = t
@@ -336,9 +336,9 @@ asking-keeps asked before after _ (helped a text u is shows) t = untouched-same 
 asking-keeps asked before after _ (told_version a u is shows) t = untouched-same before after u
 asking-keeps asked before after _ (asks_for_none a stop u is none) t = untouched-same before after u
 asking-keeps asked before after _ (steps a step end is asks ends) t =
-    elim (one-true (only_asks (without_text a).action) a.dry_run (subst OnlyAsks is t)) [
-      | inl only ↦ step-told a.dir step a.dry_run a.json before after (inl (asks-only a.title a.action before.content step asks (asks-same a only))) end ends
-      | inr dry ↦ step-told a.dir step a.dry_run a.json before after (inr dry) end ends
+    elim (one-true (only_asks (without_text a).action) a.flags.dry_run (subst OnlyAsks is t)) [
+      | inl only ↦ step-told a.dir step a.flags.dry_run a.flags.json before after (inl (asks-only a.title a.action before.content step asks (asks-same a only))) end ends
+      | inr dry ↦ step-told a.dir step a.flags.dry_run a.flags.json before after (inr dry) end ends
     ]
-asking-keeps asked before after _ (lists a listing end is asks ends) t = untouched-same before after (listing-untouched a.dir listing a.json before after end ends)
+asking-keeps asked before after _ (lists a listing end is asks ends) t = untouched-same before after (listing-untouched a.dir listing a.flags.json before after end ends)
 asking-keeps asked before after _ (memory_ran_out stop u wants) t = untouched-same before after u

@@ -111,6 +111,6 @@ run-untold asked before after _ (helped a text u is shows) = tt
 run-untold asked before after _ (told_version a u is shows) = tt
 run-untold asked before after _ (asks_for_none a stop u is none) = same-keeps (dir_of asked) before.content after.content stop u.kept
 run-untold asked before after _ (steps a step end is asks ends) =
-    subst (λ r. IfErr end (KeepsUntold (dir_of r) before.content after.content)) (sym is) (step-untold a.dir step a.dry_run a.json before after end ends)
-run-untold asked before after _ (lists a listing end is asks ends) = listing-untold (dir_of asked) a.dir listing a.json before after end ends
+    subst (λ r. IfErr end (KeepsUntold (dir_of r) before.content after.content)) (sym is) (step-untold a.dir step a.flags.dry_run a.flags.json before after end ends)
+run-untold asked before after _ (lists a listing end is asks ends) = listing-untold (dir_of asked) a.dir listing a.flags.json before after end ends
 run-untold asked before after _ (memory_ran_out stop u wants) = same-keeps (dir_of asked) before.content after.content stop u.kept

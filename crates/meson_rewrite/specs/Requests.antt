@@ -59,22 +59,6 @@ abbrev pub IsNoScript : Option Content → ℕ → ℕ → List ℕ → UnknownM
 IsNoScript held failed failed' name unknown why =
     IsNoFile held failed failed' name why ⊎ ((bytes : List ℕ) × HasBytes held name bytes × IsBad (script_in unknown bytes) why)
 
--- ---- what needs no step
-
--- help or the version: the store is not used
-abbrev pub only_shows : Action → Bool
-only_shows (action.Help text) = true
-only_shows action.Version = true
-only_shows _ = false
-
--- the request is only help, the version, a listing, or what an info command reports
-abbrev pub only_asks : Action → Bool
-only_asks (action.Info c) = true
-only_asks action.History = true
-only_asks (action.List json) = true
-only_asks action.Sums = true
-only_asks a = only_shows a
-
 -- ---- the step that an action requests, a run with this title, and that it is one
 
 abbrev pub AsksFor : List ℕ → Action → Option Content → ProgramRequest → Type 0

@@ -6,7 +6,7 @@ use Rattle.meson_calls.specs.Loading.{IsProject}
 use Rattle.meson_json.specs.Log.{log_of}
 use Rattle.meson_script.specs.declared.session.Report.{Report}
 use Rattle.meson_script.specs.declared.session.Session.{Session}
-use Rattle.meson_command.specs.Asking.{without_text}
+use Rattle.meson_command.specs.Asking.{only_asks, only_shows, without_text}
 use Rattle.meson_command.specs.declared.asked.Action.TheVariants.{Help, Version}
 use Rattle.meson_command.specs.declared.asked.Asked.{Asked}
 use Rattle.meson_command.specs.declared.fault.UsageFault.{UsageFault}
@@ -22,7 +22,7 @@ use Rattle.meson_rewrite.specs.Listed.{listing_text}
 use Rattle.meson_rewrite.specs.Logs.{empty_log, log_name, with_log}
 use Rattle.meson_rewrite.specs.Opening.{Opens, OpensNone}
 use Rattle.meson_rewrite.specs.Refused.{stop_object}
-use Rattle.meson_rewrite.specs.Requests.{AsksFor, AsksForNone, only_asks, only_shows}
+use Rattle.meson_rewrite.specs.Requests.{AsksFor, AsksForNone}
 use Rattle.meson_rewrite.specs.Steps.{Does, MayRefuseStep, SaysStep, ShowsStep, only_tells}
 use Rattle.meson_rewrite.specs.Stops.{WantsMemory}
 use Rattle.meson_rewrite.specs.StoreReads.{MayRead, unread_in}
@@ -99,10 +99,10 @@ pub data Ends (asked : Result Asked UsageFault) (before after : Seen) : Result S
   asks_for_none : (a : Asked) (stop : Stop) → Untouched before after → asked ≡ Ok (without_text a)
       → AsksForNone a.action before.content before.failures after.failures stop → Ends asked before after (Err stop)
   steps : (a : Asked) (step : Step) (end : Result Said Stop) → asked ≡ Ok (without_text a) → AsksFor a.title a.action before.content (request.Step step)
-      → StepEnds a.dir step a.dry_run a.json before after end → Ends asked before after end
+      → StepEnds a.dir step a.flags.dry_run a.flags.json before after end → Ends asked before after end
   lists : (a : Asked) (listing : Listing) (end : Result Said Stop) → asked ≡ Ok (without_text a)
       → AsksFor a.title a.action before.content (request.List listing)
-      → ListingEnds a.dir listing a.json before after end → Ends asked before after end
+      → ListingEnds a.dir listing a.flags.json before after end → Ends asked before after end
   memory_ran_out : (stop : Stop) → Untouched before after → WantsMemory stop → Ends asked before after (Err stop)
 
 -- ---- what stays if nothing is done
@@ -145,7 +145,7 @@ NeedsNoStore (Ok a) = IsTrue (only_shows a.action)
 -- the request is only help, the version, a listing, what an info command reports, or what would change
 abbrev pub OnlyAsks : Result Asked UsageFault → Type 0
 OnlyAsks (Err fault) = ⊤
-OnlyAsks (Ok a) = IsTrue (only_asks a.action || a.dry_run)
+OnlyAsks (Ok a) = IsTrue (only_asks a.action || a.flags.dry_run)
 
 -- ---- what is written
 

@@ -1,13 +1,12 @@
 //! The program, over any store and any two writers.
 
 ghost use Rattle.std.specs.Prelude.{◌≡◌, ◌≤◌, ◌⊎◌, Err, IsTrue, MatchResult, Ok, map, option_map, string_bytes, true, OnOk};
-ghost use Rattle.meson_command.specs.Asking.{asked_by, wants_json, without_text};
+ghost use Rattle.meson_command.specs.Asking.{asked_by, only_shows, wants_json, without_text};
 ghost use Rattle.meson_command.specs.declared.fault.UsageFault.TheVariants.{OutOfMemory};
 ghost use Rattle.meson_gathering.specs.Gathering.{named_folder};
 ghost use Rattle.meson_json.specs.Titles.{is_title};
 ghost use Rattle.meson_rewrite.specs.Lines.{status, store_fault_status, usage_status};
 ghost use Rattle.meson_rewrite.specs.StoreReads.{MayRead, ReadsAll, ReadsAtMost, ReadsProject, unread_in};
-ghost use Rattle.meson_rewrite.specs.Requests.{only_shows};
 ghost use Rattle.meson_rewrite.specs.Steps.{IsTitled, only_tells};
 ghost use Rattle.meson_rewrite.specs.Runs.{CannotSay, Ends, IsUnchanged, KeepsFiles, ListingEnds, NeedsNoStore, OnlyAsks, Run, Says, StepEnds, Tells};
 ghost use Rattle.meson_rewrite.specs.declared.stop.Stop.TheVariants.{Usage};
@@ -103,16 +102,16 @@ fn answer<S: Store>(alloc: Global, store: &mut S, asked: Asked) -> Result<Said, 
     let Asked {
         dir,
         title,
-        dry_run,
-        json,
+        flags,
+        texts: _,
         action,
     } = asked;
     match request_of(alloc, store, action, title) {
         Ok(ProgramRequest::Show(text)) => Ok(Said::show(alloc, text)),
         Ok(ProgramRequest::Step(step)) => {
-            do_step(alloc, store, folder(&dir), &step, dry_run, json)
+            do_step(alloc, store, folder(&dir), &step, flags.dry_run, flags.json)
         }
-        Ok(ProgramRequest::List(listing)) => list(alloc, store, folder(&dir), listing, json),
+        Ok(ProgramRequest::List(listing)) => list(alloc, store, folder(&dir), listing, flags.json),
         Err(stop) => Err(stop),
     }
 }
@@ -153,7 +152,7 @@ fn run<S: Store>(alloc: Global, store: &mut S, words: &[String]) -> Ending
 {
     match command_of(alloc, words) {
         Ok(asked) => {
-            let json = asked.json;
+            let json = asked.flags.json;
             let end = answer(alloc, store, asked);
             Ending { end, json }
         }

@@ -4,7 +4,8 @@ ghost use Rattle.std.specs.Prelude.{◌≡◌, ◌≤◌, ◌⊎◌, ◌∷◌, 
 ghost use Rattle.serde_json.specs.Read.{read};
 ghost use Rattle.meson_json.specs.Scripts.{script_of};
 ghost use Rattle.meson_json.specs.Titles.{is_title};
-ghost use Rattle.meson_rewrite.specs.Requests.{AsksFor, AsksForNone, IsBad, IsFileOf, IsNoFile, IsNoScript, IsScriptOf, only_shows, script, script_in};
+ghost use Rattle.meson_rewrite.specs.Requests.{AsksFor, AsksForNone, IsBad, IsFileOf, IsNoFile, IsNoScript, IsScriptOf, script, script_in};
+ghost use Rattle.meson_command.specs.Asking.{only_shows};
 ghost use Rattle.meson_rewrite.specs.inside.Requests.{StepsTitled, names_file};
 ghost use Rattle.meson_rewrite.specs.Lines.{version_line};
 ghost use Rattle.meson_rewrite.specs.StoreReads.{AsksNamed, file_read};
