@@ -1,4 +1,5 @@
 pub mod Holdings
+pub mod Info
 pub mod Inventory
 pub mod Placed
 pub mod Laws

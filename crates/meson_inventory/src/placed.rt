@@ -21,7 +21,7 @@ use std::alloc::{AllocError, Global};
 use std::str;
 
 /// An offset with its position.
-fn offset_members(
+pub(crate) fn offset_members(
     alloc: Global,
     at: usize,
     position: Position,

@@ -1,0 +1,293 @@
+//! What an info command reports of a call, as JSON with positions.
+
+ghost use Rattle.std.specs.Prelude.{◌≡◌, IfOk, IsTrue, OnOk, codes, map};
+ghost use Rattle.std.specs.List.{filter_map};
+ghost use Rattle.serde_json.specs.Data.{array, member, no_members, object, put as with_member};
+ghost use Rattle.serde_json.specs.View.{items_of, members_view, view};
+ghost use Rattle.meson_syntax.specs.Grammar.{argument_words};
+ghost use Rattle.meson_syntax.specs.View.{arg_view, args_view};
+ghost use Rattle.meson_calls.specs.GoodLists.{GoodArgs};
+ghost use Rattle.meson_calls.specs.Loading.{project};
+ghost use Rattle.meson_calls.specs.Refusals.{IfRefused};
+ghost use Rattle.meson_calls.specs.Strings.{AreGood};
+ghost use Rattle.meson_listing.specs.Entries.{call_data, target_data};
+ghost use Rattle.meson_plan.specs.Details.{NoTarget};
+ghost use Rattle.meson_inventory.specs.Info.{HasNoCallInfo, IsCallInfo, IsTargetInfo, keyword_place, keyword_place_data, offset_data, placed_item_data, placed_items_data, placed_kwargs_data, placed_target_data, places_data, put_places, range_data, with_members, with_position};
+
+use crate::placed::offset_members;
+use crate::position_counter::PositionCounter;
+use meson_calls::keys::is_key;
+use meson_calls::roles::{identifier_text, text_of};
+use meson_details::called::call_at;
+use meson_edit::span_of;
+use meson_lex::Span;
+use meson_listing::entries::{file_name, spot_members, text_or_null};
+use meson_listing::{call_object, target_object};
+use meson_plan::{Head, Project, Refusal, Role, Shown, SourceItem, TargetDetails};
+use meson_splice::{FileSet, Text};
+use meson_syntax::Arg;
+use serde_json::{Map, Value, put};
+use std::alloc::{AllocError, Global};
+
+/// The places of the name and the value of a keyword argument.
+#[derive(Drop)]
+pub(crate) struct KeywordPlace {
+    pub key: Text,
+    pub name: Span,
+    pub value: Span,
+}
+
+/// Puts where a part of a file begins and ends into the members of an object.
+fn put_position(
+    alloc: Global,
+    positions: &mut PositionCounter<'_>,
+    file: usize,
+    span: Span,
+    members: &mut Map<String, Value>,
+) -> Result<(), AllocError>
+    ensures put { OnOk result (members_view members.new.entries ≡ with_position positions.old.files.now file span (members_view members.old.entries)) }
+    ensures files { positions.new.files.now ≡ positions.old.files.now }
+{
+    let start = positions.go_to(file, span.from);
+    let end = positions.position_of(file, span.to);
+    let end = offset_members(alloc, span.to, end)?;
+    put(members, alloc, "character", Value::from(start.character))?;
+    put(members, alloc, "end", Value::Object(end))?;
+    put(members, alloc, "line", Value::from(start.line))
+}
+
+/// A source or an extra file, with its place.
+fn item_value(
+    alloc: Global,
+    files: &FileSet,
+    positions: &mut PositionCounter<'_>,
+    item: &SourceItem,
+) -> Result<Value, AllocError>
+    requires { positions.old.files.now ≡ files.now }
+    ensures value { IfOk result (λ v. view v ≡ placed_item_data files.now item.now) }
+    ensures files { positions.new.files.now ≡ positions.old.files.now }
+{
+    let mut members = spot_members(alloc, item.span.from, file_name(files, item.file))?;
+    put_position(alloc, positions, item.file, item.span, &mut members)?;
+    let value = Value::try_from_str(alloc, item.value.get())?;
+    put(&mut members, alloc, "value", value)?;
+    let variable = item.variable.clone()?;
+    put(&mut members, alloc, "variable", text_or_null(variable))?;
+    Ok(Value::Object(members))
+}
+
+/// Sources or extra files, with their places.
+fn items_value(
+    alloc: Global,
+    files: &FileSet,
+    items: &[SourceItem],
+) -> Result<Value, AllocError>
+    ensures { IfOk result (λ v. view v ≡ placed_items_data files.now items.now) }
+{
+    let mut positions = PositionCounter::new(files);
+    let mut list = Vec::new(alloc);
+    for item in items {
+        list.push(item_value(alloc, files, &mut positions, item)?)?;
+    }
+    Ok(Value::Array(list))
+}
+
+/// What an info command reports of a target whose call spans that, with positions.
+fn target_value(
+    alloc: Global,
+    files: &FileSet,
+    span: Span,
+    details: TargetDetails,
+) -> Result<Value, AllocError>
+    ensures { IfOk result (λ v. view v ≡ placed_target_data files.now span details) }
+{
+    let TargetDetails {
+        place,
+        head,
+        sources,
+        extra_files,
+    } = details;
+    let placed_sources = items_value(alloc, files, sources.items.get())?;
+    let placed_extra = items_value(alloc, files, extra_files.items.get())?;
+    let listing = target_object(alloc, files, place.file, head, sources, extra_files)?;
+    match listing {
+        Value::Object(mut members) => {
+            put(&mut members, alloc, "extra_files", placed_extra)?;
+            put(&mut members, alloc, "sources", placed_sources)?;
+            let mut positions = PositionCounter::new(files);
+            put_position(alloc, &mut positions, place.file, span, &mut members)?;
+            Ok(Value::Object(members))
+        }
+        other => Ok(other),
+    }
+}
+
+/// What `info` reports of a target, with the position of its call, of each source and of each extra file. Lines are counted from 0, characters in UTF-16
+/// code units.
+///
+/// # Errors
+/// There is no such target or more than one, or it has `sources:` or `extra_files:` twice, or out of memory.
+pub fn placed_info_target(alloc: Global, project: &Project, id: &str) -> Result<Value, Refusal>
+    ensures listed { IfOk result (λ v. IsTargetInfo project.now id.now (view v)) }
+    ensures refused { IfRefused result (NoTarget (project project.now) id.now) }
+{
+    project.reads();
+    let details = project.target_details(alloc, id)?;
+    let called = call_at(project.files(), project.trees(), &details.place);
+    Ok(target_value(alloc, project.files(), called.span, details)?)
+}
+
+/// Where the name and the value of an argument are, if commands change it in such a call.
+fn keyword_place(
+    alloc: Global,
+    source: &[u8],
+    role: Role,
+    arg: &Arg,
+) -> Result<Option<KeywordPlace>, AllocError>
+    requires { AreGood (argument_words (arg_view source.now arg.now)) }
+    ensures { IfOk result (λ place. place ≡ keyword_place role (arg_view source.now arg.now)) }
+{
+    match arg {
+        Arg::Named {
+            span: _,
+            name,
+            value,
+        } => {
+            let key = text_of(source, *name);
+            if !is_key(role, key) {
+                return Ok(None);
+            }
+            let key = String::from_str(alloc, identifier_text(key))?;
+            Ok(Some(KeywordPlace {
+                key: Text::of(key),
+                name: *name,
+                value: span_of(value),
+            }))
+        }
+        Arg::Plain(_) => Ok(None),
+        Arg::Pair { .. } => Ok(None),
+    }
+}
+
+/// Where the names and the values of the arguments are that commands change in such a call.
+fn keyword_places(
+    alloc: Global,
+    source: &[u8],
+    role: Role,
+    args: &[Arg],
+) -> Result<Vec<KeywordPlace>, AllocError>
+    requires { GoodArgs source.now args.now }
+    ensures { IfOk result (λ places. places.items ≡ filter_map (keyword_place role) (args_view source.now args.now)) }
+{
+    let mut places = Vec::new(alloc);
+    for i in 0..args.len() {
+        if let Some(place) = keyword_place(alloc, source, role, &args[i])? {
+            places.push(place)?;
+        }
+    }
+    Ok(places)
+}
+
+/// Where a part of a file begins and ends.
+fn range_value(
+    alloc: Global,
+    positions: &mut PositionCounter<'_>,
+    file: usize,
+    span: Span,
+) -> Result<Value, AllocError>
+    ensures value { IfOk result (λ v. view v ≡ range_data positions.old.files.now file span) }
+    ensures files { positions.new.files.now ≡ positions.old.files.now }
+{
+    let mut members = Map::new(alloc);
+    put(&mut members, alloc, "at", Value::from(span.from))?;
+    put_position(alloc, positions, file, span, &mut members)?;
+    Ok(Value::Object(members))
+}
+
+/// Puts the places of a keyword argument at its key.
+fn put_keyword_place(
+    alloc: Global,
+    positions: &mut PositionCounter<'_>,
+    file: usize,
+    place: KeywordPlace,
+    members: &mut Map<String, Value>,
+) -> Result<(), AllocError>
+    ensures put { OnOk result (members_view members.new.entries
+        ≡ with_member place.key (keyword_place_data positions.old.files.now file place) (members_view members.old.entries)) }
+    ensures files { positions.new.files.now ≡ positions.old.files.now }
+{
+    let KeywordPlace { key, name, value } = place;
+    let mut both = Map::new(alloc);
+    let name = range_value(alloc, positions, file, name)?;
+    put(&mut both, alloc, "name", name)?;
+    let value = range_value(alloc, positions, file, value)?;
+    put(&mut both, alloc, "value", value)?;
+    let _none = members.insert(key.take(), Value::Object(both))?;
+    Ok(())
+}
+
+/// The places of keyword arguments, by their keys.
+fn places_value(
+    alloc: Global,
+    files: &FileSet,
+    file: usize,
+    places: Vec<KeywordPlace>,
+) -> Result<Value, AllocError>
+    ensures { IfOk result (λ v. view v ≡ places_data files.now file places.items) }
+{
+    let mut positions = PositionCounter::new(files);
+    let mut members = Map::new(alloc);
+    for place in places {
+        put_keyword_place(alloc, &mut positions, file, place, &mut members)?;
+    }
+    Ok(Value::Object(members))
+}
+
+/// What an info command reports of the keyword arguments of a call in the file of this number, with positions.
+fn kwargs_value(
+    alloc: Global,
+    files: &FileSet,
+    file: usize,
+    span: Span,
+    listing: Value,
+    places: Vec<KeywordPlace>,
+) -> Result<Value, AllocError>
+    ensures { IfOk result (λ v. view v ≡ with_members (λ ms. with_position files.now file span
+        (with_member (codes "places") (places_data files.now file places.items) ms)) (view listing)) }
+{
+    let placed = places_value(alloc, files, file, places)?;
+    match listing {
+        Value::Object(mut members) => {
+            put(&mut members, alloc, "places", placed)?;
+            let mut positions = PositionCounter::new(files);
+            put_position(alloc, &mut positions, file, span, &mut members)?;
+            Ok(Value::Object(members))
+        }
+        other => Ok(other),
+    }
+}
+
+/// What `info` reports of the keyword arguments of a call, with the position of the call and, as the member `places`, those of the name and the value of each
+/// of them. Lines are counted from 0, characters in UTF-16 code units.
+///
+/// # Errors
+/// There is no such call or more than one. Or one of these arguments is there twice, the first such in the call's order. Or out of memory.
+pub fn placed_info_kwargs(
+    alloc: Global,
+    project: &Project,
+    role: Role,
+    id: &str,
+) -> Result<Value, Refusal>
+    ensures listed { IfOk result (λ v. IsCallInfo project.now role id.now (view v)) }
+    ensures refused { IfRefused result (HasNoCallInfo project.now role id.now) }
+{
+    project.reads();
+    let place = project.find_one(alloc, role, id)?;
+    let head = project.head(alloc, &place)?;
+    let keywords = project.keywords(alloc, role, &place)?;
+    let called = call_at(project.files(), project.trees(), &place);
+    let places = keyword_places(alloc, called.source, role, called.arguments.items.get())?;
+    let files = project.files();
+    let listing = call_object(alloc, files, place.file, head, keywords)?;
+    Ok(kwargs_value(alloc, files, place.file, called.span, listing, places)?)
+}
