@@ -1,5 +1,5 @@
 -- What an info command reports of a call, with positions: lines from 0, characters in UTF-16 units. It is the listing without them, with further members.
-use Rattle.std.specs.Prelude.{◌≡◌, ℕ, List, [], ◌∷◌, map, codes, if◌then◌else◌, Option, Some, None, Ok, Err}
+use Rattle.std.specs.Prelude.{◌≡◌, ⊤, ℕ, List, [], ◌∷◌, map, codes, if◌then◌else◌, Option, Some, None, Ok, Err}
 use Rattle.std.specs.List.{filter_map}
 use Rattle.serde_json.specs.Data.{Data, string, array, object, Members, no_members, member, put}
 use Rattle.serde_json.specs.View.{items_of}
@@ -16,12 +16,14 @@ use Rattle.meson_calls.specs.Keys.{is_key}
 use Rattle.meson_calls.specs.Loading.{Loaded, name_of_file, project}
 use Rattle.meson_calls.specs.Project.{expression_at}
 use Rattle.meson_variables.specs.declared.source.SourceItem.{SourceItem}
+use Rattle.meson_steps.specs.declared.command.Command.{Command}
+use Rattle.meson_steps.specs.declared.command.Command.TheVariants as command
 use Rattle.meson_details.specs.declared.details.Head.{Head}
 use Rattle.meson_details.specs.declared.details.Shown.{Shown}
 use Rattle.meson_details.specs.Details.{head, keywords}
 use Rattle.meson_listing.specs.Entries.{call_data, target_data, text_or_null}
 use Rattle.meson_plan.specs.declared.details.TargetDetails.{TargetDetails}
-use Rattle.meson_plan.specs.Details.{AreDetails, place_found, target_place}
+use Rattle.meson_plan.specs.Details.{AreDetails, NoTarget, place_found, target_place}
 use Rattle.meson_inventory.specs.Placed.{character_at, count, line_at}
 use Rattle.meson_inventory.specs.declared.info.KeywordPlace.{KeywordPlace}
 
@@ -129,3 +131,19 @@ pub data HasNoCallInfo (l : Loaded) (role : Role) (id : List ℕ) : Refusal → 
   not_found : (refusal : Refusal) → place_found (the_call (project l) role id) ≡ Err refusal → HasNoCallInfo l role id refusal
   twice : (place : CallRef) (refusal : Refusal) → place_found (the_call (project l) role id) ≡ Ok place → keywords l role place ≡ Some (Err refusal)
       → HasNoCallInfo l role id refusal
+
+-- ---- commands
+
+-- what a command reports, if it is an info command
+abbrev pub IsInfo : Loaded → Command → Option Data → Type 0
+IsInfo l (command.TargetInfo id) (Some info) = IsTargetInfo l id info
+IsInfo l (command.KwargsInfo role id) (Some info) = IsCallInfo l role id info
+IsInfo l (command.TargetInfo id) None = ⊥
+IsInfo l (command.KwargsInfo role id) None = ⊥
+IsInfo l _ info = info ≡ None
+
+-- why it reports nothing, except out of memory
+abbrev pub HasNoInfo : Loaded → Command → Refusal → Type 0
+HasNoInfo l (command.TargetInfo id) why = NoTarget (project l) id why
+HasNoInfo l (command.KwargsInfo role id) why = HasNoCallInfo l role id why
+HasNoInfo l _ why = ⊥

@@ -1,18 +1,17 @@
 //! What an info command reports of a call, as JSON with positions.
 
-ghost use Rattle.std.specs.Prelude.{◌≡◌, IfOk, IsTrue, OnOk, codes, map};
+ghost use Rattle.std.specs.Prelude.{◌≡◌, IfOk, OnOk, codes, option_map};
 ghost use Rattle.std.specs.List.{filter_map};
-ghost use Rattle.serde_json.specs.Data.{array, member, no_members, object, put as with_member};
-ghost use Rattle.serde_json.specs.View.{items_of, members_view, view};
+ghost use Rattle.serde_json.specs.Data.{put as with_member};
+ghost use Rattle.serde_json.specs.View.{members_view, view};
 ghost use Rattle.meson_syntax.specs.Grammar.{argument_words};
 ghost use Rattle.meson_syntax.specs.View.{arg_view, args_view};
 ghost use Rattle.meson_calls.specs.GoodLists.{GoodArgs};
 ghost use Rattle.meson_calls.specs.Loading.{project};
 ghost use Rattle.meson_calls.specs.Refusals.{IfRefused};
 ghost use Rattle.meson_calls.specs.Strings.{AreGood};
-ghost use Rattle.meson_listing.specs.Entries.{call_data, target_data};
 ghost use Rattle.meson_plan.specs.Details.{NoTarget};
-ghost use Rattle.meson_inventory.specs.Info.{HasNoCallInfo, IsCallInfo, IsTargetInfo, keyword_place, keyword_place_data, offset_data, placed_item_data, placed_items_data, placed_kwargs_data, placed_target_data, places_data, put_places, range_data, with_members, with_position};
+ghost use Rattle.meson_inventory.specs.Info.{HasNoCallInfo, HasNoInfo, IsCallInfo, IsInfo, IsTargetInfo, keyword_place, keyword_place_data, offset_data, placed_item_data, placed_items_data, placed_kwargs_data, placed_target_data, places_data, put_places, range_data, with_members, with_position};
 
 use crate::placed::offset_members;
 use crate::position_counter::PositionCounter;
@@ -23,7 +22,7 @@ use meson_edit::span_of;
 use meson_lex::Span;
 use meson_listing::entries::{file_name, spot_members, text_or_null};
 use meson_listing::{call_object, target_object};
-use meson_plan::{Head, Project, Refusal, Role, Shown, SourceItem, TargetDetails};
+use meson_plan::{Command, Project, Refusal, Role, SourceItem, TargetDetails};
 use meson_splice::{FileSet, Text};
 use meson_syntax::Arg;
 use serde_json::{Map, Value, put};
@@ -290,4 +289,27 @@ pub fn placed_info_kwargs(
     let files = project.files();
     let listing = call_object(alloc, files, place.file, head, keywords)?;
     Ok(kwargs_value(alloc, files, place.file, called.span, listing, places)?)
+}
+
+/// What a command reports, with positions: nothing, if it is not an info command.
+///
+/// # Errors
+/// Those of `placed_info_target` and `placed_info_kwargs`.
+pub fn placed_info(
+    alloc: Global,
+    project: &Project,
+    command: &Command,
+) -> Result<Option<Value>, Refusal>
+    ensures told { IfOk result (λ info. IsInfo project.now command.now (option_map view info)) }
+    ensures refused { IfRefused result (HasNoInfo project.now command.now) }
+{
+    match command {
+        Command::TargetInfo { target } => {
+            Ok(Some(placed_info_target(alloc, project, target.get())?))
+        }
+        Command::KwargsInfo { role, id } => {
+            Ok(Some(placed_info_kwargs(alloc, project, *role, id.get())?))
+        }
+        _ => Ok(None),
+    }
 }

@@ -10,7 +10,7 @@ mod lines;
 mod placed;
 mod position_counter;
 
-pub use info::{placed_info_kwargs, placed_info_target};
+pub use info::{placed_info, placed_info_kwargs, placed_info_target};
 pub use inventory::project_object;
 pub use lines::{calls_lines, project_lines};
 pub use placed::{calls_object, placed_project_object};
