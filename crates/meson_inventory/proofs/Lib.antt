@@ -5,3 +5,5 @@ mod NotEntered
 mod FileSteps
 mod LinesCounted
 mod PositionsCounted
+mod KeywordsPlaced
+mod CallSpans

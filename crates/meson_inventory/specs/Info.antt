@@ -1,7 +1,9 @@
 -- What an info command reports of a call, with positions: lines from 0, characters in UTF-16 units. It is the listing without them, with further members.
-use Rattle.std.specs.Prelude.{◌≡◌, ⊤, ℕ, List, [], ◌∷◌, map, codes, if◌then◌else◌, Option, Some, None, Ok, Err}
+use Rattle.std.specs.Prelude.{◌≡◌, ℕ, List, [], ◌∷◌, map, codes, if◌then◌else◌, Option, Some, None, Ok, Err}
 use Rattle.std.specs.List.{filter_map}
+use Rattle.std.specs.Option.{option_map_or}
 use Rattle.serde_json.specs.Data.{Data, string, array, object, Members, no_members, member, put}
+use Rattle.serde_json.specs.Find.{as_object}
 use Rattle.serde_json.specs.View.{items_of}
 use Rattle.meson_lex.specs.declared.kinds.Span.{Span}
 use Rattle.meson_splice.specs.declared.file_set.File.{File}
@@ -53,10 +55,9 @@ call_span _ = record { from = 0; to = 0 }
 abbrev pub span_at : Loaded → CallRef → Span
 span_at l c = call_span (expression_at (project l) c)
 
--- an object with other members
+-- an object with other members; what is not an object stays
 abbrev pub with_members : (Members → Members) → Data → Data
-with_members f (object ms) = object (f ms)
-with_members f other = other
+with_members f d = option_map_or (λ ms. object (f ms)) (as_object d) d
 
 -- ---- targets
 
@@ -74,7 +75,7 @@ placed_items_data files is = array (items_of (map (placed_item_data files) is))
 abbrev pub placed_target_data : List File → Span → TargetDetails → Data
 placed_target_data files span t =
     with_members (λ ms. with_position files t.place.file span
-        (put (codes "sources") (placed_items_data files t.sources.items) (put (codes "extra_files") (placed_items_data files t.extra_files.items) ms)))
+    (put (codes "sources") (placed_items_data files t.sources.items) (put (codes "extra_files") (placed_items_data files t.extra_files.items) ms)))
     (target_data files t.place.file t.head t.sources t.extra_files)
 
 -- it is that of the one target that the id names
@@ -83,6 +84,10 @@ pub record IsTargetInfo (l : Loaded) (id : List ℕ) (info : Data) : Type 0 wher
   pub is_place : target_place (project l) id ≡ Ok told.place
   pub are_details : AreDetails (project l) told.place told
   pub is : info ≡ placed_target_data l.files (span_at l told.place) told
+
+-- why there is none, except out of memory: the id names no target or more than one, or `sources:` or `extra_files:` is there twice
+abbrev pub HasNoTargetInfo : Loaded → List ℕ → Refusal → Type 0
+HasNoTargetInfo l id why = NoTarget (project l) id why
 
 -- ---- keyword arguments
 
@@ -144,6 +149,6 @@ IsInfo l _ info = info ≡ None
 
 -- why it reports nothing, except out of memory
 abbrev pub HasNoInfo : Loaded → Command → Refusal → Type 0
-HasNoInfo l (command.TargetInfo id) why = NoTarget (project l) id why
+HasNoInfo l (command.TargetInfo id) why = HasNoTargetInfo l id why
 HasNoInfo l (command.KwargsInfo role id) why = HasNoCallInfo l role id why
 HasNoInfo l _ why = ⊥

@@ -1,17 +1,16 @@
 //! What an info command reports of a call, as JSON with positions.
 
-ghost use Rattle.std.specs.Prelude.{◌≡◌, IfOk, OnOk, codes, option_map};
+ghost use Rattle.std.specs.Prelude.{◌≡◌, IfErr, IfOk, None, OnOk, Some, codes, option_map};
 ghost use Rattle.std.specs.List.{filter_map};
 ghost use Rattle.serde_json.specs.Data.{put as with_member};
+ghost use Rattle.serde_json.specs.Find.{as_object};
 ghost use Rattle.serde_json.specs.View.{members_view, view};
 ghost use Rattle.meson_syntax.specs.Grammar.{argument_words};
 ghost use Rattle.meson_syntax.specs.View.{arg_view, args_view};
 ghost use Rattle.meson_calls.specs.GoodLists.{GoodArgs};
-ghost use Rattle.meson_calls.specs.Loading.{project};
 ghost use Rattle.meson_calls.specs.Refusals.{IfRefused};
 ghost use Rattle.meson_calls.specs.Strings.{AreGood};
-ghost use Rattle.meson_plan.specs.Details.{NoTarget};
-ghost use Rattle.meson_inventory.specs.Info.{HasNoCallInfo, HasNoInfo, IsCallInfo, IsInfo, IsTargetInfo, keyword_place, keyword_place_data, offset_data, placed_item_data, placed_items_data, placed_kwargs_data, placed_target_data, places_data, put_places, range_data, with_members, with_position};
+ghost use Rattle.meson_inventory.specs.Info.{HasNoCallInfo, HasNoInfo, HasNoTargetInfo, IsCallInfo, IsInfo, IsTargetInfo, keyword_place, keyword_place_data, offset_data, placed_item_data, placed_items_data, placed_kwargs_data, placed_target_data, places_data, put_places, range_data, with_members, with_position};
 
 use crate::placed::offset_members;
 use crate::position_counter::PositionCounter;
@@ -76,11 +75,7 @@ fn item_value(
 }
 
 /// Sources or extra files, with their places.
-fn items_value(
-    alloc: Global,
-    files: &FileSet,
-    items: &[SourceItem],
-) -> Result<Value, AllocError>
+fn items_value(alloc: Global, files: &FileSet, items: &[SourceItem]) -> Result<Value, AllocError>
     ensures { IfOk result (λ v. view v ≡ placed_items_data files.now items.now) }
 {
     let mut positions = PositionCounter::new(files);
@@ -89,6 +84,17 @@ fn items_value(
         list.push(item_value(alloc, files, &mut positions, item)?)?;
     }
     Ok(Value::Array(list))
+}
+
+/// The members of an object; the value back if it is not one.
+fn members_of(value: Value) -> Result<Map<String, Value>, Value>
+    ensures members { IfOk result (λ m. as_object (view value) ≡ Some (members_view m.entries)) }
+    ensures other { IfErr result (λ other. (view other ≡ view value) × (as_object (view value) ≡ None)) }
+{
+    match value {
+        Value::Object(members) => Ok(members),
+        other => Err(other),
+    }
 }
 
 /// What an info command reports of a target whose call spans that, with positions.
@@ -109,16 +115,15 @@ fn target_value(
     let placed_sources = items_value(alloc, files, sources.items.get())?;
     let placed_extra = items_value(alloc, files, extra_files.items.get())?;
     let listing = target_object(alloc, files, place.file, head, sources, extra_files)?;
-    match listing {
-        Value::Object(mut members) => {
-            put(&mut members, alloc, "extra_files", placed_extra)?;
-            put(&mut members, alloc, "sources", placed_sources)?;
-            let mut positions = PositionCounter::new(files);
-            put_position(alloc, &mut positions, place.file, span, &mut members)?;
-            Ok(Value::Object(members))
-        }
-        other => Ok(other),
-    }
+    let mut members = match members_of(listing) {
+        Ok(members) => members,
+        Err(other) => return Ok(other),
+    };
+    put(&mut members, alloc, "extra_files", placed_extra)?;
+    put(&mut members, alloc, "sources", placed_sources)?;
+    let mut positions = PositionCounter::new(files);
+    put_position(alloc, &mut positions, place.file, span, &mut members)?;
+    Ok(Value::Object(members))
 }
 
 /// What `info` reports of a target, with the position of its call, of each source and of each extra file. Lines are counted from 0, characters in UTF-16
@@ -128,7 +133,7 @@ fn target_value(
 /// There is no such target or more than one, or it has `sources:` or `extra_files:` twice, or out of memory.
 pub fn placed_info_target(alloc: Global, project: &Project, id: &str) -> Result<Value, Refusal>
     ensures listed { IfOk result (λ v. IsTargetInfo project.now id.now (view v)) }
-    ensures refused { IfRefused result (NoTarget (project project.now) id.now) }
+    ensures refused { IfRefused result (HasNoTargetInfo project.now id.now) }
 {
     project.reads();
     let details = project.target_details(alloc, id)?;
@@ -203,6 +208,24 @@ fn range_value(
     Ok(Value::Object(members))
 }
 
+/// The places of the name and the value of a keyword argument.
+fn place_value(
+    alloc: Global,
+    positions: &mut PositionCounter<'_>,
+    file: usize,
+    place: &KeywordPlace,
+) -> Result<Value, AllocError>
+    ensures value { IfOk result (λ v. view v ≡ keyword_place_data positions.old.files.now file place.now) }
+    ensures files { positions.new.files.now ≡ positions.old.files.now }
+{
+    let mut both = Map::new(alloc);
+    let name = range_value(alloc, positions, file, place.name)?;
+    put(&mut both, alloc, "name", name)?;
+    let value = range_value(alloc, positions, file, place.value)?;
+    put(&mut both, alloc, "value", value)?;
+    Ok(Value::Object(both))
+}
+
 /// Puts the places of a keyword argument at its key.
 fn put_keyword_place(
     alloc: Global,
@@ -215,13 +238,8 @@ fn put_keyword_place(
         ≡ with_member place.key (keyword_place_data positions.old.files.now file place) (members_view members.old.entries)) }
     ensures files { positions.new.files.now ≡ positions.old.files.now }
 {
-    let KeywordPlace { key, name, value } = place;
-    let mut both = Map::new(alloc);
-    let name = range_value(alloc, positions, file, name)?;
-    put(&mut both, alloc, "name", name)?;
-    let value = range_value(alloc, positions, file, value)?;
-    put(&mut both, alloc, "value", value)?;
-    let _none = members.insert(key.take(), Value::Object(both))?;
+    let value = place_value(alloc, positions, file, &place)?;
+    let _none = members.insert(place.key.take(), value)?;
     Ok(())
 }
 
@@ -255,15 +273,14 @@ fn kwargs_value(
         (with_member (codes "places") (places_data files.now file places.items) ms)) (view listing)) }
 {
     let placed = places_value(alloc, files, file, places)?;
-    match listing {
-        Value::Object(mut members) => {
-            put(&mut members, alloc, "places", placed)?;
-            let mut positions = PositionCounter::new(files);
-            put_position(alloc, &mut positions, file, span, &mut members)?;
-            Ok(Value::Object(members))
-        }
-        other => Ok(other),
-    }
+    let mut members = match members_of(listing) {
+        Ok(members) => members,
+        Err(other) => return Ok(other),
+    };
+    put(&mut members, alloc, "places", placed)?;
+    let mut positions = PositionCounter::new(files);
+    put_position(alloc, &mut positions, file, span, &mut members)?;
+    Ok(Value::Object(members))
 }
 
 /// What `info` reports of the keyword arguments of a call, with the position of the call and, as the member `places`, those of the name and the value of each

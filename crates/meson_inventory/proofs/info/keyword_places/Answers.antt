@@ -4,7 +4,7 @@ use Rattle.meson_syntax.specs.Grammar.{argument_words}
 use Rattle.meson_syntax.specs.View.{arg_view, args_view}
 use Rattle.meson_calls.specs.Strings.{AreGood}
 use Rattle.meson_calls.proofs.Nested.{good_arg}
-use Rattle.meson_details.proofs.EachShown.{kept_more, kept_none}
+use Rattle.meson_inventory.proofs.KeywordsPlaced.{kept_more, kept_none}
 use Rattle.meson_inventory.specs.Info.{keyword_place}
 use Rattle.meson_inventory.proofs.info.keyword_places.Goals as goal
 use Rattle.meson_inventory.proofs.info.keyword_places.Goals.{in-Some+in_ok-push, in_default}

@@ -1,4 +1,4 @@
-use Rattle.std.proofs.Common.{◌≡◌, ℕ, List, ◌∷◌, [], ◌++◌, refl, sym, ap, ◌∙◌, append_assoc}
+use Rattle.std.proofs.Common.{◌≡◌, ℕ, List, ◌∷◌, [], ◌++◌, refl, sym, ap, ap₂, ◌∙◌, append_assoc}
 use Rattle.std.specs.Vec.Iter.{into_iter_items}
 use Rattle.serde_json.specs.Data.{Members, no_members, put}
 use Rattle.meson_splice.specs.declared.file_set.File.{File}
@@ -21,6 +21,6 @@ loop-place-preserved c =
     record {
       files = c.put_keyword_place.ensures.files ∙ held.files;
       joined = held.joined ∙ ap (λ xs. before ++ xs) c.in-Some.ensures.steps.0 ∙ sym (append_assoc before (p ∷ []) (into_iter_items c.next.new.self));
-      put = c.in_ok-put_keyword_place.ensures.put ∙ ap (λ fs. put p.key (keyword_place_data fs file p) (put_places files file no_members before)) held.files
+      put = c.in_ok-put_keyword_place.ensures.put ∙ ap₂ (λ fs ms. put p.key (keyword_place_data fs file p) ms) held.files held.put
           ∙ sym (put_one_more files file no_members before p);
     }
