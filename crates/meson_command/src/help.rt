@@ -12,7 +12,8 @@ Files change only where the command says: order, comments and layout stay.
 Each accepted run is kept in the file meson.rewrite-log, so undo can take it
 back. Begin with list: it prints the targets and the build files.
 
-Status: 0 done, 1 refused, 2 wrong words, 3 a file or the output failed.
+Status: 0 done, 1 refused, 2 wrong words, 3 a file or the output failed;
+with --exit-code 4 done, and a build file changed.
 SUBCOMMAND --help lists its operations and options.
 man meson_rewrite explains each refusal.
 

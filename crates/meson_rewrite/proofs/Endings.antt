@@ -1,14 +1,16 @@
 -- How a run ends, from what its steps did.
 use Rattle.std.proofs.Common.{◌≡◌, ◌⊎◌, ◌≤◌, ◌||◌, Bool, false, true, ℕ, List, [], ◌∷◌, length, Option, Some, None, Result, Ok, Err, inl, inr, refl, sym, ap, ◌∙◌, subst, arith}
-use Rattle.std.specs.Prelude.{IfErr, IfOk, IsTrue}
+use Rattle.std.specs.Prelude.{◌&&◌, IfErr, IfOk, IsTrue, if◌then◌else◌}
+use Rattle.std.proofs.lemmas.List.{append-nil}
 use Rattle.meson_command.specs.Asking.{no_flags, only_asks, without_text}
 use Rattle.meson_command.specs.declared.asked.Action.{Action}
 use Rattle.meson_command.specs.declared.asked.Action.TheVariants as action
 use Rattle.meson_command.specs.declared.asked.Asked.{Asked}
+use Rattle.meson_command.specs.declared.asked.Flags.{Flags}
 use Rattle.meson_command.specs.declared.fault.UsageFault.{UsageFault}
 use Rattle.meson_script.specs.declared.session.Session.{Session}
 use Rattle.meson_store.specs.StoreCalls.{counted}
-use Rattle.meson_store.proofs.Restoring.{CutLast, HasOld, each-map, puts-cut, restored, untold-restored}
+use Rattle.meson_store.proofs.Restoring.{CutLast, HasOld, each-map, puts-cut, puts-each, restored, untold-restored}
 use Rattle.meson_store.specs.Commit.{AreReplaced, CommitFails, Put, TakenBack, put_all, put_at, puts}
 use Rattle.meson_store.specs.Content.{Content}
 use Rattle.meson_store.specs.Seen.{Seen, Untouched}
@@ -17,15 +19,17 @@ use Rattle.meson_store.specs.declared.store_fault.StoreFault.TheVariants as stor
 use Rattle.meson_gathering.proofs.Stopping.{rose_before, stops_within}
 use Rattle.meson_gathering.specs.Gathering.{Finds, file_of}
 use Rattle.meson_rewrite.specs.inside.Edited.{IsEdited, IsShown, OnlyTells}
-use Rattle.meson_rewrite.specs.Lines.{status, stop_status, store_fault_status, usage_status, version_line}
+use Rattle.meson_rewrite.specs.Lines.{done_status, shown_text, status, stop_status, store_fault_status, usage_status, version_line}
 use Rattle.meson_rewrite.proofs.Holding.{IsHeld, held-collected}
 use Rattle.meson_rewrite.specs.Listed.{listing_text}
-use Rattle.meson_rewrite.specs.Logs.{log_name, with_log}
+use Rattle.meson_rewrite.specs.Logs.{log_name, log_use, with_log}
 use Rattle.meson_rewrite.specs.Opening.{IsNoLog, Opens, OpensNone, log_unread, bad_log, no_log, no_project}
 use Rattle.meson_rewrite.specs.Requests.{AsksFor, AsksForNone, script}
 use Rattle.meson_rewrite.specs.Runs.{Edits, Ends, IsUnchanged, KeepsFiles, ListingEnds, OnlyAsks, StepEnds, asks_for_none, done, has_none, helped, listed, lists, memory_ran_out, misused, no_memory, not_opened, refused, shown, steps, told, told_version, unwritten, wants_memory, written}
 use Rattle.meson_rewrite.specs.Steps.{MayRefuseStep, only_tells}
 use Rattle.meson_rewrite.specs.Stops.{WantsMemory}
+use Rattle.meson_rewrite.specs.declared.opening.LogUse.{LogUse}
+use Rattle.meson_rewrite.specs.declared.opening.LogUse.TheVariants.{Kept, Ignored}
 use Rattle.meson_rewrite.specs.declared.steps.Edit.{Edit}
 use Rattle.meson_rewrite.specs.declared.request.Listing.{Listing}
 use Rattle.meson_rewrite.specs.declared.request.ProgramRequest.TheVariants as request
@@ -44,12 +48,12 @@ untouched-then a b c h k = record {
   no_replace = k.no_replace ∙ h.no_replace;
 }
 
-module _ (dir : Option (List ℕ)) (before : Option Content) (first old new : ℕ) (h : first ≤ old) (k : old ≤ new) where
-  pub no-log-before : (stop : Stop) → IsNoLog before dir old new stop → IsNoLog before dir first new stop
-  no-log-before _ (log_unread rose) = log_unread (rose_before first old new h k rose)
-  no-log-before _ (bad_log bad) = bad_log bad
+module _ (how : LogUse) (dir : Option (List ℕ)) (before : Option Content) (first old new : ℕ) (h : first ≤ old) (k : old ≤ new) where
+  pub no-log-before : (stop : Stop) → IsNoLog how before dir old new stop → IsNoLog how before dir first new stop
+  no-log-before _ (log_unread is rose) = log_unread is (rose_before first old new h k rose)
+  no-log-before _ (bad_log is bad) = bad_log is bad
 
-  pub none-before : (stop : Stop) → OpensNone before dir old new stop → OpensNone before dir first new stop
+  pub none-before : (stop : Stop) → OpensNone how before dir old new stop → OpensNone how before dir first new stop
   none-before _ (no_project fault stops) = no_project fault (stops_within (Finds before dir) (Finds before dir) (λ end p. p) first old new h k fault stops)
   none-before _ (no_log files why found lacks) = no_log files why found (no-log-before why lacks)
 
@@ -83,12 +87,12 @@ taken-then a b c u files fault t = record {
 
 -- ---- a step
 
-module _ (dir : Option (List ℕ)) (step : Step) (dry_run json : Bool) where
-  abbrev edits-before : (before middle : Option Content) → middle ≡ before → Edits middle dir step → Edits before dir step
+module _ (dir : Option (List ℕ)) (step : Step) (flags : Flags) where
+  abbrev edits-before : (before middle : Option Content) → middle ≡ before → Edits (log_use flags.no_log) middle dir step → Edits (log_use flags.no_log) before dir step
   edits-before before middle same e = record {
     old = e.old;
     log = e.log;
-    opens = subst (λ m. Opens m dir e.old e.log) same e.opens;
+    opens = subst (λ m. Opens (log_use flags.no_log) m dir e.old e.log) same e.opens;
     new = e.new;
     is_project = e.is_project;
     report = e.report;
@@ -98,14 +102,14 @@ module _ (dir : Option (List ℕ)) (step : Step) (dry_run json : Bool) where
   }
 
   -- the store was read before, for a script
-  pub step-before : (a b c : Seen) (end : Result Said Stop) → Untouched a b → b.failures ≤ c.failures → StepEnds dir step dry_run json b c end → StepEnds dir step dry_run json a c end
+  pub step-before : (a b c : Seen) (end : Result Said Stop) → Untouched a b → b.failures ≤ c.failures → StepEnds dir step flags b c end → StepEnds dir step flags a c end
   step-before a b c _ u k (not_opened stop v opens) =
-      not_opened stop (untouched-then a b c u v) (none-before dir a.content a.failures b.failures c.failures u.counts k stop (subst (λ m. OpensNone m dir b.failures c.failures stop) u.kept opens))
-  step-before a b c _ u k (refused old log stop v opens may) = refused old log stop (untouched-then a b c u v) (subst (λ m. Opens m dir old log) u.kept opens) may
+      not_opened stop (untouched-then a b c u v) (none-before (log_use flags.no_log) dir a.content a.failures b.failures c.failures u.counts k stop (subst (λ m. OpensNone (log_use flags.no_log) m dir b.failures c.failures stop) u.kept opens))
+  step-before a b c _ u k (refused old log stop v opens may) = refused old log stop (untouched-then a b c u v) (subst (λ m. Opens (log_use flags.no_log) m dir old log) u.kept opens) may
   step-before a b c _ u k (told old new log report said v opens does only says) =
-      told old new log report said (untouched-then a b c u v) (subst (λ m. Opens m dir old log) u.kept opens) does only says
+      told old new log report said (untouched-then a b c u v) (subst (λ m. Opens (log_use flags.no_log) m dir old log) u.kept opens) does only says
   step-before a b c _ u k (shown old new log report said v opens does writes dry shows) =
-      shown old new log report said (untouched-then a b c u v) (subst (λ m. Opens m dir old log) u.kept opens) does writes dry shows
+      shown old new log report said (untouched-then a b c u v) (subst (λ m. Opens (log_use flags.no_log) m dir old log) u.kept opens) does writes dry shows
   step-before a b c _ u k (done e said writes wet are says) = done (edits-before a.content b.content u.kept e) said writes wet (replaced-then a b c u (written e) are) says
   step-before a b c _ u k (unwritten e fault writes wet taken) = unwritten (edits-before a.content b.content u.kept e) fault writes wet (taken-then a b c u (written e) fault taken)
   step-before a b c _ u k (no_memory stop v wants) = no_memory stop (untouched-then a b c u v) wants
@@ -113,23 +117,23 @@ module _ (dir : Option (List ℕ)) (step : Step) (dry_run json : Bool) where
   -- ---- by what stopped it, or by what is written
 
   module _ (b a : Seen) (u : Untouched b a) where
-    pub stopped-opening : (stop : Stop) → WantsMemory stop ⊎ OpensNone b.content dir b.failures a.failures stop → StepEnds dir step dry_run json b a (Err stop)
+    pub stopped-opening : (stop : Stop) → WantsMemory stop ⊎ OpensNone (log_use flags.no_log) b.content dir b.failures a.failures stop → StepEnds dir step flags b a (Err stop)
     stopped-opening stop (inl m) = no_memory stop u m
     stopped-opening stop (inr none) = not_opened stop u none
 
-    module _ (old : Session) (log : List ℕ) (opens : Opens b.content dir old log) where
-      pub stopped-acting : (stop : Stop) → WantsMemory stop ⊎ MayRefuseStep step old stop → StepEnds dir step dry_run json b a (Err stop)
+    module _ (old : Session) (log : List ℕ) (opens : Opens (log_use flags.no_log) b.content dir old log) where
+      pub stopped-acting : (stop : Stop) → WantsMemory stop ⊎ MayRefuseStep step old stop → StepEnds dir step flags b a (Err stop)
       stopped-acting stop (inl m) = no_memory stop u m
       stopped-acting stop (inr may) = refused old log stop u opens may
 
-      pub told-ends : only_tells step ≡ true → (said : Said) → OnlyTells old step json said → StepEnds dir step dry_run json b a (Ok said)
+      pub told-ends : only_tells step ≡ true → (said : Said) → OnlyTells old step flags.json said → StepEnds dir step flags b a (Ok said)
       told-ends only said t = told old t.new log t.report said u opens t.does only t.says
 
-      pub dry-ends : only_tells step ≡ false → dry_run ≡ true → (said : Said) → IsShown old step json said → StepEnds dir step dry_run json b a (Ok said)
+      pub dry-ends : only_tells step ≡ false → flags.dry_run ≡ true → (said : Said) → IsShown old step flags.json said → StepEnds dir step flags b a (Ok said)
       dry-ends writes dry said s = shown old s.new log s.report said u opens s.does writes dry s.shows
 
-  module _ (b m a : Seen) (u : Untouched b m) (writes : only_tells step ≡ false) (wet : dry_run ≡ false) (old : Session) (log : List ℕ) (opens : Opens b.content dir old log) (edit : Edit) (e : IsEdited old log step json edit) where
-    abbrev edits : Edits b.content dir step
+  module _ (b m a : Seen) (u : Untouched b m) (writes : only_tells step ≡ false) (wet : flags.dry_run ≡ false) (old : Session) (log : List ℕ) (opens : Opens (log_use flags.no_log) b.content dir old log) (edit : Edit) (e : IsEdited (log_use flags.no_log) old log step flags.json edit) where
+    abbrev edits : Edits (log_use flags.no_log) b.content dir step
     edits = record {
       old = old;
       log = log;
@@ -143,39 +147,39 @@ module _ (dir : Option (List ℕ)) (step : Step) (dry_run json : Bool) where
     }
 
     are-written : puts dir edit.before edit.after ≡ written edits
-    are-written = ap (λ fs. puts dir fs edit.after) e.before ∙ ap (puts dir (with_log old.project.files log)) e.after
+    are-written = ap (λ fs. puts dir fs edit.after) e.before ∙ ap (puts dir (with_log (log_use flags.no_log) old.project.files log)) e.after
 
-    pub done-ends : AreReplaced (puts dir edit.before edit.after) m a → StepEnds dir step dry_run json b a (Ok edit.said)
+    pub done-ends : AreReplaced (puts dir edit.before edit.after) m a → StepEnds dir step flags b a (Ok edit.said)
     done-ends are =
         done edits edit.said writes wet (replaced-then b m a u (written edits) (subst (λ fs. AreReplaced fs m a) are-written are)) e.says
 
-    pub failed-ends : (fault : StoreFault) → CommitFails (puts dir edit.before edit.after) m a fault → StepEnds dir step dry_run json b a (Err (Store fault))
+    pub failed-ends : (fault : StoreFault) → CommitFails (puts dir edit.before edit.after) m a fault → StepEnds dir step flags b a (Err (Store fault))
     failed-ends fault (inl (is, untouched)) = no_memory (Store fault) (untouched-then b m a u untouched) is
     failed-ends fault (inr taken) = unwritten edits fault writes wet (taken-then b m a u (written edits) fault (subst (λ fs. TakenBack fs m a fault) are-written taken))
 
 -- ---- a listing
 
-module _ (dir : Option (List ℕ)) (listing : Listing) (json : Bool) where
+module _ (dir : Option (List ℕ)) (listing : Listing) (flags : Flags) where
   -- the store was read before
-  pub listing-before : (a b c : Seen) (end : Result Said Stop) → Untouched a b → b.failures ≤ c.failures → ListingEnds dir listing json b c end → ListingEnds dir listing json a c end
+  pub listing-before : (a b c : Seen) (end : Result Said Stop) → Untouched a b → b.failures ≤ c.failures → ListingEnds dir listing flags b c end → ListingEnds dir listing flags a c end
   listing-before a b c _ u k (has_none stop v opens) =
-      has_none stop (untouched-then a b c u v) (none-before dir a.content a.failures b.failures c.failures u.counts k stop (subst (λ m. OpensNone m dir b.failures c.failures stop) u.kept opens))
-  listing-before a b c _ u k (listed session log v opens) = listed session log (untouched-then a b c u v) (subst (λ m. Opens m dir session log) u.kept opens)
+      has_none stop (untouched-then a b c u v) (none-before (log_use flags.no_log) dir a.content a.failures b.failures c.failures u.counts k stop (subst (λ m. OpensNone (log_use flags.no_log) m dir b.failures c.failures stop) u.kept opens))
+  listing-before a b c _ u k (listed session log v opens) = listed session log (untouched-then a b c u v) (subst (λ m. Opens (log_use flags.no_log) m dir session log) u.kept opens)
   listing-before a b c _ u k (wants_memory stop v wants) = wants_memory stop (untouched-then a b c u v) wants
 
-  pub listing-untouched : (before after : Seen) (end : Result Said Stop) → ListingEnds dir listing json before after end → Untouched before after
+  pub listing-untouched : (before after : Seen) (end : Result Said Stop) → ListingEnds dir listing flags before after end → Untouched before after
   listing-untouched before after _ (has_none stop u opens) = u
   listing-untouched before after _ (listed session log u opens) = u
   listing-untouched before after _ (wants_memory stop u wants) = u
 
   pub listing-unopened : (before after : Seen) → Untouched before after → (stop : Stop)
-      → WantsMemory stop ⊎ OpensNone before.content dir before.failures after.failures stop → ListingEnds dir listing json before after (Err stop)
+      → WantsMemory stop ⊎ OpensNone (log_use flags.no_log) before.content dir before.failures after.failures stop → ListingEnds dir listing flags before after (Err stop)
   listing-unopened before after u stop (inl m) = wants_memory stop u m
   listing-unopened before after u stop (inr none) = has_none stop u none
 
-  pub listing-told : (before after : Seen) → Untouched before after → (session : Session) (log : List ℕ) → Opens before.content dir session log
-      → (end : Result Said Stop) → IfOk end (λ said. said ≡ record { out = listing_text json listing session; err = [] }) → IfErr end WantsMemory → ListingEnds dir listing json before after end
-  listing-told before after u session log opens (Ok said) is none = subst (λ s. ListingEnds dir listing json before after (Ok s)) (sym is) (listed session log u opens)
+  pub listing-told : (before after : Seen) → Untouched before after → (session : Session) (log : List ℕ) → Opens (log_use flags.no_log) before.content dir session log
+      → (end : Result Said Stop) → IfOk end (λ said. said ≡ shown_text (listing_text flags.json listing session)) → IfErr end WantsMemory → ListingEnds dir listing flags before after end
+  listing-told before after u session log opens (Ok said) is none = subst (λ s. ListingEnds dir listing flags before after (Ok s)) (sym is) (listed session log u opens)
   listing-told before after u session log opens (Err stop) is none = wants_memory stop u none
 
 -- ---- with these statuses the store holds what it held
@@ -187,25 +191,44 @@ untouched-same : (before after : Seen) → Untouched before after → IsUnchange
 untouched-same before after u = (u.kept, u.no_replace)
 
 -- each file that is written holds what it held, but perhaps for the last one, the log
-cut-old : {before : Option Content} (dir : Option (List ℕ)) (step : Step) (e : Edits before dir step) (m : Content) → before ≡ Some m → CutLast (HasOld m) (written e)
-cut-old dir step e m is =
-    puts-cut (HasOld m) dir e.old.project.files (file_of log_name e.log) (with_log e.new.project.files e.new_log)
+cut-old : (how : LogUse) {before : Option Content} (dir : Option (List ℕ)) (step : Step) (e : Edits how before dir step) (m : Content) → before ≡ Some m → CutLast (HasOld m) (written e)
+cut-old Kept dir step e m is =
+    puts-cut (HasOld m) dir e.old.project.files (file_of log_name e.log) (with_log Kept e.new.project.files e.new_log)
     (each-map (IsHeld m dir) (λ f. (bytes : List ℕ) → HasOld m (put_at dir f bytes)) (λ f h bytes. h) e.old.project.files (held-collected m dir e.old.project.files (e.opens.found m is)))
+cut-old Ignored dir step e m is =
+    let files = puts dir e.old.project.files e.new.project.files in
+    record {
+      front = files;
+      last = [];
+      all = sym (append-nil files);
+      few = omega arith;
+      each = puts-each (HasOld m) dir e.old.project.files e.new.project.files
+          (each-map (IsHeld m dir) (λ f. (bytes : List ℕ) → HasOld m (put_at dir f bytes)) (λ f h bytes. h) e.old.project.files (held-collected m dir e.old.project.files (e.opens.found m is)));
+    }
 
 -- a commit for which memory ran out
-ran-out : (dir : Option (List ℕ)) (step : Step) (before after : Seen) (e : Edits before.content dir step) → TakenBack (written e) before after store.OutOfMemory → after.content ≡ before.content
-ran-out dir step before after e taken = kept before.content refl
+ran-out : (how : LogUse) (dir : Option (List ℕ)) (step : Step) (before after : Seen) (e : Edits how before.content dir step) → TakenBack (written e) before after store.OutOfMemory → after.content ≡ before.content
+ran-out how dir step before after e taken = kept before.content refl
   where
     kept : (content : Option Content) → before.content ≡ content → after.content ≡ before.content
     kept None none = untold-restored (written e) before after taken none ∙ sym none
-    kept (Some m) some = restored m (written e) before after taken some (cut-old dir step e m some) ∙ sym some
+    kept (Some m) some = restored m (written e) before after taken some (cut-old how dir step e m some) ∙ sym some
 
-module _ (asked : Result Asked UsageFault) (before after : Seen) where
+module _ (exit_code : Bool) (asked : Result Asked UsageFault) (before after : Seen) where
   abbrev Keeps : ℕ → Type 0
   Keeps code = KeepsFiles asked before after code
 
   untouched-keeps : (code : ℕ) → Untouched before after → Keeps code
   untouched-keeps code u = (u.kept, inl u.no_replace)
+
+  done-keeps : (said : Said) → Refusing (done_status exit_code said) → Keeps (done_status exit_code said)
+  done-keeps said s = go (exit_code && said.changed) s
+    where
+      go : (b : Bool) → Refusing (if b then 4 else 0) → Keeps (if b then 4 else 0)
+      go true (inl e) = absurd (omega (arith, e))
+      go true (inr e) = absurd (omega (arith, e))
+      go false (inl e) = absurd (omega (arith, e))
+      go false (inr e) = absurd (omega (arith, e))
 
   not-refused : (code : ℕ) → Refusing code → (code ≡ 0) ⊎ (code ≡ 3) → Keeps code
   not-refused code (inl e) (inl z) = absurd (omega (arith, e, z))
@@ -214,40 +237,40 @@ module _ (asked : Result Asked UsageFault) (before after : Seen) where
   not-refused code (inr e) (inr z) = absurd (omega (arith, e, z))
 
   module _ (a : Asked) (step : Step) (is : asked ≡ Ok (without_text a)) (asks : AsksFor a.title a.action before.content (request.Step step)) where
-    unwritten-keeps : (e : Edits before.content a.dir step) (fault : StoreFault) → TakenBack (written e) before after fault → Refusing (store_fault_status fault) → Keeps (store_fault_status fault)
+    unwritten-keeps : (e : Edits (log_use a.flags.no_log) before.content a.dir step) (fault : StoreFault) → TakenBack (written e) before after fault → Refusing (store_fault_status fault) → Keeps (store_fault_status fault)
     unwritten-keeps e (store.ReadFailed name) t s = not-refused 3 s (inr refl)
     unwritten-keeps e (store.WriteFailed name still) t s = not-refused 3 s (inr refl)
     unwritten-keeps e (store.NoFile name) t s = not-refused 3 s (inr refl)
     unwritten-keeps e store.OutputFailed t s = not-refused 3 s (inr refl)
     unwritten-keeps e store.OutOfMemory t s =
-        (ran-out a.dir step before after e t, inr (refl, record { a = a; is_asked = is; step = step; asks = asks; edits = e; taken = t }))
+        (ran-out (log_use a.flags.no_log) a.dir step before after e t, inr (refl, record { a = a; is_asked = is; step = step; asks = asks; edits = e; taken = t }))
 
-    step-keeps : (end : Result Said Stop) → StepEnds a.dir step a.flags.dry_run a.flags.json before after end → Refusing (status end) → Keeps (status end)
+    step-keeps : (end : Result Said Stop) → StepEnds a.dir step a.flags before after end → Refusing (status exit_code end) → Keeps (status exit_code end)
     step-keeps _ (not_opened stop u opens) s = untouched-keeps (stop_status stop) u
     step-keeps _ (refused old log stop u opens may) s = untouched-keeps (stop_status stop) u
-    step-keeps _ (told old new log report said u opens does only says) s = untouched-keeps 0 u
-    step-keeps _ (shown old new log report said u opens does writes dry shows) s = untouched-keeps 0 u
-    step-keeps _ (done e said writes wet are says) s = not-refused 0 s (inl refl)
+    step-keeps _ (told old new log report said u opens does only says) s = untouched-keeps (done_status exit_code said) u
+    step-keeps _ (shown old new log report said u opens does writes dry shows) s = untouched-keeps (done_status exit_code said) u
+    step-keeps _ (done e said writes wet are says) s = done-keeps said s
     step-keeps _ (unwritten e fault writes wet taken) s = unwritten-keeps e fault taken s
     step-keeps _ (no_memory stop u wants) s = untouched-keeps (stop_status stop) u
 
-pub status-keeps : (asked : Result Asked UsageFault) (before after : Seen) (end : Result Said Stop) → Ends asked before after end → Refusing (status end)
-    → KeepsFiles asked before after (status end)
-status-keeps asked before after _ (misused fault u is) s = untouched-keeps asked before after (usage_status fault) u
-status-keeps asked before after _ (helped a text u is shows) s = untouched-keeps asked before after 0 u
-status-keeps asked before after _ (told_version a u is shows) s = untouched-keeps asked before after 0 u
-status-keeps asked before after _ (asks_for_none a stop u is none) s = untouched-keeps asked before after (stop_status stop) u
-status-keeps asked before after _ (steps a step end is asks ends) s = step-keeps asked before after a step is asks end ends s
-status-keeps asked before after _ (lists a listing end is asks ends) s = untouched-keeps asked before after (status end) (listing-untouched a.dir listing a.flags.json before after end ends)
-status-keeps asked before after _ (memory_ran_out stop u wants) s = untouched-keeps asked before after (stop_status stop) u
+pub status-keeps : (exit_code : Bool) (asked : Result Asked UsageFault) (before after : Seen) (end : Result Said Stop) → Ends asked before after end → Refusing (status exit_code end)
+    → KeepsFiles asked before after (status exit_code end)
+status-keeps exit_code asked before after _ (misused fault u is) s = untouched-keeps exit_code asked before after (usage_status fault) u
+status-keeps exit_code asked before after _ (helped a text u is shows) s = untouched-keeps exit_code asked before after (done_status exit_code (shown_text text)) u
+status-keeps exit_code asked before after _ (told_version a u is shows) s = untouched-keeps exit_code asked before after (done_status exit_code (shown_text version_line)) u
+status-keeps exit_code asked before after _ (asks_for_none a stop u is none) s = untouched-keeps exit_code asked before after (stop_status stop) u
+status-keeps exit_code asked before after _ (steps a step end is asks ends) s = step-keeps exit_code asked before after a step is asks end ends s
+status-keeps exit_code asked before after _ (lists a listing end is asks ends) s = untouched-keeps exit_code asked before after (status exit_code end) (listing-untouched a.dir listing a.flags before after end ends)
+status-keeps exit_code asked before after _ (memory_ran_out stop u wants) s = untouched-keeps exit_code asked before after (stop_status stop) u
 
 -- ---- what was asked for
 
 -- a text that is shown is that of help, or the version
-pub shown-ends : (a : Asked) (b c : Seen) (text : List ℕ) → Untouched b c → AsksFor a.title a.action b.content (request.Show text) → Ends (Ok (without_text a)) b c (Ok (record { out = text; err = [] }))
+pub shown-ends : (a : Asked) (b c : Seen) (text : List ℕ) → Untouched b c → AsksFor a.title a.action b.content (request.Show text) → Ends (Ok (without_text a)) b c (Ok (shown_text text))
 shown-ends a b c text u asks = of-action a.action refl asks
   where
-    of-action : (x : Action) → a.action ≡ x → AsksFor a.title x b.content (request.Show text) → Ends (Ok (without_text a)) b c (Ok (record { out = text; err = [] }))
+    of-action : (x : Action) → a.action ≡ x → AsksFor a.title x b.content (request.Show text) → Ends (Ok (without_text a)) b c (Ok (shown_text text))
     of-action (action.Run s) at is = absurd (let no : ⊥ = cc in no)
     of-action (action.Info d) at is = absurd (let no : ⊥ = cc in no)
     of-action (action.ScriptText t unknown) at (cs, of, is) = absurd (let no : ⊥ = cc in no)
@@ -264,7 +287,7 @@ shown-ends a b c text u asks = of-action a.action refl asks
     of-action (action.Help t) at is = let same : t ≡ text = cc in helped a text u refl (at ∙ ap action.Help same)
     of-action action.Version at is =
         let same : version_line ≡ text = cc in
-        subst (λ out. Ends (Ok (without_text a)) b c (Ok (record { out = out; err = [] }))) same (told_version a u refl at)
+        subst (λ out. Ends (Ok (without_text a)) b c (Ok (shown_text out))) same (told_version a u refl at)
 
 pub not-asked : (a : Asked) (b c : Seen) → Untouched b c → (stop : Stop) → WantsMemory stop ⊎ AsksForNone a.action b.content b.failures c.failures stop → Ends (Ok (without_text a)) b c (Err stop)
 not-asked a b c u stop (inl m) = memory_ran_out stop u m
@@ -314,17 +337,17 @@ asks-same a t = go a.action t
     go action.Version t = t
 
 -- nothing is written where a step only tells, and in a dry run
-step-told : (dir : Option (List ℕ)) (step : Step) (dry_run json : Bool) (before after : Seen) → (only_tells step ≡ true) ⊎ (dry_run ≡ true) → (end : Result Said Stop) → StepEnds dir step dry_run json before after end
+step-told : (dir : Option (List ℕ)) (step : Step) (flags : Flags) (before after : Seen) → (only_tells step ≡ true) ⊎ (flags.dry_run ≡ true) → (end : Result Said Stop) → StepEnds dir step flags before after end
     → IsUnchanged before after
-step-told dir step dry_run json before after only _ (not_opened stop u opens) = untouched-same before after u
-step-told dir step dry_run json before after only _ (refused old log stop u opens may) = untouched-same before after u
-step-told dir step dry_run json before after only _ (told old new log report said u opens does tells says) = untouched-same before after u
-step-told dir step dry_run json before after only _ (shown old new log report said u opens does writes dry shows) = untouched-same before after u
-step-told dir step dry_run json before after (inl tells) _ (done e said writes wet are says) = absurd (let no : ⊥ = cc in no)
-step-told dir step dry_run json before after (inr dry) _ (done e said writes wet are says) = absurd (let no : ⊥ = cc in no)
-step-told dir step dry_run json before after (inl tells) _ (unwritten e fault writes wet taken) = absurd (let no : ⊥ = cc in no)
-step-told dir step dry_run json before after (inr dry) _ (unwritten e fault writes wet taken) = absurd (let no : ⊥ = cc in no)
-step-told dir step dry_run json before after only _ (no_memory stop u wants) = untouched-same before after u
+step-told dir step flags before after only _ (not_opened stop u opens) = untouched-same before after u
+step-told dir step flags before after only _ (refused old log stop u opens may) = untouched-same before after u
+step-told dir step flags before after only _ (told old new log report said u opens does tells says) = untouched-same before after u
+step-told dir step flags before after only _ (shown old new log report said u opens does writes dry shows) = untouched-same before after u
+step-told dir step flags before after (inl tells) _ (done e said writes wet are says) = absurd (let no : ⊥ = cc in no)
+step-told dir step flags before after (inr dry) _ (done e said writes wet are says) = absurd (let no : ⊥ = cc in no)
+step-told dir step flags before after (inl tells) _ (unwritten e fault writes wet taken) = absurd (let no : ⊥ = cc in no)
+step-told dir step flags before after (inr dry) _ (unwritten e fault writes wet taken) = absurd (let no : ⊥ = cc in no)
+step-told dir step flags before after only _ (no_memory stop u wants) = untouched-same before after u
 
 one-true : (x y : Bool) → IsTrue (x || y) → IsTrue x ⊎ (y ≡ true)
 one-true true y t = inl refl
@@ -337,8 +360,8 @@ asking-keeps asked before after _ (told_version a u is shows) t = untouched-same
 asking-keeps asked before after _ (asks_for_none a stop u is none) t = untouched-same before after u
 asking-keeps asked before after _ (steps a step end is asks ends) t =
     elim (one-true (only_asks (without_text a).action) a.flags.dry_run (subst OnlyAsks is t)) [
-      | inl only ↦ step-told a.dir step a.flags.dry_run a.flags.json before after (inl (asks-only a.title a.action before.content step asks (asks-same a only))) end ends
-      | inr dry ↦ step-told a.dir step a.flags.dry_run a.flags.json before after (inr dry) end ends
+      | inl only ↦ step-told a.dir step a.flags before after (inl (asks-only a.title a.action before.content step asks (asks-same a only))) end ends
+      | inr dry ↦ step-told a.dir step a.flags before after (inr dry) end ends
     ]
-asking-keeps asked before after _ (lists a listing end is asks ends) t = untouched-same before after (listing-untouched a.dir listing a.flags.json before after end ends)
+asking-keeps asked before after _ (lists a listing end is asks ends) t = untouched-same before after (listing-untouched a.dir listing a.flags before after end ends)
 asking-keeps asked before after _ (memory_ran_out stop u wants) t = untouched-same before after u

@@ -13,9 +13,12 @@ pub mod Untold
 pub mod Reading
 pub mod Unread
 pub mod LogName
+pub mod LogLeft
 mod Statuses
 pub mod Checking
 pub mod CheckedUndos
+pub mod ChangesTold
+pub mod FilesLeft
 pub mod EnteredAsks
 pub mod OneUnread
 pub mod Escapes

@@ -21,7 +21,7 @@ other_end front is =
     let ends : 103 ≡ 100 = ap first (ap reverse is ∙ reverse-append front build_file) in
     omega (arith, ends)
 
-other_name : (name : List ℕ) → IsFileName name → name ≡ log_name → ⊥
+pub other_name : (name : List ℕ) → IsFileName name → name ≡ log_name → ⊥
 other_name name named is = ends_so name named (λ front ends. other_end front (sym is ∙ ends))
 
 nobody : File

@@ -24,6 +24,8 @@ use Rattle.meson_rewrite.specs.Logs.{log_name, with_log}
 use Rattle.meson_rewrite.specs.inside.Edited.{IsWithin}
 use Rattle.meson_rewrite.specs.Steps.{Does, StopsStep, StopsStepsBack}
 use Rattle.meson_rewrite.specs.Stops.{undo_stop}
+use Rattle.meson_rewrite.specs.declared.opening.LogUse.{LogUse}
+use Rattle.meson_rewrite.specs.declared.opening.LogUse.TheVariants.{Kept, Ignored}
 use Rattle.meson_rewrite.specs.declared.stop.Stop.{Stop}
 use Rattle.meson_rewrite.specs.declared.stop.Stop.TheVariants as stop
 use Rattle.meson_rewrite.specs.declared.request.Step.{Step}
@@ -70,9 +72,10 @@ step-names (ForgetOldest count) old new report s = ap (λ p. names p.files) (sym
 step-names ForgetAll old new report s = ap (λ p. names p.files) (sym s.1.project)
 step-names Redo old new report s = redone-names (reverse old.history.future) old.history.past old.project.files new.history new.project.files s.is_step
 
--- with the log behind them too
-pub logged-names : (files after : List File) (log new_log : List ℕ) → names files ≡ names after → names (with_log files log) ≡ names (with_log after new_log)
-logged-names files after log new_log same =
+-- with a log that is kept after them too
+pub logged-names : (how : LogUse) (files after : List File) (log new_log : List ℕ) → names files ≡ names after → names (with_log how files log) ≡ names (with_log how after new_log)
+logged-names Ignored files after log new_log same = same
+logged-names Kept files after log new_log same =
     map-append (λ f. f.name) files (file_of log_name log ∷ []) ∙ ap (λ ns. ns ++ log_name ∷ []) same ∙ sym (map-append (λ f. f.name) after (file_of log_name new_log ∷ []))
 
 pub as-many : (files after : List File) → names files ≡ names after → length after ≡ length files

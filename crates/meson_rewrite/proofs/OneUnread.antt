@@ -11,7 +11,10 @@ use Rattle.meson_command.specs.declared.asked.Action.{Action}
 use Rattle.meson_command.specs.declared.asked.Action.TheVariants as action
 use Rattle.meson_command.specs.declared.asked.Asked.{Asked}
 use Rattle.meson_command.specs.declared.fault.UsageFault.{UsageFault}
-use Rattle.meson_rewrite.specs.StoreReads.{AsksNamed, MayRead, ReadsAtMost, file_read}
+use Rattle.meson_rewrite.specs.Logs.{log_use}
+use Rattle.meson_rewrite.specs.StoreReads.{AsksNamed, MayAskLog, MayRead, ReadsAtMost, file_read}
+use Rattle.meson_rewrite.specs.declared.opening.LogUse.{LogUse}
+use Rattle.meson_rewrite.specs.declared.opening.LogUse.TheVariants.{Kept, Ignored}
 use Rattle.meson_store.specs.StoreCalls.{one_more}
 use Rattle.meson_store.specs.Content.{Content}
 use Rattle.meson_gathering.specs.Gathering.{file_of}
@@ -236,22 +239,29 @@ module _ (held : Content) (folder : Option (List ℕ)) where
           omega (arith, behind, one, first)
       not-both name all m (stops_at_file files p n l s) r once = stops-before files all p r.place n m name l (stop-of files p n reads' name low s) r.looks r.past once
 
-      abbrev Read : List ℕ → Type 0
-      Read name = ReadsAtMost (Some held) folder reads reads' (Some name)
+      abbrev Read : LogUse → List ℕ → Type 0
+      Read how name = ReadsAtMost how (Some held) folder reads reads' (Some name)
 
-      one-read : (name other : List ℕ) → Read name → Read other → name ≡ other
-      one-read name other (inl a) (inl b) = one-stopped name other a b
-      one-read name other (inl a) (inr (files, n, all, inl (same, none))) = absurd (let no : ⊥ = cc in no)
-      one-read name other (inl a) (inr (files, n, all, inr (once, is))) = absurd (not-both name files n a all once)
-      one-read name other (inr (files, n, all, inl (same, none))) b = absurd (let no : ⊥ = cc in no)
-      one-read name other (inr (files, n, all, inr (once, is))) (inl b) = absurd (not-both other files n b all once)
-      one-read name other (inr (files, n, all, inr (once, is))) (inr (files', n', all', inl (same, none))) = absurd (let no : ⊥ = cc in no)
-      one-read name other (inr (files, n, all, inr (once, is))) (inr (files', n', all', inr (once', is'))) = is ∙ sym is'
+      -- where the log is ignored, a file that could not be read is none of those that were
+      no-log : (name : List ℕ) (n : ℕ) → MayAskLog Ignored n reads' (Some name) → ⊥
+      no-log name n (same, none) = let no : ⊥ = cc in no
 
-      read-behind : (name : List ℕ) → Read name → reads + 1 ≤ reads'
-      read-behind name (inl a) = stopped-behind name a
-      read-behind name (inr (files, n, all, inl (same, none))) = absurd (let no : ⊥ = cc in no)
-      read-behind name (inr (files, n, all, inr (once, is))) = let behind = log-behind files n all once in omega (arith, behind)
+      one-read : (how : LogUse) (name other : List ℕ) → Read how name → Read how other → name ≡ other
+      one-read how name other (inl a) (inl b) = one-stopped name other a b
+      one-read Ignored name other (inl a) (inr (files, n, all, last)) = absurd (no-log other n last)
+      one-read Ignored name other (inr (files, n, all, last)) b = absurd (no-log name n last)
+      one-read Kept name other (inl a) (inr (files, n, all, inl (same, none))) = absurd (let no : ⊥ = cc in no)
+      one-read Kept name other (inl a) (inr (files, n, all, inr (once, is))) = absurd (not-both name files n a all once)
+      one-read Kept name other (inr (files, n, all, inl (same, none))) b = absurd (let no : ⊥ = cc in no)
+      one-read Kept name other (inr (files, n, all, inr (once, is))) (inl b) = absurd (not-both other files n b all once)
+      one-read Kept name other (inr (files, n, all, inr (once, is))) (inr (files', n', all', inl (same, none))) = absurd (let no : ⊥ = cc in no)
+      one-read Kept name other (inr (files, n, all, inr (once, is))) (inr (files', n', all', inr (once', is'))) = is ∙ sym is'
+
+      read-behind : (how : LogUse) (name : List ℕ) → Read how name → reads + 1 ≤ reads'
+      read-behind how name (inl a) = stopped-behind name a
+      read-behind Ignored name (inr (files, n, all, last)) = absurd (no-log name n last)
+      read-behind Kept name (inr (files, n, all, inl (same, none))) = absurd (let no : ⊥ = cc in no)
+      read-behind Kept name (inr (files, n, all, inr (once, is))) = let behind = log-behind files n all once in omega (arith, behind)
 
 -- ---- a run
 
@@ -266,10 +276,10 @@ named-one (action.UndoChecked count n) reads reads' name other h k = h.1 ∙ sym
 named-one _ reads reads' name other h k = absurd h
 
 not-named : (a : Asked) (held : Content) (reads reads' : ℕ) (name other : List ℕ) → reads' < 2 ^ 64 - 1 → AsksNamed a.action reads reads' (Some name)
-    → ReadsAtMost (Some held) a.dir (file_read a.action reads) reads' (Some other) → ⊥
+    → ReadsAtMost (log_use a.flags.no_log) (Some held) a.dir (file_read a.action reads) reads' (Some other) → ⊥
 not-named a held reads reads' name other low h k =
     let is = named-count a.action reads reads' name h in
-    let behind = read-behind held a.dir (file_read a.action reads) reads' low other k in
+    let behind = read-behind held a.dir (file_read a.action reads) reads' low (log_use a.flags.no_log) other k in
     omega (arith, behind, is)
 
 pub one-unread : (asked : Result Asked UsageFault) (held : Content) (reads reads' : ℕ) (name other : List ℕ) → reads' < 2 ^ 64 - 1
@@ -281,4 +291,4 @@ one-unread (Ok a) held reads reads' name other low (inr (inl h)) (inr (inl k)) =
 one-unread (Ok a) held reads reads' name other low (inr (inl h)) (inr (inr (asks, k))) = absurd (not-named a held reads reads' name other low h k)
 one-unread (Ok a) held reads reads' name other low (inr (inr (asks, h))) (inr (inl k)) = absurd (not-named a held reads reads' other name low k h)
 one-unread (Ok a) held reads reads' name other low (inr (inr (asks, h))) (inr (inr (asks', k))) =
-    one-read held a.dir (file_read a.action reads) reads' low name other h k
+    one-read held a.dir (file_read a.action reads) reads' low (log_use a.flags.no_log) name other h k

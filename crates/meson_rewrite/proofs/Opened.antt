@@ -13,6 +13,8 @@ use Rattle.meson_rewrite.proofs.Endings.{no-log-before}
 use Rattle.meson_rewrite.specs.Logs.{IsBadLog, IsLog, log_name}
 use Rattle.meson_rewrite.specs.Opening.{IsNoLog, OpensNone, bad_log, log_unread, no_log}
 use Rattle.meson_rewrite.specs.Stops.{WantsMemory}
+use Rattle.meson_rewrite.specs.declared.opening.LogUse.{LogUse}
+use Rattle.meson_rewrite.specs.declared.opening.LogUse.TheVariants.{Kept}
 use Rattle.meson_rewrite.specs.declared.stop.Stop.{Stop}
 use Rattle.meson_rewrite.specs.declared.stop.Stop.TheVariants.{Script, Store}
 
@@ -23,23 +25,23 @@ pub none-read : (there : Option (List ℕ)) (text : List ℕ) (h : History) → 
 none-read there text h e is = subst (λ x. IsLog x text h) e is
 
 pub bad-read : (before : Option Content) (dir : Option (List ℕ)) (failed failed' : ℕ) (bytes : List ℕ) (why : Stop) → Told before (λ content. Some bytes ≡ held_bytes content dir log_name)
-    → WantsMemory why ⊎ ((why ≡ Script script.BadLog) × (logged bytes ≡ None)) → WantsMemory why ⊎ IsNoLog before dir failed failed' why
+    → WantsMemory why ⊎ ((why ≡ Script script.BadLog) × (logged bytes ≡ None)) → WantsMemory why ⊎ IsNoLog Kept before dir failed failed' why
 bad-read before dir failed failed' bytes why told (inl m) = inl m
 bad-read before dir failed failed' bytes why told (inr b) =
-    inr (subst (IsNoLog before dir failed failed') (sym b.0) (bad_log (λ content is. subst IsBadLog (told content is) b.1)))
+    inr (subst (IsNoLog Kept before dir failed failed') (sym b.0) (bad_log refl (λ content is. subst IsBadLog (told content is) b.1)))
 
 pub unread-log : (before : Option Content) (dir : Option (List ℕ)) (failed failed' : ℕ) (fault : StoreFault) → IsUnread failed failed' log_name fault
-    → WantsMemory (Store fault) ⊎ IsNoLog before dir failed failed' (Store fault)
+    → WantsMemory (Store fault) ⊎ IsNoLog Kept before dir failed failed' (Store fault)
 unread-log before dir failed failed' (store.ReadFailed n) (e, rose) =
-    inr (subst (λ m. IsNoLog before dir failed failed' (Store (store.ReadFailed m))) (sym e) (log_unread rose))
+    inr (subst (λ m. IsNoLog Kept before dir failed failed' (Store (store.ReadFailed m))) (sym e) (log_unread refl rose))
 unread-log before dir failed failed' (store.WriteFailed n still_new) h = absurd h
 unread-log before dir failed failed' (store.NoFile n) h = absurd h
 unread-log before dir failed failed' store.OutputFailed h = absurd h
 unread-log before dir failed failed' store.OutOfMemory h = inl refl
 
 -- the files were read before
-pub no-log-opens : (before middle : Option Content) (dir : Option (List ℕ)) (first old new : ℕ) → middle ≡ before → first ≤ old → old ≤ new → (files : List File) → Finds before dir (whole files)
-    → (why : Stop) → WantsMemory why ⊎ IsNoLog middle dir old new why → WantsMemory why ⊎ OpensNone before dir first new why
-no-log-opens before middle dir first old new e h k files found why (inl m) = inl m
-no-log-opens before middle dir first old new e h k files found why (inr lacks) =
-    inr (no_log files why found (no-log-before dir before first old new h k why (subst (λ m. IsNoLog m dir old new why) e lacks)))
+pub no-log-opens : (how : LogUse) (before middle : Option Content) (dir : Option (List ℕ)) (first old new : ℕ) → middle ≡ before → first ≤ old → old ≤ new → (files : List File) → Finds before dir (whole files)
+    → (why : Stop) → WantsMemory why ⊎ IsNoLog how middle dir old new why → WantsMemory why ⊎ OpensNone how before dir first new why
+no-log-opens how before middle dir first old new e h k files found why (inl m) = inl m
+no-log-opens how before middle dir first old new e h k files found why (inr lacks) =
+    inr (no_log files why found (no-log-before how dir before first old new h k why (subst (λ m. IsNoLog how m dir old new why) e lacks)))

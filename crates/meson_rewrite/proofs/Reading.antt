@@ -1,5 +1,5 @@
 -- How often a run reads the store, from how often its steps do.
-use Rattle.std.proofs.Common.{◌≡◌, ◌⊎◌, ◌∙◌, ℕ, List, Option, None, Result, Ok, Err, inl, inr, refl, sym, subst}
+use Rattle.std.proofs.Common.{◌≡◌, ◌⊎◌, ◌∙◌, ℕ, Bool, List, Option, None, Result, Ok, Err, inl, inr, refl, sym, subst}
 use Rattle.std.specs.Prelude.{OnOk}
 use Rattle.meson_command.specs.Asking.{without_help_text, without_text}
 use Rattle.meson_command.specs.declared.asked.Action.{Action}
@@ -14,10 +14,12 @@ use Rattle.meson_store.specs.declared.store_fault.StoreFault.TheVariants as stor
 use Rattle.meson_gathering.proofs.Asking.{asks_and_reads}
 use Rattle.meson_gathering.specs.Gathering.{Finds, whole}
 use Rattle.meson_gathering.specs.ReadCounts.{AsksNone}
-use Rattle.meson_rewrite.specs.Lines.{status, store_fault_status, usage_status}
-use Rattle.meson_rewrite.specs.Logs.{log_name}
-use Rattle.meson_rewrite.specs.StoreReads.{AsksForProject, AsksNamed, MayRead, ReadsAll, ReadsAtMost, ReadsFor, ReadsProject, ReadsWithLog, file_read}
+use Rattle.meson_rewrite.specs.Lines.{status, stop_status, store_fault_status, usage_status}
+use Rattle.meson_rewrite.specs.Logs.{log_name, log_use}
+use Rattle.meson_rewrite.specs.StoreReads.{AsksForProject, AsksNamed, MayAskLog, MayRead, ReadsAll, ReadsAtMost, ReadsFor, ReadsProject, ReadsWithLog, file_read, log_read}
 use Rattle.meson_rewrite.specs.Requests.{AsksFor}
+use Rattle.meson_rewrite.specs.declared.opening.LogUse.{LogUse}
+use Rattle.meson_rewrite.specs.declared.opening.LogUse.TheVariants.{Kept, Ignored}
 use Rattle.meson_rewrite.specs.declared.request.Listing.{Listing}
 use Rattle.meson_rewrite.specs.declared.request.ProgramRequest.TheVariants as request
 use Rattle.meson_rewrite.specs.declared.request.Step.{Step}
@@ -32,11 +34,15 @@ on_ok (Err e) p = tt
 
 -- ---- a step
 
-module _ (before : Option Content) (dir : Option (List ℕ)) (reads : ℕ) (files : List File) (n m : ℕ) (same : m ≡ n) (all : ReadsWithLog before dir reads files n) where
-  pub with-log-at-most : (unread : Option (List ℕ)) → unread ≡ None → ReadsAtMost before dir reads m unread
-  with-log-at-most unread none = inr (files, all.0, all.1, inr (asks_and_reads log_name all.0 m unread (same ∙ all.2) none))
+may-ask-log : (how : LogUse) (n m : ℕ) (unread : Option (List ℕ)) → m ≡ log_read how n → unread ≡ None → MayAskLog how n m unread
+may-ask-log Kept n m unread is none = inr (asks_and_reads log_name n m unread is none)
+may-ask-log Ignored n m unread is none = (is, none)
 
-  pub with-log-all : Finds before dir (whole files) → ReadsProject before dir reads m
+module _ (how : LogUse) (before : Option Content) (dir : Option (List ℕ)) (reads : ℕ) (files : List File) (n m : ℕ) (same : m ≡ n) (all : ReadsWithLog how before dir reads files n) where
+  pub with-log-at-most : (unread : Option (List ℕ)) → unread ≡ None → ReadsAtMost how before dir reads m unread
+  with-log-at-most unread none = inr (files, all.0, all.1, may-ask-log how all.0 m unread (same ∙ all.2) none)
+
+  pub with-log-all : Finds before dir (whole files) → ReadsProject how before dir reads m
   with-log-all found = (files, found, (all.0, all.1, same ∙ all.2))
 
 -- ---- a run
@@ -100,19 +106,19 @@ module _ (a : Asked) (before : Option Content) (reads : ℕ) where
   shown-may-read text reads' asks e = inl (e ∙ shown-file a.title a.action before text reads asks, refl)
 
   module _ (middle : Option Content) (dir : Option (List ℕ)) (n reads' : ℕ) (kept : middle ≡ before) (named : dir ≡ a.dir) (is_read : n ≡ file_read a.action reads) where
-    pub step-may-read : (unread : Option (List ℕ)) → AsksForProject a.title a.action before → ReadsAtMost middle dir n reads' unread → MayRead (Ok (without_text a)) before reads reads' unread
+    pub step-may-read : (unread : Option (List ℕ)) → AsksForProject a.title a.action before → ReadsAtMost (log_use a.flags.no_log) middle dir n reads' unread → MayRead (Ok (without_text a)) before reads reads' unread
     step-may-read unread asks h =
         inr (inr (
           same-project a.title a.action before asks,
-          subst (λ k. ReadsAtMost before a.dir k reads' unread) (is_read ∙ sym (same-file a.action reads)) (subst (λ d. ReadsAtMost before d n reads' unread) named (subst (λ b. ReadsAtMost b dir n reads' unread) kept h)),
+          subst (λ k. ReadsAtMost (log_use a.flags.no_log) before a.dir k reads' unread) (is_read ∙ sym (same-file a.action reads)) (subst (λ d. ReadsAtMost (log_use a.flags.no_log) before d n reads' unread) named (subst (λ b. ReadsAtMost (log_use a.flags.no_log) b dir n reads' unread) kept h)),
         ))
 
-    pub step-reads-all : {E : Type 0} (step : Step) → AsksFor a.title a.action before (request.Step step) → (end : Result Said E) → OnOk end (ReadsProject middle dir n reads')
+    pub step-reads-all : {E : Type 0} (step : Step) → AsksFor a.title a.action before (request.Step step) → (end : Result Said E) → OnOk end (ReadsProject (log_use a.flags.no_log) middle dir n reads')
         → OnOk end (ReadsAll (Ok (without_text a)) before reads reads')
     step-reads-all step asks (Ok said) h =
-        of-action a.action asks (subst (λ k. ReadsProject before a.dir k reads') is_read (subst (λ d. ReadsProject before d n reads') named (subst (λ b. ReadsProject b dir n reads') kept h)))
+        of-action a.action asks (subst (λ k. ReadsProject (log_use a.flags.no_log) before a.dir k reads') is_read (subst (λ d. ReadsProject (log_use a.flags.no_log) before d n reads') named (subst (λ b. ReadsProject (log_use a.flags.no_log) b dir n reads') kept h)))
       where
-        of-action : (x : Action) → AsksFor a.title x before (request.Step step) → ReadsProject before a.dir (file_read x reads) reads' → ReadsFor (without_help_text x) before a.dir reads reads'
+        of-action : (x : Action) → AsksFor a.title x before (request.Step step) → ReadsProject (log_use a.flags.no_log) before a.dir (file_read x reads) reads' → ReadsFor (without_help_text x) (log_use a.flags.no_log) before a.dir reads reads'
         of-action (action.Run s) is h = h
         of-action (action.Info c) is h = h
         of-action (action.ScriptText text unknown) is h = h
@@ -130,12 +136,12 @@ module _ (a : Asked) (before : Option Content) (reads : ℕ) where
         of-action action.Version is h = absurd (let no : ⊥ = cc in no)
     step-reads-all step asks (Err stop) h = h
 
-    pub listing-reads-all : {E : Type 0} (listing : Listing) → AsksFor a.title a.action before (request.List listing) → (end : Result Said E) → OnOk end (ReadsProject middle dir n reads')
+    pub listing-reads-all : {E : Type 0} (listing : Listing) → AsksFor a.title a.action before (request.List listing) → (end : Result Said E) → OnOk end (ReadsProject (log_use a.flags.no_log) middle dir n reads')
         → OnOk end (ReadsAll (Ok (without_text a)) before reads reads')
     listing-reads-all listing asks (Ok said) h =
-        of-action a.action asks (subst (λ k. ReadsProject before a.dir k reads') is_read (subst (λ d. ReadsProject before d n reads') named (subst (λ b. ReadsProject b dir n reads') kept h)))
+        of-action a.action asks (subst (λ k. ReadsProject (log_use a.flags.no_log) before a.dir k reads') is_read (subst (λ d. ReadsProject (log_use a.flags.no_log) before d n reads') named (subst (λ b. ReadsProject (log_use a.flags.no_log) b dir n reads') kept h)))
       where
-        of-action : (x : Action) → AsksFor a.title x before (request.List listing) → ReadsProject before a.dir (file_read x reads) reads' → ReadsFor (without_help_text x) before a.dir reads reads'
+        of-action : (x : Action) → AsksFor a.title x before (request.List listing) → ReadsProject (log_use a.flags.no_log) before a.dir (file_read x reads) reads' → ReadsFor (without_help_text x) (log_use a.flags.no_log) before a.dir reads reads'
         of-action (action.Run s) is h = absurd (let no : ⊥ = cc in no)
         of-action (action.Info c) is h = absurd (let no : ⊥ = cc in no)
         of-action (action.ScriptText text unknown) (cs, of, is) h = absurd (let no : ⊥ = cc in no)
@@ -156,7 +162,7 @@ module _ (a : Asked) (before : Option Content) (reads : ℕ) where
   pub shown-reads-none : (text : List ℕ) (reads' : ℕ) → AsksFor a.title a.action before (request.Show text) → reads' ≡ file_read a.action reads → ReadsAll (Ok (without_text a)) before reads reads'
   shown-reads-none text reads' asks e = of-action a.action asks e
     where
-      of-action : (x : Action) → AsksFor a.title x before (request.Show text) → reads' ≡ file_read x reads → ReadsFor (without_help_text x) before a.dir reads reads'
+      of-action : (x : Action) → AsksFor a.title x before (request.Show text) → reads' ≡ file_read x reads → ReadsFor (without_help_text x) (log_use a.flags.no_log) before a.dir reads reads'
       of-action (action.Run s) is e = absurd (let no : ⊥ = cc in no)
       of-action (action.Info c) is e = absurd (let no : ⊥ = cc in no)
       of-action (action.ScriptText t unknown) (cs, of, is) e = absurd (let no : ⊥ = cc in no)
@@ -173,31 +179,36 @@ module _ (a : Asked) (before : Option Content) (reads : ℕ) where
       of-action (action.Help t) is e = e
       of-action action.Version is e = e
 
--- ---- status 0 is that of a run that was done
+-- ---- the statuses 0 and 4 are those of a run that was done
 
-usage-not-0 : (fault : UsageFault) → usage_status fault ≡ 0 → ⊥
-usage-not-0 usage.Usage e = let no : ⊥ = cc in no
-usage-not-0 usage.OddWords e = let no : ⊥ = cc in no
-usage-not-0 usage.BadTitle e = let no : ⊥ = cc in no
-usage-not-0 usage.RepeatedKey e = let no : ⊥ = cc in no
-usage-not-0 usage.Unsupported e = let no : ⊥ = cc in no
-usage-not-0 usage.OutOfMemory e = let no : ⊥ = cc in no
+abbrev pub IsDone : ℕ → Type 0
+IsDone code = (code ≡ 0) ⊎ (code ≡ 4)
 
-store-not-0 : (fault : StoreFault) → store_fault_status fault ≡ 0 → ⊥
-store-not-0 (store.ReadFailed name) e = let no : ⊥ = cc in no
-store-not-0 (store.WriteFailed name still) e = let no : ⊥ = cc in no
-store-not-0 (store.NoFile name) e = let no : ⊥ = cc in no
-store-not-0 store.OutputFailed e = let no : ⊥ = cc in no
-store-not-0 store.OutOfMemory e = let no : ⊥ = cc in no
+not-1 : IsDone 1 → ⊥
+not-1 (inl e) = let no : ⊥ = cc in no
+not-1 (inr e) = let no : ⊥ = cc in no
 
-pub done-by-status : (P : Type 0) (end : Result Said Stop) → OnOk end P → status end ≡ 0 → P
-done-by-status P (Ok said) p e = p
-done-by-status P (Err (Usage fault)) p e = absurd (usage-not-0 fault e)
-done-by-status P (Err (Store fault)) p e = absurd (store-not-0 fault e)
-done-by-status P (Err (Script fault)) p e = absurd (let no : ⊥ = cc in no)
-done-by-status P (Err (Parse name fault)) p e = absurd (let no : ⊥ = cc in no)
-done-by-status P (Err TooManyFiles) p e = absurd (let no : ⊥ = cc in no)
-done-by-status P (Err (BadFileName place)) p e = absurd (let no : ⊥ = cc in no)
-done-by-status P (Err (Refused fault)) p e = absurd (let no : ⊥ = cc in no)
-done-by-status P (Err (Splice fault)) p e = absurd (let no : ⊥ = cc in no)
-done-by-status P (Err (OtherFiles name)) p e = absurd (let no : ⊥ = cc in no)
+not-2 : IsDone 2 → ⊥
+not-2 (inl e) = let no : ⊥ = cc in no
+not-2 (inr e) = let no : ⊥ = cc in no
+
+not-3 : IsDone 3 → ⊥
+not-3 (inl e) = let no : ⊥ = cc in no
+not-3 (inr e) = let no : ⊥ = cc in no
+
+usage-not-done : (fault : UsageFault) → IsDone (usage_status fault) → ⊥
+usage-not-done usage.OutOfMemory is = not-1 is
+usage-not-done _ is = not-2 is
+
+store-not-done : (fault : StoreFault) → IsDone (store_fault_status fault) → ⊥
+store-not-done store.OutOfMemory is = not-1 is
+store-not-done _ is = not-3 is
+
+pub stop-not-done : (stop : Stop) → IsDone (stop_status stop) → ⊥
+stop-not-done (Usage fault) is = usage-not-done fault is
+stop-not-done (Store fault) is = store-not-done fault is
+stop-not-done _ is = not-1 is
+
+pub done-by-status : (P : Type 0) (exit_code : Bool) (end : Result Said Stop) → OnOk end P → IsDone (status exit_code end) → P
+done-by-status P exit_code (Ok said) p e = p
+done-by-status P exit_code (Err stop) p e = absurd (stop-not-done stop e)

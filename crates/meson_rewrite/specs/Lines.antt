@@ -1,5 +1,5 @@
 -- The lines that the program writes, and its status.
-use Rattle.std.specs.Prelude.{ℕ, List, [], ◌∷◌, ◌++◌, codes, decimal, Result, Ok, Err}
+use Rattle.std.specs.Prelude.{ℕ, Bool, false, ◌&&◌, if◌then◌else◌, List, [], ◌∷◌, ◌++◌, codes, decimal, Result, Ok, Err}
 use Rattle.meson_syntax.specs.declared.fault.ParseFault.{ParseFault}
 use Rattle.meson_syntax.specs.declared.fault.ParseFault.TheVariants as parse
 use Rattle.meson_syntax.specs.Messages.{parse_fault_text}
@@ -71,7 +71,11 @@ title_line (b ∷ title) = line (codes "title: " ++ b ∷ title)
 abbrev pub forgot_line : List ℕ → List ℕ
 forgot_line which = line (codes "forgot: " ++ which)
 
--- ---- the status: 0 if a run was done, 1 if it is refused or memory ran out, 2 for words without a request, 3 if the store failed
+-- a text for the output, and no change of a build file
+abbrev pub shown_text : List ℕ → Said
+shown_text text = record { out = text; err = []; changed = false }
+
+-- ---- the status: 0 or 4 if a run was done, 1 if it is refused or memory ran out, 2 for words without a request, 3 if the store failed
 
 abbrev pub store_fault_status : StoreFault → ℕ
 store_fault_status store.OutOfMemory = 1
@@ -86,6 +90,10 @@ stop_status (Usage fault) = usage_status fault
 stop_status (Store fault) = store_fault_status fault
 stop_status _ = 1
 
-abbrev pub status : Result Said Stop → ℕ
-status (Ok said) = 0
-status (Err stop) = stop_status stop
+-- of a run that was done: 4 if the words want to be told so that a build file has other bytes, and one has
+abbrev pub done_status : Bool → Said → ℕ
+done_status exit_code said = if exit_code && said.changed then 4 else 0
+
+abbrev pub status : Bool → Result Said Stop → ℕ
+status exit_code (Ok said) = done_status exit_code said
+status exit_code (Err stop) = stop_status stop

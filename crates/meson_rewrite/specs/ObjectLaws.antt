@@ -5,7 +5,7 @@ use Rattle.meson_ranges.specs.FileLaws.{with_edits}
 use Rattle.meson_ranges.specs.declared.files.FileEdits.{FileEdits}
 use Rattle.meson_script.specs.declared.session.Report.{Report}
 use Rattle.meson_script.specs.declared.session.Session.{Session}
-use Rattle.meson_rewrite.specs.Objects.{SaysObject, done_data, says_data}
+use Rattle.meson_rewrite.specs.Objects.{SaysObject, changes_files, done_data, says_data}
 use Rattle.meson_rewrite.specs.Steps.{Does}
 use Rattle.meson_rewrite.specs.declared.request.Step.{Step}
 use Rattle.meson_rewrite.specs.declared.said.Said.{Said}
@@ -15,4 +15,5 @@ abbrev pub EditsOfObjectsMake : Type 0
 EditsOfObjectsMake = (step : Step) (old new : Session) (report : Report) (said : Said) → IsDistinct old.project.files → Does step old report new
     → SaysObject step old.project.files new.project.files report said
     → (new.project.files ≡ old.project.files)
-    ⊎ ((changes : List FileEdits) × (said ≡ says_data (done_data changes report)) × (map (with_edits changes) old.project.files ≡ new.project.files))
+    ⊎ ((changes : List FileEdits) × (said ≡ says_data (changes_files step report) (done_data changes report))
+    × (map (with_edits changes) old.project.files ≡ new.project.files))

@@ -1,5 +1,5 @@
 -- What is said in JSON, with the members of each object in the order of the bytes of their names.
-use Rattle.std.specs.Prelude.{◌≡◌, List, [], codes, length, map, reverse}
+use Rattle.std.specs.Prelude.{◌≡◌, ◌==◌, Bool, false, not, List, [], codes, length, map, reverse}
 use Rattle.serde_json.specs.Data.{Data, array, member, no_members, number, object, string, unsigned}
 use Rattle.serde_json.specs.View.{items_of, view}
 use Rattle.serde_json.specs.Written.{compact_text}
@@ -16,7 +16,7 @@ use Rattle.meson_sums.specs.Sums.{digest}
 use Rattle.meson_rewrite.specs.Changes.{edited_files}
 use Rattle.meson_rewrite.specs.Lines.{line}
 use Rattle.meson_rewrite.specs.declared.request.Step.{Step}
-use Rattle.meson_rewrite.specs.declared.request.Step.TheVariants.{ForgetOldest, ForgetAll}
+use Rattle.meson_rewrite.specs.declared.request.Step.TheVariants.{Tell, ForgetOldest, ForgetAll}
 use Rattle.meson_rewrite.specs.declared.said.Said.{Said}
 
 -- ---- the edits of files
@@ -51,15 +51,23 @@ done_data changes report = done_members (array (items_of (map file_edits_data ch
 abbrev pub forgot_data : Data → Data
 forgot_data which = object (member (codes "forgot") which no_members)
 
+-- whether a step that reports this gives a build file other bytes: one that only tells, or only drops changes of the log, gives none
+abbrev pub changes_files : Step → Report → Bool
+changes_files (Tell script) report = false
+changes_files (ForgetOldest count) report = false
+changes_files ForgetAll report = false
+changes_files _ report = not (report.files == 0)
+
 -- one line of compact JSON on the output, and nothing for errors
-abbrev pub says_data : Data → Said
-says_data d = record { out = line (compact_text d); err = [] }
+abbrev pub says_data : Bool → Data → Said
+says_data changed d = record { out = line (compact_text d); err = []; changed = changed }
 
 -- of a step that makes the second files of the first
 abbrev pub SaysObject : Step → List File → List File → Report → Said → Type 0
-SaysObject (ForgetOldest count) old new report said = said ≡ says_data (forgot_data (number (unsigned count)))
-SaysObject ForgetAll old new report said = said ≡ says_data (forgot_data (string (codes "all")))
-SaysObject _ old new report said = (changes : List FileEdits) × AreFileEdits old new changes × (said ≡ says_data (done_data changes report))
+SaysObject (ForgetOldest count) old new report said = said ≡ says_data false (forgot_data (number (unsigned count)))
+SaysObject ForgetAll old new report said = said ≡ says_data false (forgot_data (string (codes "all")))
+SaysObject step old new report said = (changes : List FileEdits) × AreFileEdits old new changes
+    × (said ≡ says_data (changes_files step report) (done_data changes report))
 
 -- ---- listings
 

@@ -10,22 +10,24 @@ use Rattle.meson_store.specs.declared.store_fault.StoreFault.TheVariants.{ReadFa
 use Rattle.meson_gathering.specs.declared.fault.GatherFault.{GatherFault}
 use Rattle.meson_gathering.specs.Gathering.{Told, Finds, held_bytes, whole}
 use Rattle.meson_gathering.specs.Gathered.{StopsAt}
-use Rattle.meson_rewrite.specs.Logs.{IsBadLog, IsLog, log_name}
+use Rattle.meson_rewrite.specs.Logs.{IsBadLog, IsLogFor, log_name}
 use Rattle.meson_rewrite.specs.Stops.{gathering_stop}
+use Rattle.meson_rewrite.specs.declared.opening.LogUse.{LogUse}
+use Rattle.meson_rewrite.specs.declared.opening.LogUse.TheVariants.{Kept}
 use Rattle.meson_rewrite.specs.declared.stop.Stop.{Stop}
 use Rattle.meson_rewrite.specs.declared.stop.Stop.TheVariants.{Script, Store}
 
-module _ (before : Option Content) (dir : Option (List ℕ)) where
+module _ (how : LogUse) (before : Option Content) (dir : Option (List ℕ)) where
   pub record Opens (session : Session) (log : List ℕ) : Type 0 where
     pub found : Finds before dir (whole session.project.files)
     pub is_project : IsProject session.project
-    pub is_log : Told before (λ content. IsLog (held_bytes content dir log_name) log session.history)
+    pub is_log : IsLogFor how before dir log session.history
     pub text : is_text_history session.history ≡ true
 
-  -- why there is no log, except out of memory: the log is not read, or is not valid
+  -- why there is no log, except out of memory: one that is kept is not read, or is not valid
   pub data IsNoLog (failed failed' : ℕ) : Stop → Type 0 where
-    log_unread : Rose failed failed' → IsNoLog failed failed' (Store (ReadFailed log_name))
-    bad_log : Told before (λ content. IsBadLog (held_bytes content dir log_name)) → IsNoLog failed failed' (Script BadLog)
+    log_unread : how ≡ Kept → Rose failed failed' → IsNoLog failed failed' (Store (ReadFailed log_name))
+    bad_log : how ≡ Kept → Told before (λ content. IsBadLog (held_bytes content dir log_name)) → IsNoLog failed failed' (Script BadLog)
 
   -- the files are not a project, or they are and have no log
   pub data OpensNone (failed failed' : ℕ) : Stop → Type 0 where

@@ -9,6 +9,7 @@ use Rattle.meson_script.specs.declared.session.Session.{Session}
 use Rattle.meson_command.specs.Asking.{only_asks, only_shows, without_text}
 use Rattle.meson_command.specs.declared.asked.Action.TheVariants.{Help, Version}
 use Rattle.meson_command.specs.declared.asked.Asked.{Asked}
+use Rattle.meson_command.specs.declared.asked.Flags.{Flags}
 use Rattle.meson_command.specs.declared.fault.UsageFault.{UsageFault}
 use Rattle.meson_command.specs.declared.fault.UsageFault.TheVariants as usage
 use Rattle.meson_store.specs.Commit.{AreReplaced, Put, TakenBack, path_in, puts}
@@ -17,15 +18,17 @@ use Rattle.meson_store.specs.Output.{Heard, Gets, Fails}
 use Rattle.meson_store.specs.Seen.{Seen, Untouched}
 use Rattle.meson_store.specs.declared.store_fault.StoreFault.{StoreFault}
 use Rattle.meson_store.specs.declared.store_fault.StoreFault.TheVariants.{OutOfMemory}
-use Rattle.meson_rewrite.specs.Lines.{left_by, line, status, stop_lines, version_line}
+use Rattle.meson_rewrite.specs.Lines.{left_by, line, shown_text, status, stop_lines, version_line}
 use Rattle.meson_rewrite.specs.Listed.{listing_text}
-use Rattle.meson_rewrite.specs.Logs.{empty_log, log_name, with_log}
+use Rattle.meson_rewrite.specs.Logs.{empty_log, log_name, log_use, with_log}
 use Rattle.meson_rewrite.specs.Opening.{Opens, OpensNone}
 use Rattle.meson_rewrite.specs.Refused.{stop_object}
 use Rattle.meson_rewrite.specs.Requests.{AsksFor, AsksForNone}
 use Rattle.meson_rewrite.specs.Steps.{Does, MayRefuseStep, SaysStep, ShowsStep, only_tells}
 use Rattle.meson_rewrite.specs.Stops.{WantsMemory}
 use Rattle.meson_rewrite.specs.StoreReads.{MayRead, unread_in}
+use Rattle.meson_rewrite.specs.declared.opening.LogUse.{LogUse}
+use Rattle.meson_rewrite.specs.declared.opening.LogUse.TheVariants.{Kept, Ignored}
 use Rattle.meson_rewrite.specs.declared.request.Listing.{Listing}
 use Rattle.meson_rewrite.specs.declared.request.ProgramRequest.TheVariants as request
 use Rattle.meson_rewrite.specs.declared.request.Step.{Step}
@@ -35,11 +38,11 @@ use Rattle.meson_rewrite.specs.declared.stop.Stop.TheVariants.{Usage, Store}
 
 -- ---- a step on the project of a folder
 
--- the session of the store becomes another one, whose log is the last of the files
-pub record Edits (before : Option Content) (dir : Option (List ℕ)) (step : Step) : Type 0 where
+-- the session of the store becomes another one; a log that is kept is the last of the files
+pub record Edits (how : LogUse) (before : Option Content) (dir : Option (List ℕ)) (step : Step) : Type 0 where
   pub old : Session
   pub log : List ℕ
-  pub opens : Opens before dir old log
+  pub opens : Opens how before dir old log
   pub new : Session
   -- its files parse as its trees
   pub is_project : IsProject new.project
@@ -48,61 +51,63 @@ pub record Edits (before : Option Content) (dir : Option (List ℕ)) (step : Ste
   pub new_log : List ℕ
   pub is_log : log_of new.history ≡ Ok new_log
 
--- the files that get other bytes, each with them, with the log after them
-abbrev pub written : {before : Option Content} {dir : Option (List ℕ)} {step : Step} → Edits before dir step → List Put
-written {dir = dir} e = puts dir (with_log e.old.project.files e.log) (with_log e.new.project.files e.new_log)
+-- the files that get other bytes, each with them, with a log that is kept after them
+abbrev pub written : {how : LogUse} {before : Option Content} {dir : Option (List ℕ)} {step : Step} → Edits how before dir step → List Put
+written {how = how} {dir = dir} e = puts dir (with_log how e.old.project.files e.log) (with_log how e.new.project.files e.new_log)
 
--- in a dry run it is shown, and not done; what is said of it may be JSON
-module _ (dir : Option (List ℕ)) (step : Step) (dry_run json : Bool) (before after : Seen) where
+-- in a dry run it is shown, and not done; what is said of it may be JSON; and the log may be ignored
+module _ (dir : Option (List ℕ)) (step : Step) (flags : Flags) (before after : Seen) where
   pub data StepEnds : Result Said Stop → Type 0 where
     -- there is no session
-    not_opened : (stop : Stop) → Untouched before after → OpensNone before.content dir before.failures after.failures stop → StepEnds (Err stop)
-    -- the step is refused on it
-    refused : (old : Session) (log : List ℕ) (stop : Stop) → Untouched before after → Opens before.content dir old log → MayRefuseStep step old stop
+    not_opened : (stop : Stop) → Untouched before after → OpensNone (log_use flags.no_log) before.content dir before.failures after.failures stop
         → StepEnds (Err stop)
+    -- the step is refused on it
+    refused : (old : Session) (log : List ℕ) (stop : Stop) → Untouched before after → Opens (log_use flags.no_log) before.content dir old log
+        → MayRefuseStep step old stop → StepEnds (Err stop)
     -- its listings are reported, and nothing is written
-    told : (old new : Session) (log : List ℕ) (report : Report) (said : Said) → Untouched before after → Opens before.content dir old log
-        → Does step old report new
-        → only_tells step ≡ true → SaysStep json step old.project.files new.project.files report said → StepEnds (Ok said)
+    told : (old new : Session) (log : List ℕ) (report : Report) (said : Said) → Untouched before after
+        → Opens (log_use flags.no_log) before.content dir old log → Does step old report new
+        → only_tells step ≡ true → SaysStep flags.json step old.project.files new.project.files report said → StepEnds (Ok said)
     -- what it makes of the files is shown, and nothing is written
-    shown : (old new : Session) (log : List ℕ) (report : Report) (said : Said) → Untouched before after → Opens before.content dir old log
-        → Does step old report new
-        → only_tells step ≡ false → dry_run ≡ true → ShowsStep json step old report new said → StepEnds (Ok said)
+    shown : (old new : Session) (log : List ℕ) (report : Report) (said : Said) → Untouched before after
+        → Opens (log_use flags.no_log) before.content dir old log → Does step old report new
+        → only_tells step ≡ false → flags.dry_run ≡ true → ShowsStep flags.json step old report new said → StepEnds (Ok said)
     -- each file that differs was replaced, then the log, and no other
-    done : (edits : Edits before.content dir step) (said : Said) → only_tells step ≡ false → dry_run ≡ false → AreReplaced (written edits) before after
-        → SaysStep json step edits.old.project.files edits.new.project.files edits.report said → StepEnds (Ok said)
+    done : (edits : Edits (log_use flags.no_log) before.content dir step) (said : Said) → only_tells step ≡ false → flags.dry_run ≡ false
+        → AreReplaced (written edits) before after
+        → SaysStep flags.json step edits.old.project.files edits.new.project.files edits.report said → StepEnds (Ok said)
     -- one could not be replaced, what was replaced got its old bytes again, and the fault reports it
-    unwritten : (edits : Edits before.content dir step) (fault : StoreFault) → only_tells step ≡ false → dry_run ≡ false
+    unwritten : (edits : Edits (log_use flags.no_log) before.content dir step) (fault : StoreFault) → only_tells step ≡ false → flags.dry_run ≡ false
         → TakenBack (written edits) before after fault
         → StepEnds (Err (Store fault))
     no_memory : (stop : Stop) → Untouched before after → WantsMemory stop → StepEnds (Err stop)
 
 -- ---- what is listed of the project of a folder
 
-pub data ListingEnds (dir : Option (List ℕ)) (listing : Listing) (json : Bool) (before after : Seen) : Result Said Stop → Type 0 where
+pub data ListingEnds (dir : Option (List ℕ)) (listing : Listing) (flags : Flags) (before after : Seen) : Result Said Stop → Type 0 where
   -- there is no session
-  has_none : (stop : Stop) → Untouched before after → OpensNone before.content dir before.failures after.failures stop
-      → ListingEnds dir listing json before after (Err stop)
-  listed : (session : Session) (log : List ℕ) → Untouched before after → Opens before.content dir session log
-      → ListingEnds dir listing json before after (Ok (record { out = listing_text json listing session; err = [] }))
-  wants_memory : (stop : Stop) → Untouched before after → WantsMemory stop → ListingEnds dir listing json before after (Err stop)
+  has_none : (stop : Stop) → Untouched before after → OpensNone (log_use flags.no_log) before.content dir before.failures after.failures stop
+      → ListingEnds dir listing flags before after (Err stop)
+  listed : (session : Session) (log : List ℕ) → Untouched before after → Opens (log_use flags.no_log) before.content dir session log
+      → ListingEnds dir listing flags before after (Ok (shown_text (listing_text flags.json listing session)))
+  wants_memory : (stop : Stop) → Untouched before after → WantsMemory stop → ListingEnds dir listing flags before after (Err stop)
 
 -- ---- a whole run, by the request of the words
 
 pub data Ends (asked : Result Asked UsageFault) (before after : Seen) : Result Said Stop → Type 0 where
   misused : (fault : UsageFault) → Untouched before after → asked ≡ Err fault → Ends asked before after (Err (Usage fault))
   helped : (a : Asked) (text : List ℕ) → Untouched before after → asked ≡ Ok (without_text a) → a.action ≡ Help text
-      → Ends asked before after (Ok (record { out = text; err = [] }))
+      → Ends asked before after (Ok (shown_text text))
   told_version : (a : Asked) → Untouched before after → asked ≡ Ok (without_text a) → a.action ≡ Version
-      → Ends asked before after (Ok (record { out = version_line; err = [] }))
+      → Ends asked before after (Ok (shown_text version_line))
   -- the words request a script that is not valid
   asks_for_none : (a : Asked) (stop : Stop) → Untouched before after → asked ≡ Ok (without_text a)
       → AsksForNone a.action before.content before.failures after.failures stop → Ends asked before after (Err stop)
   steps : (a : Asked) (step : Step) (end : Result Said Stop) → asked ≡ Ok (without_text a) → AsksFor a.title a.action before.content (request.Step step)
-      → StepEnds a.dir step a.flags.dry_run a.flags.json before after end → Ends asked before after end
+      → StepEnds a.dir step a.flags before after end → Ends asked before after end
   lists : (a : Asked) (listing : Listing) (end : Result Said Stop) → asked ≡ Ok (without_text a)
       → AsksFor a.title a.action before.content (request.List listing)
-      → ListingEnds a.dir listing a.flags.json before after end → Ends asked before after end
+      → ListingEnds a.dir listing a.flags before after end → Ends asked before after end
   memory_ran_out : (stop : Stop) → Untouched before after → WantsMemory stop → Ends asked before after (Err stop)
 
 -- ---- what stays if nothing is done
@@ -116,7 +121,7 @@ pub record RanOut (asked : Result Asked UsageFault) (before after : Seen) : Type
   pub is_asked : asked ≡ Ok (without_text a)
   pub step : Step
   pub asks : AsksFor a.title a.action before.content (request.Step step)
-  pub edits : Edits before.content a.dir step
+  pub edits : Edits (log_use a.flags.no_log) before.content a.dir step
   pub taken : TakenBack (written edits) before after OutOfMemory
 
 -- All is as before, or memory ran out so: then the files are as before, and the status is 1.
@@ -128,14 +133,30 @@ abbrev pub dir_of : Result Asked UsageFault → Option (List ℕ)
 dir_of (Err fault) = None
 dir_of (Ok a) = a.dir
 
--- at that path is what was there, or the log of no changes, if there was no log
-abbrev pub IsKept : Option (List ℕ) → Content → Content → List ℕ → Type 0
-IsKept dir old new path = (get new path ≡ get old path) ⊎ ((path ≡ path_in dir log_name) × (get old path ≡ None) × (get new path ≡ Some empty_log))
+-- how the log is used
+abbrev pub log_use_of : Result Asked UsageFault → LogUse
+log_use_of (Err fault) = Kept
+log_use_of (Ok a) = log_use a.flags.no_log
+
+-- at that path is what was there, or the log of no changes, if there was no log and it is kept
+abbrev pub IsKept : LogUse → Option (List ℕ) → Content → Content → List ℕ → Type 0
+IsKept Kept dir old new path = (get new path ≡ get old path) ⊎ ((path ≡ path_in dir log_name) × (get old path ≡ None) × (get new path ≡ Some empty_log))
+IsKept Ignored dir old new path = get new path ≡ get old path
 
 -- Each file is as it was, but for those that are reported by a run that was stopped.
-abbrev pub KeepsUntold : Option (List ℕ) → Option Content → Option Content → Stop → Type 0
-KeepsUntold dir before after stop = (old new : Content) → before ≡ Some old → after ≡ Some new → (path : List ℕ) →
-    ((name : List ℕ) → Contains (left_by stop) name → path ≡ path_in dir name → ⊥) → IsKept dir old new path
+abbrev pub KeepsUntold : LogUse → Option (List ℕ) → Option Content → Option Content → Stop → Type 0
+KeepsUntold how dir before after stop = (old new : Content) → before ≡ Some old → after ≡ Some new → (path : List ℕ) →
+    ((name : List ℕ) → Contains (left_by stop) name → path ≡ path_in dir name → ⊥) → IsKept how dir old new path
+
+-- Where the log is ignored, the store holds by its name what it held, however the run ends.
+abbrev pub LeavesLog : Result Asked UsageFault → Seen → Seen → Type 0
+LeavesLog asked before after = log_use_of asked ≡ Ignored → (old new : Content) → before.content ≡ Some old → after.content ≡ Some new
+    → get new (path_in (dir_of asked) log_name) ≡ get old (path_in (dir_of asked) log_name)
+
+-- each file but the log is as it was
+abbrev pub LeavesFiles : Option (List ℕ) → Seen → Seen → Type 0
+LeavesFiles dir before after = (old new : Content) → before.content ≡ Some old → after.content ≡ Some new → (path : List ℕ) → path ≢ path_in dir log_name
+    → get new path ≡ get old path
 
 -- the store is not used
 abbrev pub NeedsNoStore : Result Asked UsageFault → Type 0
@@ -146,6 +167,11 @@ NeedsNoStore (Ok a) = IsTrue (only_shows a.action)
 abbrev pub OnlyAsks : Result Asked UsageFault → Type 0
 OnlyAsks (Err fault) = ⊤
 OnlyAsks (Ok a) = IsTrue (only_asks a.action || a.flags.dry_run)
+
+-- whether the words want to be told by the status that a build file was changed
+abbrev pub wants_exit_code : Result Asked UsageFault → Bool
+wants_exit_code (Err fault) = false
+wants_exit_code (Ok a) = a.flags.exit_code
 
 -- ---- what is written
 
@@ -173,15 +199,16 @@ CannotSay (Ok said) out out' err err' = (CannotGet err err' said.err × (out' �
 CannotSay (Err stop) out out' err err' = Fails err err' × (out' ≡ out)
 
 -- the status and the lines of the ending, or status 3 if a writer failed
-abbrev pub Tells : Bool → ℕ → Heard → Heard → Heard → Heard → Result Said Stop → Type 0
-Tells json code out out' err err' end = ((code ≡ status end) × Says json end out out' err err') ⊎ ((code ≡ 3) × CannotSay end out out' err err')
+abbrev pub Tells : Bool → Bool → ℕ → Heard → Heard → Heard → Heard → Result Said Stop → Type 0
+Tells exit_code json code out out' err err' end =
+    ((code ≡ status exit_code end) × Says json end out out' err err') ⊎ ((code ≡ 3) × CannotSay end out out' err err')
 
 -- for words that may want an answer in JSON
 pub record Run (asked : Result Asked UsageFault) (json : Bool) (before after : Seen) (reads reads' code : ℕ) (out out' err err' : Heard) : Type 0 where
   pub end : Result Said Stop
   pub ends : Ends asked before after end
-  pub tells : Tells json code out out' err err' end
+  pub tells : Tells (wants_exit_code asked) json code out out' err err' end
   -- if it was stopped
-  pub kept : IfErr end (KeepsUntold (dir_of asked) before.content after.content)
+  pub kept : IfErr end (KeepsUntold (log_use_of asked) (dir_of asked) before.content after.content)
   -- this is how often the store was read, the last time for the file that is reported as unreadable, if there is one
   pub may_read : MayRead asked before.content reads reads' (unread_in end)

@@ -20,7 +20,7 @@ use Rattle.meson_script.specs.Running.{KeepsChange, MayStop}
 use Rattle.meson_script.specs.Undoing.{MayNotStep, Steps, StepsBack, StopsBack}
 use Rattle.meson_sums.specs.Sums.{sums}
 use Rattle.meson_rewrite.specs.Lines.{done_line, forgot_line, title_line}
-use Rattle.meson_rewrite.specs.Objects.{SaysObject}
+use Rattle.meson_rewrite.specs.Objects.{SaysObject, changes_files}
 use Rattle.meson_rewrite.specs.Stops.{undo_stop}
 use Rattle.meson_rewrite.specs.declared.request.NamedFile.{NamedFile}
 use Rattle.meson_rewrite.specs.declared.request.Step.{Step}
@@ -103,16 +103,21 @@ abbrev pub step_lines : Report → List ℕ
 step_lines report = done_line report.files report.splices ++ title_line report.title
 
 -- what the step makes of the files as a unified diff, instead of the number of changes
-pub record Shows (old : Session) (report : Report) (new : Session) (said : Said) : Type 0 where
+pub record Shows (step : Step) (old : Session) (report : Report) (new : Session) (said : Said) : Type 0 where
   pub is_diff : IsDiff old.project.files new.project.files said.out
   pub is_listing : said.err ≡ listing_line (view report.info)
+  pub is_changed : said.changed ≡ changes_files step report
+
+-- the line or lines for the output
+abbrev pub output_of : Step → Report → List ℕ
+output_of (Run script title) report = done_line report.files report.splices
+output_of (Tell script) report = []
+output_of (ForgetOldest count) report = forgot_line (decimal count)
+output_of ForgetAll report = forgot_line (codes "all")
+output_of _ report = step_lines report
 
 abbrev pub said_of : Step → Report → Said
-said_of (Run script title) report = record { out = done_line report.files report.splices; err = listing_line (view report.info) }
-said_of (Tell script) report = record { out = []; err = listing_line (view report.info) }
-said_of (ForgetOldest count) report = record { out = forgot_line (decimal count); err = listing_line (view report.info) }
-said_of ForgetAll report = record { out = forgot_line (codes "all"); err = listing_line (view report.info) }
-said_of _ report = record { out = step_lines report; err = listing_line (view report.info) }
+said_of step report = record { out = output_of step report; err = listing_line (view report.info); changed = changes_files step report }
 
 -- of a step that made the second files of the first: these texts, or an object of JSON
 abbrev pub SaysStep : Bool → Step → List File → List File → Report → Said → Type 0
@@ -121,5 +126,5 @@ SaysStep true step old new report said = SaysObject step old new report said
 
 -- of a step that is shown, and not done: a diff, or the object of a step that was done
 abbrev pub ShowsStep : Bool → Step → Session → Report → Session → Said → Type 0
-ShowsStep false step old report new said = Shows old report new said
+ShowsStep false step old report new said = Shows step old report new said
 ShowsStep true step old report new said = SaysObject step old.project.files new.project.files report said

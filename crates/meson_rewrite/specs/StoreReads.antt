@@ -1,5 +1,5 @@
 -- The number of reads of the store by a run: one for the file that the words name, if they name one, one for each queried file of the project, and one for the
--- log. If it reports a file as unreadable, it is the last file that the store was queried for.
+-- log, if it is kept. If it reports a file as unreadable, it is the last file that the store was queried for.
 use Rattle.std.specs.Prelude.{◌≡◌, ◌⊎◌, ℕ, List, Option, None, Result, Ok, Err}
 use Rattle.meson_command.specs.declared.asked.Action.{Action}
 use Rattle.meson_command.specs.declared.asked.Action.TheVariants as action
@@ -10,7 +10,9 @@ use Rattle.meson_store.specs.StoreCalls.{one_more}
 use Rattle.meson_store.specs.Content.{Content}
 use Rattle.meson_gathering.specs.Gathering.{Finds, whole}
 use Rattle.meson_gathering.specs.ReadCounts.{Asks, AsksNone, MayAsk, ReadsFiles, StopsReading}
-use Rattle.meson_rewrite.specs.Logs.{log_name}
+use Rattle.meson_rewrite.specs.Logs.{log_name, log_use}
+use Rattle.meson_rewrite.specs.declared.opening.LogUse.{LogUse}
+use Rattle.meson_rewrite.specs.declared.opening.LogUse.TheVariants.{Kept, Ignored}
 use Rattle.meson_rewrite.specs.Requests.{AsksFor}
 use Rattle.meson_rewrite.specs.Stops.{unread_by}
 use Rattle.meson_rewrite.specs.declared.request.Listing.{Listing}
@@ -36,21 +38,32 @@ AsksNamed (action.ScriptFile name unknown) reads reads' unread = Asks name reads
 AsksNamed (action.UndoChecked count name) reads reads' unread = Asks name reads reads' unread
 AsksNamed _ reads reads' unread = ⊥
 
+-- ---- the log: one that is ignored is not queried
+
+abbrev pub log_read : LogUse → ℕ → ℕ
+log_read Kept reads = one_more reads
+log_read Ignored reads = reads
+
+-- no query, or one for a log that is kept
+abbrev pub MayAskLog : LogUse → ℕ → ℕ → Option (List ℕ) → Type 0
+MayAskLog Kept reads reads' unread = MayAsk log_name reads reads' unread
+MayAskLog Ignored reads reads' unread = AsksNone reads reads' unread
+
 -- ---- the project of a folder, in a store that reported this before
 
-module _ (before : Option Content) (dir : Option (List ℕ)) where
-  -- these files, and then the log
+module _ (how : LogUse) (before : Option Content) (dir : Option (List ℕ)) where
+  -- these files, and then the log if it is kept
   abbrev pub ReadsWithLog : ℕ → List File → ℕ → Type 0
-  ReadsWithLog reads files reads' = (n : ℕ) × ReadsFiles before dir reads files n × (reads' ≡ one_more n)
+  ReadsWithLog reads files reads' = (n : ℕ) × ReadsFiles before dir reads files n × (reads' ≡ log_read how n)
 
-  -- the files of the project, and then the log
+  -- the files of the project, and then the log if it is kept
   abbrev pub ReadsProject : ℕ → ℕ → Type 0
   ReadsProject reads reads' = (files : List File) × Finds before dir (whole files) × ReadsWithLog reads files reads'
 
   -- the same, or no more than a part of them
   abbrev pub ReadsAtMost : ℕ → ℕ → Option (List ℕ) → Type 0
   ReadsAtMost reads reads' unread = StopsReading before dir reads reads' unread
-      ⊎ ((files : List File) × (n : ℕ) × ReadsFiles before dir reads files n × MayAsk log_name n reads' unread)
+      ⊎ ((files : List File) × (n : ℕ) × ReadsFiles before dir reads files n × MayAskLog how n reads' unread)
 
 -- ---- a whole run, by the request of the words
 
@@ -63,14 +76,14 @@ AsksForProject title a before =
 abbrev pub MayRead : Result Asked UsageFault → Option Content → ℕ → ℕ → Option (List ℕ) → Type 0
 MayRead (Err fault) before reads reads' unread = AsksNone reads reads' unread
 MayRead (Ok a) before reads reads' unread = AsksNone reads reads' unread ⊎ AsksNamed a.action reads reads' unread
-    ⊎ (AsksForProject a.title a.action before × ReadsAtMost before a.dir (file_read a.action reads) reads' unread)
+    ⊎ (AsksForProject a.title a.action before × ReadsAtMost (log_use a.flags.no_log) before a.dir (file_read a.action reads) reads' unread)
 
-abbrev pub ReadsFor : Action → Option Content → Option (List ℕ) → ℕ → ℕ → Type 0
-ReadsFor (action.Help text) before dir reads reads' = reads' ≡ reads
-ReadsFor action.Version before dir reads reads' = reads' ≡ reads
-ReadsFor a before dir reads reads' = ReadsProject before dir (file_read a reads) reads'
+abbrev pub ReadsFor : Action → LogUse → Option Content → Option (List ℕ) → ℕ → ℕ → Type 0
+ReadsFor (action.Help text) how before dir reads reads' = reads' ≡ reads
+ReadsFor action.Version how before dir reads reads' = reads' ≡ reads
+ReadsFor a how before dir reads reads' = ReadsProject how before dir (file_read a reads) reads'
 
 -- all of them, but for help and the version, which read nothing
 abbrev pub ReadsAll : Result Asked UsageFault → Option Content → ℕ → ℕ → Type 0
 ReadsAll (Err fault) before reads reads' = reads' ≡ reads
-ReadsAll (Ok a) before reads reads' = ReadsFor a.action before a.dir reads reads'
+ReadsAll (Ok a) before reads reads' = ReadsFor a.action (log_use a.flags.no_log) before a.dir reads reads'

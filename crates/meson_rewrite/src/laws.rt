@@ -1,6 +1,7 @@
-//! Laws of checked undos, of a read that failed, and of answers and refusals as objects. The functions do nothing; the contract of each is a law.
+//! Laws of checked undos, of the status of a change, of a read that failed, and of answers and refusals as objects. The functions do nothing; the contract of
+//! each is a law.
 
-ghost use Rattle.meson_rewrite.specs.Laws.{CheckedUndosRestore, OneUnread, SameSumsUndo};
+ghost use Rattle.meson_rewrite.specs.Laws.{CheckedUndosRestore, OneUnread, SameSumsUndo, StatusesTellChanges};
 ghost use Rattle.meson_rewrite.specs.ObjectLaws.{EditsOfObjectsMake};
 ghost use Rattle.meson_rewrite.specs.RefusalLaws.{CodesAreWords, MembersAreWords};
 
@@ -22,6 +23,11 @@ pub fn checked_undos_restore()
 {
     sums_tell();
 }
+
+/// What the status tells where the words want an exit code: 0 after a step if every file is as it was before it, to every byte; 4 if one is not.
+pub fn statuses_tell_changes()
+    ensures { StatusesTellChanges }
+{}
 
 /// Which file a run reports as unreadable: if a store tells what it holds and was read that often for some words, exactly one.
 pub fn one_unread()

@@ -1,8 +1,9 @@
 //! What is listed of a project.
 
-ghost use Rattle.std.specs.Prelude.{◌≡◌, [], IfErr, IfOk};
+ghost use Rattle.std.specs.Prelude.{◌≡◌, IfErr, IfOk};
 ghost use Rattle.serde_json.specs.View.{view};
 ghost use Rattle.meson_rewrite.specs.Listed.{holdings_text, listed_data, listed_text, listing_text};
+ghost use Rattle.meson_rewrite.specs.Lines.{shown_text};
 ghost use Rattle.meson_rewrite.specs.Stops.{WantsMemory};
 
 use crate::changes::history_text;
@@ -76,7 +77,7 @@ pub(crate) fn listed(
     listing: Listing,
     json: bool,
 ) -> Result<Said, Stop>
-    ensures told { IfOk result (λ said. said ≡ record { out = listing_text json listing opened.session; err = [] }) }
+    ensures told { IfOk result (λ said. said ≡ shown_text (listing_text json listing opened.session)) }
     ensures none { IfErr result WantsMemory }
 {
     let StoredSession { session, log: _ } = opened;
@@ -85,5 +86,6 @@ pub(crate) fn listed(
     Ok(Said {
         out: Bytes::of(text?),
         err: Bytes::of(Vec::new(alloc)),
+        changed: false,
     })
 }

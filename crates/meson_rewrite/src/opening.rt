@@ -5,9 +5,9 @@ ghost use Rattle.meson_json.specs.Log.{is_text_history, logged};
 ghost use Rattle.meson_json.specs.declared.fault.ScriptFault.TheVariants.{BadLog};
 ghost use Rattle.meson_rewrite.specs.declared.stop.Stop.TheVariants.{Script};
 ghost use Rattle.meson_gathering.specs.Gathering.{Told, held_bytes, named_folder};
-ghost use Rattle.meson_rewrite.specs.Logs.{IsLog, log_name};
+ghost use Rattle.meson_rewrite.specs.Logs.{IsLog, IsLogFor, log_name, log_use};
 ghost use Rattle.meson_rewrite.specs.Opening.{IsNoLog, Opens, OpensNone};
-ghost use Rattle.meson_rewrite.specs.StoreReads.{ReadsAtMost, ReadsWithLog};
+ghost use Rattle.meson_rewrite.specs.StoreReads.{MayAskLog, ReadsAtMost, ReadsWithLog, log_read};
 ghost use Rattle.meson_rewrite.specs.Stops.{WantsMemory, unread_by};
 ghost use Rattle.meson_store.specs.StoreCalls.{one_more};
 ghost use Rattle.meson_gathering.specs.ReadCounts.{MayAsk};
@@ -23,6 +23,27 @@ use std::mem;
 
 /// The undo log of a project, beside its root file.
 pub(crate) const LOG: &str = "meson.rewrite-log";
+
+/// What a run does with the undo log.
+#[derive(Clone, Copy)]
+pub(crate) enum LogUse {
+    /// It is read, and gets the change.
+    Kept,
+    /// It is neither read nor written, and the history is the empty one.
+    Ignored,
+}
+
+impl LogUse {
+    /// By whether the words leave the log alone.
+    pub(crate) fn of(no_log: bool) -> LogUse
+        ensures { result ≡ log_use no_log }
+    {
+        match no_log {
+            true => LogUse::Ignored,
+            false => LogUse::Kept,
+        }
+    }
+}
 
 /// A log, and its history.
 #[derive(Drop)]
@@ -49,7 +70,7 @@ fn read_history<S: Store>(alloc: Global, store: &mut S, dir: Option<&str>) -> Re
         (λ content. IsLog (held_bytes content (named_folder dir.entry) log_name) log.text.items log.history)) }
     ensures text { IfOk result (λ log. is_text_history log.history ≡ true) }
     ensures none { IfErr result (λ why. WantsMemory why
-        ⊎ IsNoLog (S.content store.old) (named_folder dir.entry) (S.failures store.old) (S.failures store.new) why) }
+        ⊎ IsNoLog LogUse.Kept (S.content store.old) (named_folder dir.entry) (S.failures store.old) (S.failures store.new) why) }
     ensures kept { S.content store.new ≡ S.content store.old }
     ensures counts { S.failures store.old ≤ S.failures store.new }
     ensures no_replace { S.replaces store.new ≡ S.replaces store.old }
@@ -78,11 +99,34 @@ fn no_changes(alloc: Global) -> Result<Log, Stop>
     }
 }
 
+/// The log that a run uses of the project in this folder.
+fn used_log<S: Store>(
+    alloc: Global,
+    store: &mut S,
+    dir: Option<&str>,
+    log_use: LogUse,
+) -> Result<Log, Stop>
+    ensures log { IfOk result (λ log. IsLogFor log_use (S.content store.old) (named_folder dir.entry) log.text.items log.history) }
+    ensures text { IfOk result (λ log. is_text_history log.history ≡ true) }
+    ensures none { IfErr result (λ why. WantsMemory why
+        ⊎ IsNoLog log_use (S.content store.old) (named_folder dir.entry) (S.failures store.old) (S.failures store.new) why) }
+    ensures kept { S.content store.new ≡ S.content store.old }
+    ensures counts { S.failures store.old ≤ S.failures store.new }
+    ensures no_replace { S.replaces store.new ≡ S.replaces store.old }
+    ensures reads { OnOk result (S.reads store.new ≡ log_read log_use (S.reads store.old)) }
+    ensures asks_at_most { IfErr result (λ why. MayAskLog log_use (S.reads store.old) (S.reads store.new) (unread_by why)) }
+{
+    match log_use {
+        LogUse::Kept => read_history(alloc, store, dir),
+        LogUse::Ignored => no_changes(alloc),
+    }
+}
+
 /// A session as a store has it.
 #[derive(Drop)]
 pub(crate) struct StoredSession {
     pub session: Session,
-    /// The text of its log.
+    /// The text of its log; that of no changes if the log is ignored.
     pub log: Vec<u8>,
 }
 
@@ -91,28 +135,29 @@ pub(crate) fn leave<T: Drop>(it: T) {
     mem::forget(it);
 }
 
-/// The session of the project in this folder: its files, each parsed once, and then the history that its log holds.
+/// The session of the project in this folder: its files, each parsed once, and then the history that its log holds, if the log is kept.
 pub(crate) fn open<S: Store>(
     alloc: Global,
     store: &mut S,
     dir: Option<&str>,
+    log_use: LogUse,
 ) -> Result<StoredSession, Stop>
-    ensures opens { IfOk result (λ o. Opens (S.content store.old) (named_folder dir.entry) o.session o.log.items) }
+    ensures opens { IfOk result (λ o. Opens log_use (S.content store.old) (named_folder dir.entry) o.session o.log.items) }
     ensures none { IfErr result (λ why. WantsMemory why
-        ⊎ OpensNone (S.content store.old) (named_folder dir.entry) (S.failures store.old) (S.failures store.new) why) }
+        ⊎ OpensNone log_use (S.content store.old) (named_folder dir.entry) (S.failures store.old) (S.failures store.new) why) }
     ensures kept { S.content store.new ≡ S.content store.old }
     ensures counts { S.failures store.old ≤ S.failures store.new }
     ensures no_replace { S.replaces store.new ≡ S.replaces store.old }
-    ensures reads { IfOk result (λ o. ReadsWithLog (S.content store.old) (named_folder dir.entry) (S.reads store.old)
+    ensures reads { IfOk result (λ o. ReadsWithLog log_use (S.content store.old) (named_folder dir.entry) (S.reads store.old)
         o.session.project.files (S.reads store.new)) }
-    ensures reads_at_most { IfErr result (λ why. ReadsAtMost (S.content store.old) (named_folder dir.entry) (S.reads store.old)
+    ensures reads_at_most { IfErr result (λ why. ReadsAtMost log_use (S.content store.old) (named_folder dir.entry) (S.reads store.old)
         (S.reads store.new) (unread_by why)) }
 {
     let project = match gather(alloc, store, dir) {
         Ok(project) => project,
         Err(fault) => return Err(Stop::from(fault)),
     };
-    let log = read_history(alloc, store, dir)?;
+    let log = used_log(alloc, store, dir, log_use)?;
     Ok(StoredSession {
         session: Session::of(project, log.history),
         log: log.text,

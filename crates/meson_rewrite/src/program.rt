@@ -5,21 +5,22 @@ ghost use Rattle.meson_command.specs.Asking.{asked_by, only_shows, wants_json, w
 ghost use Rattle.meson_command.specs.declared.fault.UsageFault.TheVariants.{OutOfMemory};
 ghost use Rattle.meson_gathering.specs.Gathering.{named_folder};
 ghost use Rattle.meson_json.specs.Titles.{is_title};
-ghost use Rattle.meson_rewrite.specs.Lines.{status, store_fault_status, usage_status};
+ghost use Rattle.meson_rewrite.specs.Lines.{done_status, status, store_fault_status, usage_status};
+ghost use Rattle.meson_rewrite.specs.Logs.{log_use};
 ghost use Rattle.meson_rewrite.specs.StoreReads.{MayRead, ReadsAll, ReadsAtMost, ReadsProject, unread_in};
 ghost use Rattle.meson_rewrite.specs.Steps.{IsTitled, only_tells};
-ghost use Rattle.meson_rewrite.specs.Runs.{CannotSay, Ends, IsUnchanged, KeepsFiles, ListingEnds, NeedsNoStore, OnlyAsks, Run, Says, StepEnds, Tells};
+ghost use Rattle.meson_rewrite.specs.Runs.{CannotSay, Ends, IsUnchanged, KeepsFiles, LeavesFiles, LeavesLog, ListingEnds, NeedsNoStore, OnlyAsks, Run, Says, StepEnds, Tells, dir_of, wants_exit_code};
 ghost use Rattle.meson_rewrite.specs.declared.stop.Stop.TheVariants.{Usage};
 ghost use Rattle.meson_store.specs.Seen.{seen_by};
 
 use crate::lines::tell_stop;
 use crate::listed::listed;
-use crate::opening::open;
+use crate::opening::{LogUse, open};
 use crate::request::{Listing, ProgramRequest, Step, request_of};
 use crate::said::Said;
 use crate::steps::{edited, shown, told};
 use crate::stop::Stop;
-use meson_command::{Asked, UsageFault, command_of, wants_json};
+use meson_command::{Asked, Flags, UsageFault, command_of, wants_json};
 use meson_splice::Text;
 use meson_store::{Output, Store, StoreFault, commit};
 use std::alloc::{AllocError, Global};
@@ -38,24 +39,25 @@ fn do_step<S: Store>(
     store: &mut S,
     dir: Option<&str>,
     step: &Step,
-    dry_run: bool,
-    json: bool,
+    flags: Flags,
 ) -> Result<Said, Stop>
     requires { IsTitled step.now }
-    ensures ends { StepEnds (named_folder dir.entry) step.now dry_run json (seen_by S.content S.failures S.replaces store.old)
+    ensures ends { StepEnds (named_folder dir.entry) step.now flags (seen_by S.content S.failures S.replaces store.old)
         (seen_by S.content S.failures S.replaces store.new) result }
     ensures counts { S.failures store.old ≤ S.failures store.new }
-    ensures reads { ReadsAtMost (S.content store.old) (named_folder dir.entry) (S.reads store.old) (S.reads store.new) (unread_in result) }
-    ensures reads_all { OnOk result (ReadsProject (S.content store.old) (named_folder dir.entry) (S.reads store.old) (S.reads store.new)) }
+    ensures reads { ReadsAtMost (log_use flags.no_log) (S.content store.old) (named_folder dir.entry) (S.reads store.old) (S.reads store.new)
+        (unread_in result) }
+    ensures reads_all { OnOk result (ReadsProject (log_use flags.no_log) (S.content store.old) (named_folder dir.entry) (S.reads store.old)
+        (S.reads store.new)) }
 {
-    let opened = open(alloc, store, dir)?;
+    let opened = open(alloc, store, dir, LogUse::of(flags.no_log))?;
     if only_tells(step) {
-        return told(alloc, opened, step, json);
+        return told(alloc, opened, step, flags.json);
     }
-    if dry_run {
-        return shown(alloc, opened, step, json);
+    if flags.dry_run {
+        return shown(alloc, opened, step, flags.json);
     }
-    let edit = edited(alloc, opened, step, json)?;
+    let edit = edited(alloc, opened, step, flags)?;
     match commit(alloc, store, dir, &edit.before, &edit.after) {
         Ok(()) => Ok(edit.said),
         Err(fault) => Err(Stop::Store(fault)),
@@ -68,16 +70,18 @@ fn list<S: Store>(
     store: &mut S,
     dir: Option<&str>,
     listing: Listing,
-    json: bool,
+    flags: Flags,
 ) -> Result<Said, Stop>
-    ensures ends { ListingEnds (named_folder dir.entry) listing json (seen_by S.content S.failures S.replaces store.old)
+    ensures ends { ListingEnds (named_folder dir.entry) listing flags (seen_by S.content S.failures S.replaces store.old)
         (seen_by S.content S.failures S.replaces store.new) result }
     ensures counts { S.failures store.old ≤ S.failures store.new }
-    ensures reads { ReadsAtMost (S.content store.old) (named_folder dir.entry) (S.reads store.old) (S.reads store.new) (unread_in result) }
-    ensures reads_all { OnOk result (ReadsProject (S.content store.old) (named_folder dir.entry) (S.reads store.old) (S.reads store.new)) }
+    ensures reads { ReadsAtMost (log_use flags.no_log) (S.content store.old) (named_folder dir.entry) (S.reads store.old) (S.reads store.new)
+        (unread_in result) }
+    ensures reads_all { OnOk result (ReadsProject (log_use flags.no_log) (S.content store.old) (named_folder dir.entry) (S.reads store.old)
+        (S.reads store.new)) }
 {
-    let opened = open(alloc, store, dir)?;
-    listed(alloc, opened, listing, json)
+    let opened = open(alloc, store, dir, LogUse::of(flags.no_log))?;
+    listed(alloc, opened, listing, flags.json)
 }
 
 /// The name of the folder.
@@ -108,19 +112,20 @@ fn answer<S: Store>(alloc: Global, store: &mut S, asked: Asked) -> Result<Said, 
     } = asked;
     match request_of(alloc, store, action, title) {
         Ok(ProgramRequest::Show(text)) => Ok(Said::show(alloc, text)),
-        Ok(ProgramRequest::Step(step)) => {
-            do_step(alloc, store, folder(&dir), &step, flags.dry_run, flags.json)
-        }
-        Ok(ProgramRequest::List(listing)) => list(alloc, store, folder(&dir), listing, flags.json),
+        Ok(ProgramRequest::Step(step)) => { do_step(alloc, store, folder(&dir), &step, flags) }
+        Ok(ProgramRequest::List(listing)) => list(alloc, store, folder(&dir), listing, flags),
         Err(stop) => Err(stop),
     }
 }
 
-/// How a run ends, and whether that is written in JSON.
+/// How a run ends, and how that is told.
 #[derive(Drop)]
 struct Ending {
     end: Result<Said, Stop>,
+    /// Whether it is written in JSON.
     json: bool,
+    /// Whether the status says that a build file was changed.
+    exit_code: bool,
 }
 
 /// The ending for words that are not a request.
@@ -132,10 +137,12 @@ fn misused(alloc: Global, words: &[String], fault: UsageFault) -> Ending
         Ok(json) => Ending {
             end: Err(Stop::Usage(fault)),
             json,
+            exit_code: false,
         },
         Err(AllocError) => Ending {
             end: Err(Stop::Usage(UsageFault::OutOfMemory)),
             json: false,
+            exit_code: false,
         },
     }
 }
@@ -145,6 +152,7 @@ fn run<S: Store>(alloc: Global, store: &mut S, words: &[String]) -> Ending
     ensures ends { Ends (asked_by (map string_bytes words.now)) (seen_by S.content S.failures S.replaces store.old)
         (seen_by S.content S.failures S.replaces store.new) result.end }
     ensures json { (result.json ≡ wants_json (map string_bytes words.now)) ⊎ (result.end ≡ Err (Usage OutOfMemory)) }
+    ensures exit_code { OnOk result.end (result.exit_code ≡ wants_exit_code (asked_by (map string_bytes words.now))) }
     ensures untouched { NeedsNoStore (asked_by (map string_bytes words.now)) → store.new ≡ store.old }
     ensures reads { MayRead (asked_by (map string_bytes words.now)) (S.content store.old) (S.reads store.old) (S.reads store.new)
         (unread_in result.end) }
@@ -152,9 +160,12 @@ fn run<S: Store>(alloc: Global, store: &mut S, words: &[String]) -> Ending
 {
     match command_of(alloc, words) {
         Ok(asked) => {
-            let json = asked.flags.json;
-            let end = answer(alloc, store, asked);
-            Ending { end, json }
+            let flags = asked.flags;
+            Ending {
+                end: answer(alloc, store, asked),
+                json: flags.json,
+                exit_code: flags.exit_code,
+            }
         }
         Err(fault) => misused(alloc, words, fault),
     }
@@ -195,11 +206,17 @@ fn usage_status(fault: &UsageFault) -> u8
     }
 }
 
-fn status(end: &Result<Said, Stop>) -> u8
-    ensures { result ≡ status end.now }
+fn done_status(exit_code: bool, said: &Said) -> u8
+    ensures { result ≡ done_status exit_code said.now }
+{
+    if exit_code && said.changed { 4 } else { 0 }
+}
+
+fn status(exit_code: bool, end: &Result<Said, Stop>) -> u8
+    ensures { result ≡ status exit_code end.now }
 {
     match end {
-        Ok(_) => 0,
+        Ok(said) => done_status(exit_code, said),
         Err(Stop::Usage(fault)) => usage_status(fault),
         Err(Stop::Store(fault)) => store_fault_status(fault),
         Err(_) => 1,
@@ -207,17 +224,11 @@ fn status(end: &Result<Said, Stop>) -> u8
 }
 
 /// Writes the lines of the ending, or its object of JSON. Returns its status, or 3 if a writer failed.
-fn ended<O: Output, E: Output>(
-    alloc: Global,
-    out: &mut O,
-    err: &mut E,
-    json: bool,
-    end: &Result<Said, Stop>,
-) -> u8
-    ensures { Tells json result (O.heard out.old) (O.heard out.new) (E.heard err.old) (E.heard err.new) end.now }
+fn ended<O: Output, E: Output>(alloc: Global, out: &mut O, err: &mut E, ending: &Ending) -> u8
+    ensures { Tells ending.now.exit_code ending.now.json result (O.heard out.old) (O.heard out.new) (E.heard err.old) (E.heard err.new) ending.now.end }
 {
-    match tell(alloc, out, err, json, end) {
-        Ok(()) => status(end),
+    match tell(alloc, out, err, ending.json, &ending.end) {
+        Ok(()) => status(ending.exit_code, &ending.end),
         Err(_) => 3,
     }
 }
@@ -228,11 +239,13 @@ fn ended<O: Output, E: Output>(
 ///
 /// If it is done, the store is read once for the file that the words name, if they name one (a script, or digests). It is read once for the root file and once
 /// for the log. It is read once for each name that a `subdir` call enters and for which no file was read before. Help and the version read nothing. If it ends
-/// early, the store is read up to that point, and no more. The file that it reports as unreadable is the last that the store was queried for.
+/// early, the store is read up to that point, and no more. The file that it reports as unreadable is the last that the store was queried for. With `--no-log`
+/// the log is neither read nor replaced, and the history is the empty one.
 ///
 /// The status is 0 if it was done. It is 1 if a file, a script or the log is not valid, a command is refused, or memory ran out. It is also 1 if files do not
-/// have the digests that they should have. It is 2 if the words are not a request, and 3 if the store or a writer failed. Help, the version, the listings, a
-/// dry run, and an info command of the command line leave the store as it is, whatever the status.
+/// have the digests that they should have. It is 2 if the words are not a request, and 3 if the store or a writer failed. With `--exit-code` it is 4 in place
+/// of 0 if a build file has other bytes after it, or would have them after a run that is only shown. Help, the version, the listings, a dry run, and an info
+/// command of the command line leave the store as it is, whatever the status.
 pub fn rewrite<S: Store, O: Output, E: Output>(
     alloc: Global,
     store: &mut S,
@@ -248,10 +261,17 @@ pub fn rewrite<S: Store, O: Output, E: Output>(
         (seen_by S.content S.failures S.replaces store.new) }
     ensures kept { (result ≡ 1) ⊎ (result ≡ 2) → KeepsFiles (asked_by (map string_bytes words.now)) (seen_by S.content S.failures S.replaces store.old)
         (seen_by S.content S.failures S.replaces store.new) result }
-    ensures reads_all { (result ≡ 0) → ReadsAll (asked_by (map string_bytes words.now)) (S.content store.old) (S.reads store.old) (S.reads store.new) }
+    ensures no_log { LeavesLog (asked_by (map string_bytes words.now)) (seen_by S.content S.failures S.replaces store.old)
+        (seen_by S.content S.failures S.replaces store.new) }
+    ensures unchanged { (result ≡ 0) × (wants_exit_code (asked_by (map string_bytes words.now)) ≡ true)
+        → LeavesFiles (dir_of (asked_by (map string_bytes words.now))) (seen_by S.content S.failures S.replaces store.old)
+        (seen_by S.content S.failures S.replaces store.new) }
+    ensures changed { (result ≡ 4) → wants_exit_code (asked_by (map string_bytes words.now)) ≡ true }
+    ensures reads_all { (result ≡ 0) ⊎ (result ≡ 4) → ReadsAll (asked_by (map string_bytes words.now)) (S.content store.old) (S.reads store.old)
+        (S.reads store.new) }
 {
-    let Ending { end, json } = run(alloc, store, words);
-    let status = ended(alloc, out, err, json, &end);
-    drop(end);
+    let ending = run(alloc, store, words);
+    let status = ended(alloc, out, err, &ending);
+    drop(ending);
     status
 }

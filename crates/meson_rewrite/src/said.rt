@@ -6,8 +6,8 @@ ghost use Rattle.std.specs.Str.{IsUtf8};
 ghost use Rattle.serde_json.specs.Find.{as_array};
 ghost use Rattle.serde_json.specs.View.{view};
 ghost use Rattle.serde_json.specs.Written.{compact_text, has_float};
-ghost use Rattle.meson_rewrite.specs.Lines.{line};
-ghost use Rattle.meson_rewrite.specs.Objects.{SaysObject};
+ghost use Rattle.meson_rewrite.specs.Lines.{line, shown_text};
+ghost use Rattle.meson_rewrite.specs.Objects.{SaysObject, changes_files};
 ghost use Rattle.meson_rewrite.specs.Runs.{CannotGet, CannotSay, Says};
 ghost use Rattle.meson_rewrite.specs.Steps.{is_empty_array, listing_line, said_of};
 ghost use Rattle.meson_store.specs.Output.{Gets};
@@ -27,6 +27,18 @@ use std::io;
 pub(crate) struct Said {
     pub out: Bytes,
     pub err: Bytes,
+    /// Whether a build file has other bytes after the run, or would have them after a run that is only shown.
+    pub changed: bool,
+}
+
+/// Whether a step that reports this gives a build file other bytes.
+fn changes_files(step: &Step, report: &Report) -> bool
+    ensures { result ≡ changes_files step.now report.now }
+{
+    match step {
+        Step::Tell(_) | Step::ForgetOldest(_) | Step::ForgetAll => false,
+        _ => report.files != 0,
+    }
 }
 
 /// Whether no command listed anything.
@@ -63,11 +75,12 @@ fn listing_text(alloc: Global, listings: &Value) -> Result<Vec<u8>, AllocError>
 impl Said {
     /// A text for the output.
     pub(crate) fn show(alloc: Global, text: Text) -> Said
-        ensures { result ≡ record { out = text; err = [] } }
+        ensures { result ≡ shown_text text }
     {
         Said {
             out: Bytes::of(text.take().into_bytes()),
             err: Bytes::of(Vec::new(alloc)),
+            changed: false,
         }
     }
 
@@ -89,22 +102,29 @@ impl Said {
         Ok(Said {
             out: Bytes::of(out),
             err: Bytes::of(err),
+            changed: changes_files(step, report),
         })
     }
 
     /// What is said of a step that is shown, and not done: this diff.
     pub(crate) fn shown(
         alloc: Global,
+        step: &Step,
         changes: Vec<u8>,
         report: &Report,
     ) -> Result<Said, AllocError>
         requires { has_float (view report.now.info) ≡ false }
-        ensures { IfOk result (λ said. said ≡ record { out = changes.items; err = listing_line (view report.now.info) }) }
+        ensures { IfOk result (λ said. said ≡ record {
+          out = changes.items;
+          err = listing_line (view report.now.info);
+          changed = changes_files step.now report.now;
+        }) }
     {
         let listing = listing_text(alloc, &report.info)?;
         Ok(Said {
             out: Bytes::of(changes),
             err: Bytes::of(listing),
+            changed: changes_files(step, report),
         })
     }
 
@@ -122,6 +142,7 @@ impl Said {
         requires plain { has_float (view report.info) ≡ false }
         ensures { IfOk result (SaysObject step.now old.now new.now report) }
     {
+        let changed = changes_files(step, &report);
         let out = match step {
             Step::ForgetOldest(count) => forgot_object_line(alloc, Value::from(*count))?,
             Step::ForgetAll => forgot_object_line(alloc, Value::try_from_str(alloc, "all")?)?,
@@ -130,6 +151,7 @@ impl Said {
         Ok(Said {
             out: Bytes::of(out),
             err: Bytes::of(Vec::new(alloc)),
+            changed,
         })
     }
 

@@ -9,14 +9,15 @@ ghost use Rattle.serde_json.specs.Written.{has_float};
 ghost use Rattle.meson_calls.specs.Loading.{HasFileName, IsProject, name_of_file};
 ghost use Rattle.meson_json.specs.Log.{is_text_history, log_of};
 ghost use Rattle.meson_rewrite.specs.inside.Edited.{IsEdited, IsObject, IsShown, OnlyTells, IsWithin};
-ghost use Rattle.meson_rewrite.specs.Logs.{with_log};
+ghost use Rattle.meson_rewrite.specs.Logs.{log_use, with_log};
 ghost use Rattle.meson_rewrite.specs.Steps.{Does, IsTitled, MayRefuseStep, SaysStep};
 ghost use Rattle.meson_rewrite.specs.Stops.{WantsMemory, undo_stop};
 
-use crate::opening::{LOG, StoredSession, leave};
+use crate::opening::{LOG, LogUse, StoredSession, leave};
 use crate::request::{NamedFile, Step};
 use crate::said::Said;
 use crate::stop::Stop;
+use meson_command::Flags;
 use meson_diff::diff;
 use meson_plan::{LoadFault, Project};
 use meson_script::{Report, Session, UndoFault, log_text};
@@ -171,9 +172,9 @@ fn new_log(alloc: Global, session: &Session) -> Result<Vec<u8>, Stop>
 }
 
 /// These files, none of which has the log's name, with the log after them.
-fn with_log(alloc: Global, files: FileSet, text: Vec<u8>) -> Result<FileSet, AllocError>
+fn with_kept_log(alloc: Global, files: FileSet, text: Vec<u8>) -> Result<FileSet, AllocError>
     requires { All HasFileName files }
-    ensures { IfOk result (λ all. all ≡ with_log files text.items) }
+    ensures { IfOk result (λ all. all ≡ with_log LogUse.Kept files text.items) }
 {
     let mut all = files;
     let name = String::from_str(alloc, LOG)?;
@@ -181,23 +182,40 @@ fn with_log(alloc: Global, files: FileSet, text: Vec<u8>) -> Result<FileSet, All
     Ok(all)
 }
 
-/// The files of a session whose history is text, with its log after them.
-fn logged(alloc: Global, session: &Session) -> Result<FileSet, Stop>
+/// These files, none of which has the log's name, with the log after them if it is kept.
+fn with_log(
+    alloc: Global,
+    files: FileSet,
+    text: Vec<u8>,
+    log_use: LogUse,
+) -> Result<FileSet, AllocError>
+    requires { All HasFileName files }
+    ensures { IfOk result (λ all. all ≡ with_log log_use files text.items) }
+{
+    match log_use {
+        LogUse::Kept => with_kept_log(alloc, files, text),
+        LogUse::Ignored => Ok(files),
+    }
+}
+
+/// The files of a session whose history is text, with its log after them if it is kept.
+fn logged(alloc: Global, session: &Session, log_use: LogUse) -> Result<FileSet, Stop>
     requires { is_text_history session.now.history ≡ true }
-    ensures files { IfOk result (λ all. (text : List ℕ) × (log_of session.now.history ≡ Ok text) × (all ≡ with_log session.now.project.files text)) }
+    ensures files { IfOk result (λ all. (text : List ℕ) × (log_of session.now.history ≡ Ok text)
+        × (all ≡ with_log log_use session.now.project.files text)) }
     ensures none { IfErr result WantsMemory }
 {
     let text = new_log(alloc, session)?;
     session.project.reads();
     let files = session.files().clone()?;
-    let all = with_log(alloc, files, text)?;
+    let all = with_log(alloc, files, text, log_use)?;
     Ok(all)
 }
 
 /// What is to be written, and what is then to be said.
 #[derive(Drop)]
 pub(crate) struct Edit {
-    /// The files and the log as they were.
+    /// The files as they were, and the log if it is kept.
     pub before: FileSet,
     pub after: FileSet,
     pub said: Said,
@@ -230,20 +248,21 @@ fn edit_of(
     session: &mut Session,
     log: Vec<u8>,
     step: &Step,
-    json: bool,
+    flags: Flags,
 ) -> Result<Edit, Stop>
     requires text { is_text_history session.old.history ≡ true }
     requires title { IsTitled step.now }
-    ensures edited { IfOk result (IsEdited session.old log.items step.now json) }
+    ensures edited { IfOk result (IsEdited (log_use flags.no_log) session.old log.items step.now flags.json) }
     ensures same_names { IfOk result (λ edit. map (λ f. f.name) edit.before ≡ map (λ f. f.name) edit.after) }
     ensures refused { IfErr result (λ why. WantsMemory why ⊎ MayRefuseStep step.now session.old why) }
 {
     session.project.reads();
     let old = session.files().clone()?;
     let report = act(alloc, session, step)?;
-    let said = said_of(alloc, step, json, &old, session, report)?;
-    let before = with_log(alloc, old, log)?;
-    let after = logged(alloc, session)?;
+    let said = said_of(alloc, step, flags.json, &old, session, report)?;
+    let log_use = LogUse::of(flags.no_log);
+    let before = with_log(alloc, old, log, log_use)?;
+    let after = logged(alloc, session, log_use)?;
     Ok(Edit {
         before,
         after,
@@ -256,16 +275,16 @@ pub(crate) fn edited(
     alloc: Global,
     opened: StoredSession,
     step: &Step,
-    json: bool,
+    flags: Flags,
 ) -> Result<Edit, Stop>
     requires text { is_text_history opened.session.history ≡ true }
     requires title { IsTitled step.now }
-    ensures edited { IfOk result (IsEdited opened.session opened.log.items step.now json) }
+    ensures edited { IfOk result (IsEdited (log_use flags.no_log) opened.session opened.log.items step.now flags.json) }
     ensures same_names { IfOk result (λ edit. map (λ f. f.name) edit.before ≡ map (λ f. f.name) edit.after) }
     ensures refused { IfErr result (λ why. WantsMemory why ⊎ MayRefuseStep step.now opened.session why) }
 {
     let StoredSession { mut session, log } = opened;
-    let edit = edit_of(alloc, &mut session, log, step, json);
+    let edit = edit_of(alloc, &mut session, log, step, flags);
     leave(session);
     edit
 }
@@ -328,7 +347,7 @@ fn shown_of(alloc: Global, session: &mut Session, step: &Step, json: bool) -> Re
     let before = session.files().clone()?;
     let report = act(alloc, session, step)?;
     let changes = diff(alloc, &before, session.files())?;
-    Ok(Said::shown(alloc, changes, &report)?)
+    Ok(Said::shown(alloc, step, changes, &report)?)
 }
 
 /// What is to be said for a step on a session that is shown, and not done.

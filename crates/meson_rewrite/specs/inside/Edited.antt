@@ -10,20 +10,21 @@ use Rattle.meson_script.specs.declared.session.Session.{Session}
 use Rattle.meson_rewrite.specs.Logs.{with_log}
 use Rattle.meson_rewrite.specs.Objects.{SaysObject}
 use Rattle.meson_rewrite.specs.Steps.{Does, SaysStep, ShowsStep}
+use Rattle.meson_rewrite.specs.declared.opening.LogUse.{LogUse}
 use Rattle.meson_rewrite.specs.declared.steps.Edit.{Edit}
 use Rattle.meson_rewrite.specs.declared.request.Step.{Step}
 use Rattle.meson_rewrite.specs.declared.said.Said.{Said}
 
--- the files with the log before and after a step, and what is said of it
-pub record IsEdited (old : Session) (log : List ℕ) (step : Step) (json : Bool) (edit : Edit) : Type 0 where
+-- the files, with a log that is kept, before and after a step, and what is said of it
+pub record IsEdited (how : LogUse) (old : Session) (log : List ℕ) (step : Step) (json : Bool) (edit : Edit) : Type 0 where
   pub new : Session
   pub is_project : IsProject new.project
   pub report : Report
   pub does : Does step old report new
   pub new_log : List ℕ
   pub is_log : log_of new.history ≡ Ok new_log
-  pub before : edit.before ≡ with_log old.project.files log
-  pub after : edit.after ≡ with_log new.project.files new_log
+  pub before : edit.before ≡ with_log how old.project.files log
+  pub after : edit.after ≡ with_log how new.project.files new_log
   pub says : SaysStep json step old.project.files new.project.files report edit.said
 
 -- a step that only reports

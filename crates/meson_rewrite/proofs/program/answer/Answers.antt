@@ -27,8 +27,8 @@ returns-in-Ok-Step-clause-ends g c =
     let a = seen (S.content c.do_step.new.store) (S.failures c.do_step.new.store) (S.replaces c.do_step.new.store) in
     let u : Untouched b m = record { kept = c.request_of.ensures.kept; counts = c.request_of.ensures.counts; no_replace = c.request_of.ensures.no_replace } in
     let asks = rw c.in-Ok-Step.field-0-is at c.in-Ok-Step.ensures.asks in
-    let ends = subst (λ dir. StepEnds dir c.in-Ok-Step.step asked.flags.dry_run asked.flags.json m a c.do_step.result) c.folder.ensures c.do_step.ensures.ends in
-    steps asked c.in-Ok-Step.step c.do_step.result refl asks (step-before asked.dir c.in-Ok-Step.step asked.flags.dry_run asked.flags.json b m a c.do_step.result u c.do_step.ensures.counts ends)
+    let ends = subst (λ dir. StepEnds dir c.in-Ok-Step.step asked.flags m a c.do_step.result) c.folder.ensures c.do_step.ensures.ends in
+    steps asked c.in-Ok-Step.step c.do_step.result refl asks (step-before asked.dir c.in-Ok-Step.step asked.flags b m a c.do_step.result u c.do_step.ensures.counts ends)
 
 pub returns-in-Ok-List-clause-ends : goal.returns-in-Ok-List-clause-ends
 returns-in-Ok-List-clause-ends g c =
@@ -40,8 +40,8 @@ returns-in-Ok-List-clause-ends g c =
     let u : Untouched b m = record { kept = c.request_of.ensures.kept; counts = c.request_of.ensures.counts; no_replace = c.request_of.ensures.no_replace } in
     let asks = rw c.in-Ok-List.field-0-is at c.in-Ok-List.ensures.asks in
     let listing = c.in-Ok-List.listing in
-    let ends = subst (λ dir. ListingEnds dir listing asked.flags.json m a c.list.result) c.folder-in-Ok-List.ensures c.list.ensures.ends in
-    lists asked listing c.list.result refl asks (listing-before asked.dir listing asked.flags.json b m a c.list.result u c.list.ensures.counts ends)
+    let ends = subst (λ dir. ListingEnds dir listing asked.flags m a c.list.result) c.folder-in-Ok-List.ensures c.list.ensures.ends in
+    lists asked listing c.list.result refl asks (listing-before asked.dir listing asked.flags b m a c.list.result u c.list.ensures.counts ends)
 
 pub returns-in-Ok-List-clause-reads : goal.returns-in-Ok-List-clause-reads
 returns-in-Ok-List-clause-reads g c =

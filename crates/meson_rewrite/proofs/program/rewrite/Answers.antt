@@ -1,24 +1,51 @@
-use Rattle.std.proofs.Common.{map, string_bytes}
-use Rattle.meson_command.specs.Asking.{wants_json}
+use Rattle.std.proofs.Common.{◌≡◌, map, string_bytes, subst}
+use Rattle.meson_command.specs.Asking.{asked_by, wants_json}
 use Rattle.meson_rewrite.proofs.Endings.{asking-keeps}
-use Rattle.meson_rewrite.proofs.Statuses.{told-keeps, told-reads, told-wanted}
+use Rattle.meson_rewrite.proofs.FilesLeft.{run-leaves-files}
+use Rattle.meson_rewrite.proofs.LogLeft.{run-leaves}
+use Rattle.meson_rewrite.proofs.Statuses.{told-0, told-by-words, told-changed, told-keeps, told-reads, told-wanted}
 use Rattle.meson_rewrite.proofs.Untold.{run-untold}
+use Rattle.meson_rewrite.specs.Lines.{status}
+use Rattle.meson_rewrite.specs.Runs.{wants_exit_code}
 use Rattle.meson_rewrite.proofs.program.rewrite.Goals as goal
 
 pub returns-clause-runs : goal.returns-clause-runs
-returns-clause-runs g c = record {
-  end = c.run-end.result.end;
-  ends = c.run-end.ensures.ends;
-  tells = told-wanted _ _ _ _ _ c.run-end.result.json (wants_json (map string_bytes c.args.words.now)) c.run-end.result.end c.run-end.ensures.json c.ended-status.ensures;
-  kept = run-untold _ _ _ _ c.run-end.ensures.ends;
-  may_read = c.run-end.ensures.reads;
-}
+returns-clause-runs g c =
+    let ending = c.run-ending.result in
+    let wanted = wants_exit_code (asked_by (map string_bytes c.args.words.now)) in
+    record {
+      end = ending.end;
+      ends = c.run-ending.ensures.ends;
+      tells = told-wanted wanted _ _ _ _ _ ending.json (wants_json (map string_bytes c.args.words.now)) ending.end c.run-ending.ensures.json
+          (told-by-words ending.json ending.exit_code wanted _ _ _ _ _ ending.end c.run-ending.ensures.exit_code c.ended-status.ensures);
+      kept = run-untold _ _ _ _ c.run-ending.ensures.ends;
+      may_read = c.run-ending.ensures.reads;
+    }
 
 pub returns-clause-asking : goal.returns-clause-asking
-returns-clause-asking g c = λ t. asking-keeps _ _ _ _ c.run-end.ensures.ends t
+returns-clause-asking g c = λ t. asking-keeps _ _ _ _ c.run-ending.ensures.ends t
 
 pub returns-clause-kept : goal.returns-clause-kept
-returns-clause-kept g c = λ s. told-keeps _ _ _ _ _ _ _ _ _ _ c.run-end.ensures.ends c.ended-status.ensures s
+returns-clause-kept g c = λ s. told-keeps _ _ _ _ _ _ _ _ _ _ _ c.run-ending.ensures.ends c.ended-status.ensures s
+
+pub returns-clause-changed : goal.returns-clause-changed
+returns-clause-changed g c =
+    let ending = c.run-ending.result in
+    let wanted = wants_exit_code (asked_by (map string_bytes c.args.words.now)) in
+    λ is. told-changed wanted ending.json _ _ _ _ _ ending.end
+    (told-by-words ending.json ending.exit_code wanted _ _ _ _ _ ending.end c.run-ending.ensures.exit_code c.ended-status.ensures) is
 
 pub returns-clause-reads_all : goal.returns-clause-reads_all
-returns-clause-reads_all g c = λ s. told-reads _ _ _ _ _ _ c.run-end.result.end _ c.run-end.ensures.reads_all c.ended-status.ensures s
+returns-clause-reads_all g c = λ s. told-reads _ _ _ _ _ _ _ c.run-ending.result.end _ c.run-ending.ensures.reads_all c.ended-status.ensures s
+
+pub returns-clause-no_log : goal.returns-clause-no_log
+returns-clause-no_log g c = run-leaves _ _ _ _ c.run-ending.ensures.ends
+
+pub returns-clause-unchanged : goal.returns-clause-unchanged
+returns-clause-unchanged g c =
+    let ending = c.run-ending.result in
+    let wanted = wants_exit_code (asked_by (map string_bytes c.args.words.now)) in
+    λ is. run-leaves-files _ _ _ ending.end c.run-ending.ensures.ends
+    (subst (λ w. status w ending.end ≡ 0) is.1
+    (told-0 wanted ending.json _ _ _ _ _ ending.end
+    (told-by-words ending.json ending.exit_code wanted _ _ _ _ _ ending.end c.run-ending.ensures.exit_code c.ended-status.ensures) is.0))

@@ -1,4 +1,4 @@
-use Rattle.std.proofs.Common.{◌≡◌, ◌⊎◌, ◌≤◌, Err, Result, ℕ, Option, arith, inl, inr, map, refl, string_bytes, subst, sym}
+use Rattle.std.proofs.Common.{◌≡◌, ◌⊎◌, ◌≤◌, Err, Result, ℕ, Option, arith, ap, inl, inr, map, refl, string_bytes, subst, sym}
 use Rattle.std.specs.Prelude.{OnOk}
 use Rattle.meson_command.proofs.Json.{json-law}
 use Rattle.meson_command.specs.Asking.{asked_by, without_text}
@@ -6,9 +6,9 @@ use Rattle.meson_command.specs.declared.asked.Asked.{Asked}
 use Rattle.meson_command.specs.declared.fault.UsageFault.{UsageFault}
 use Rattle.meson_command.specs.declared.fault.UsageFault.TheVariants.{OutOfMemory}
 use Rattle.meson_rewrite.proofs.Endings.{not-used}
-use Rattle.meson_rewrite.proofs.Reading.{nothing-read}
+use Rattle.meson_rewrite.proofs.Reading.{nothing-read, on_ok}
 use Rattle.meson_rewrite.proofs.Wants.{usage-or-memory}
-use Rattle.meson_rewrite.specs.Runs.{Ends, memory_ran_out}
+use Rattle.meson_rewrite.specs.Runs.{Ends, memory_ran_out, wants_exit_code}
 use Rattle.meson_rewrite.specs.declared.said.Said.{Said}
 use Rattle.meson_rewrite.specs.declared.stop.Stop.{Stop}
 use Rattle.meson_rewrite.specs.declared.stop.Stop.TheVariants.{Usage}
@@ -56,4 +56,10 @@ returns-in-Ok-clause-json g c = inl (json-law (map string_bytes c.args.words.now
 
 pub returns-in-Ok-clause-reads : goal.returns-in-Ok-clause-reads
 returns-in-Ok-clause-reads g c =
-    subst (λ r. MayRead r (g.S.Store.content c.args.store.now) (g.S.Store.reads c.args.store.now) (g.S.Store.reads c.answer-end.new.store) (unread_in c.answer-end.result)) (sym c.in-Ok.ensures.ok) c.answer-end.ensures.reads
+    subst (λ r. MayRead r (g.S.Store.content c.args.store.now) (g.S.Store.reads c.args.store.now) (g.S.Store.reads c.answer.new.store) (unread_in c.answer.result)) (sym c.in-Ok.ensures.ok) c.answer.ensures.reads
+
+pub returns-in-Err-clause-exit_code : goal.returns-in-Err-clause-exit_code
+returns-in-Err-clause-exit_code g c = misused-all _ c.in-Err.fault c.misused.result.end c.misused.ensures.end
+
+pub returns-in-Ok-clause-exit_code : goal.returns-in-Ok-clause-exit_code
+returns-in-Ok-clause-exit_code g c = on_ok c.answer.result (sym (ap wants_exit_code c.in-Ok.ensures.ok))

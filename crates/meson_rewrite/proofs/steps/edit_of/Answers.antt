@@ -6,7 +6,7 @@ use Rattle.meson_script.proofs.RunFacts.{names}
 use Rattle.meson_rewrite.proofs.Listings.{does-plain}
 use Rattle.meson_rewrite.proofs.Names.{logged-names, step-names}
 use Rattle.meson_rewrite.proofs.PlainObjects.{IsText, project-text}
-use Rattle.meson_rewrite.specs.Logs.{with_log}
+use Rattle.meson_rewrite.specs.Logs.{log_use, with_log}
 use Rattle.meson_rewrite.specs.Steps.{SaysStep}
 use Rattle.meson_rewrite.proofs.steps.edit_of.Goals as goal
 
@@ -30,7 +30,7 @@ returns-clause-same_names c =
     let new = c.act.new.session in
     let same = c.in_ok-old.ensures.cases ∙ c.files.ensures in
     ap names c.in_ok-before.ensures
-    ∙ logged-names _ _ _ _ (ap names same ∙ step-names c.args.step.now old new c.in_ok-report.report c.in_ok-report.ensures.does)
+    ∙ logged-names (log_use c.args.flags.no_log) _ _ _ _ (ap names same ∙ step-names c.args.step.now old new c.in_ok-report.report c.in_ok-report.ensures.does)
     ∙ ap names (sym c.in_ok-after.ensures.files.2)
 
 pub returns-clause-edited : goal.returns-clause-edited
@@ -44,9 +44,9 @@ returns-clause-edited c =
       does = c.in_ok-report.ensures.does;
       new_log = c.in_ok-after.ensures.files.0;
       is_log = c.in_ok-after.ensures.files.1;
-      before = c.in_ok-before.ensures ∙ ap (λ fs. with_log fs c.args.log.items) same;
+      before = c.in_ok-before.ensures ∙ ap (λ fs. with_log (log_use c.args.flags.no_log) fs c.args.log.items) same;
       after = c.in_ok-after.ensures.files.2;
-      says = subst (λ fs. SaysStep c.args.json c.args.step.now fs new.project.files c.in_ok-report.report c.in_ok-said.said) same c.in_ok-said.ensures;
+      says = subst (λ fs. SaysStep c.args.flags.json c.args.step.now fs new.project.files c.in_ok-report.report c.in_ok-said.said) same c.in_ok-said.ensures;
     }
 
 pub returns-in_err-report-clause-refused : goal.returns-in_err-report-clause-refused

@@ -10,4 +10,4 @@ with_log-requires c = subst (All HasFileName) (sym (c.in_ok-files.ensures.cases 
 pub returns-clause-files : goal.returns-clause-files
 returns-clause-files c =
     let text = c.in_ok-text.text.items in
-    (text, c.in_ok-text.ensures.log, c.in_ok-all.ensures ∙ ap (λ fs. with_log fs text) (c.in_ok-files.ensures.cases ∙ c.files.ensures))
+    (text, c.in_ok-text.ensures.log, c.in_ok-all.ensures ∙ ap (λ fs. with_log c.args.log_use fs text) (c.in_ok-files.ensures.cases ∙ c.files.ensures))

@@ -32,6 +32,7 @@ returns-clause-shown c =
       shows = rw (c.if-json.false) (record {
         is_diff = subst (IsDiff c.args.session.now.project.files new.project.files) (sym (ap (λ (said : Said). said.out) c.in_ok-shown.ensures)) read;
         is_listing = ap (λ (said : Said). said.err) c.in_ok-shown.ensures;
+        is_changed = ap (λ (said : Said). said.changed) c.in_ok-shown.ensures;
       });
     }
 
