@@ -28,3 +28,4 @@ pub mod RefusalObjects
 pub mod CodeWords
 pub mod RefusalMembers
 pub mod ObjectEdits
+pub mod InfosPlaced

@@ -40,7 +40,7 @@ use Rattle.meson_rewrite.specs.declared.request.Step.TheVariants.{Run, Tell, Und
 
 -- ---- the parts
 
-text-plain : (text : Option (List ℕ)) → has_float (text_or_null text) ≡ false
+pub text-plain : (text : Option (List ℕ)) → has_float (text_or_null text) ≡ false
 text-plain None = refl
 text-plain (Some t) = refl
 
@@ -83,7 +83,7 @@ placed-plain k d l e ms p q r later Less = either (has_float d) (members_have_fl
 placed-plain k d l e ms p q r later Equal = either (has_float d) (members_have_float ms) p r
 placed-plain k d l e ms p q r later Greater = either (has_float e) (members_have_float (put k d ms)) q later
 
-put-plain : (k : List ℕ) (d : Data) (ms : Members) → has_float d ≡ false → members_have_float ms ≡ false → members_have_float (put k d ms) ≡ false
+pub put-plain : (k : List ℕ) (d : Data) (ms : Members) → has_float d ≡ false → members_have_float ms ≡ false → members_have_float (put k d ms) ≡ false
 put-plain k d no_members p q = either (has_float d) false p refl
 put-plain k d (member l e ms) p q =
     let first = first-of (has_float e) (members_have_float ms) q in
@@ -143,11 +143,11 @@ or-plain : (o : Option (Result Data Refusal)) → PlainIf o → Plain (or_not_fo
 or-plain None h = tt
 or-plain (Some r) h = h
 
-target-plain : (files : List File) (file : ℕ) (h : Head) (s x : Sources) → has_float (target_data files file h s x) ≡ false
+pub target-plain : (files : List File) (file : ℕ) (h : Head) (s x : Sources) → has_float (target_data files file h s x) ≡ false
 unfolding target_data
 target-plain files file h s x = rw (items-plain files x.items, text-plain h.name, items-plain files s.items) refl
 
-call-plain : (files : List File) (file : ℕ) (h : Head) (pairs : List (List ℕ × Shown)) → has_float (call_data files file h pairs) ≡ false
+pub call-plain : (files : List File) (file : ℕ) (h : Head) (pairs : List (List ℕ × Shown)) → has_float (call_data files file h pairs) ≡ false
 unfolding call_data
 call-plain files file h pairs = rw (each-plain no_members pairs refl) refl
 

@@ -1,5 +1,6 @@
 pub mod Logs
 pub mod Stops
+pub mod Telling
 pub mod Lines
 pub mod Codes
 pub mod Refused

@@ -26,6 +26,7 @@ use Rattle.meson_rewrite.specs.Refused.{stop_object}
 use Rattle.meson_rewrite.specs.Requests.{AsksFor, AsksForNone}
 use Rattle.meson_rewrite.specs.Steps.{Does, MayRefuseStep, SaysStep, ShowsStep, only_tells}
 use Rattle.meson_rewrite.specs.Stops.{WantsMemory}
+use Rattle.meson_rewrite.specs.Telling.{TellsStep}
 use Rattle.meson_rewrite.specs.StoreReads.{MayRead, unread_in}
 use Rattle.meson_rewrite.specs.declared.opening.LogUse.{LogUse}
 use Rattle.meson_rewrite.specs.declared.opening.LogUse.TheVariants.{Kept, Ignored}
@@ -67,7 +68,7 @@ module _ (dir : Option (List ℕ)) (step : Step) (flags : Flags) (before after :
     -- its listings are reported, and nothing is written
     told : (old new : Session) (log : List ℕ) (report : Report) (said : Said) → Untouched before after
         → Opens (log_use flags.no_log) before.content dir old log → Does step old report new
-        → only_tells step ≡ true → SaysStep flags.json step old.project.files new.project.files report said → StepEnds (Ok said)
+        → only_tells step ≡ true → TellsStep flags.json step old report new said → StepEnds (Ok said)
     -- what it makes of the files is shown, and nothing is written
     shown : (old new : Session) (log : List ℕ) (report : Report) (said : Said) → Untouched before after
         → Opens (log_use flags.no_log) before.content dir old log → Does step old report new

@@ -11,6 +11,7 @@ mod opening;
 mod program;
 mod quoted;
 mod refused;
+mod reports;
 mod request;
 mod said;
 mod steps;

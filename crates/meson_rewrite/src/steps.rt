@@ -8,7 +8,7 @@ ghost use Rattle.serde_json.specs.View.{view};
 ghost use Rattle.serde_json.specs.Written.{has_float};
 ghost use Rattle.meson_calls.specs.Loading.{HasFileName, IsProject, name_of_file};
 ghost use Rattle.meson_json.specs.Log.{is_text_history, log_of};
-ghost use Rattle.meson_rewrite.specs.inside.Edited.{IsEdited, IsObject, IsShown, OnlyTells, IsWithin};
+ghost use Rattle.meson_rewrite.specs.inside.Edited.{IsEdited, IsObject, IsShown, IsWithin};
 ghost use Rattle.meson_rewrite.specs.Logs.{log_use, with_log};
 ghost use Rattle.meson_rewrite.specs.Steps.{Does, IsTitled, MayRefuseStep, SaysStep};
 ghost use Rattle.meson_rewrite.specs.Stops.{WantsMemory, undo_stop};
@@ -128,7 +128,7 @@ fn all_forgotten(alloc: Global, session: &mut Session) -> Report
 }
 
 /// Does a step on a session, or nothing.
-fn act(alloc: Global, session: &mut Session, step: &Step) -> Result<Report, Stop>
+pub(crate) fn act(alloc: Global, session: &mut Session, step: &Step) -> Result<Report, Stop>
     requires { IsTitled step.now }
     ensures does { IfOk result (λ report. Does step.now session.old report session.new) }
     ensures refused { IfErr result (λ why. WantsMemory why ⊎ MayRefuseStep step.now session.old why) }
@@ -300,39 +300,6 @@ fn object_of(alloc: Global, session: &mut Session, step: &Step) -> Result<Said, 
     let report = act(alloc, session, step)?;
     session.project.reads();
     Ok(Said::object(alloc, step, &old, session.files(), report)?)
-}
-
-/// What is to be said for a step on a borrowed session that only reports.
-fn told_of(alloc: Global, session: &mut Session, step: &Step, json: bool) -> Result<Said, Stop>
-    requires { IsTitled step.now }
-    ensures told { IfOk result (OnlyTells session.old step.now json) }
-    ensures refused { IfErr result (λ why. WantsMemory why ⊎ MayRefuseStep step.now session.old why) }
-{
-    if json {
-        return object_of(alloc, session, step);
-    }
-    let report = act(alloc, session, step)?;
-    Ok(Said::of(alloc, step, &report)?)
-}
-
-/// What is to be said for a step on a session that only reports.
-pub(crate) fn told(
-    alloc: Global,
-    opened: StoredSession,
-    step: &Step,
-    json: bool,
-) -> Result<Said, Stop>
-    requires { IsTitled step.now }
-    ensures told { IfOk result (OnlyTells opened.session step.now json) }
-    ensures refused { IfErr result (λ why. WantsMemory why ⊎ MayRefuseStep step.now opened.session why) }
-{
-    let StoredSession {
-        mut session,
-        log: _,
-    } = opened;
-    let said = told_of(alloc, &mut session, step, json);
-    leave(session);
-    said
 }
 
 /// What is to be said for a step on a borrowed session, if it is shown and not done.

@@ -11,6 +11,7 @@ use Rattle.meson_rewrite.specs.Logs.{with_log}
 use Rattle.meson_rewrite.specs.Objects.{SaysObject}
 use Rattle.meson_rewrite.specs.Steps.{Does, SaysStep, ShowsStep}
 use Rattle.meson_rewrite.specs.declared.opening.LogUse.{LogUse}
+use Rattle.meson_rewrite.specs.Telling.{Reports, TellsStep}
 use Rattle.meson_rewrite.specs.declared.steps.Edit.{Edit}
 use Rattle.meson_rewrite.specs.declared.request.Step.{Step}
 use Rattle.meson_rewrite.specs.declared.said.Said.{Said}
@@ -32,7 +33,16 @@ pub record OnlyTells (old : Session) (step : Step) (json : Bool) (said : Said) :
   pub new : Session
   pub report : Report
   pub does : Does step old report new
-  pub says : SaysStep json step old.project.files new.project.files report said
+  pub says : TellsStep json step old report new said
+
+-- an object of JSON, of a step that only reports
+pub record IsToldObject (old : Session) (step : Step) (said : Said) : Type 0 where
+  pub new : Session
+  pub report : Report
+  pub does : Does step old report new
+  pub shown : Report
+  pub reports : Reports step new.project report shown
+  pub says : SaysObject step old.project.files new.project.files shown said
 
 -- a step that is shown, and not done
 pub record IsShown (old : Session) (step : Step) (json : Bool) (said : Said) : Type 0 where

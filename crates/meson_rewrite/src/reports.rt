@@ -1,6 +1,8 @@
 //! What is said of a step that only reports.
 
-ghost use Rattle.std.specs.Prelude.{◌≡◌, ◌⊎◌, IfOk, IfErr};
+ghost use Rattle.std.specs.Prelude.{◌≡◌, ◌⊎◌, ◌∷◌, [], IfOk, IfErr};
+ghost use Rattle.serde_json.specs.Data.{array};
+ghost use Rattle.serde_json.specs.View.{items_of, view};
 ghost use Rattle.meson_rewrite.specs.inside.Edited.{IsToldObject, OnlyTells};
 ghost use Rattle.meson_rewrite.specs.Steps.{IsTitled, MayRefuseStep};
 ghost use Rattle.meson_rewrite.specs.Stops.{WantsMemory};
@@ -20,7 +22,7 @@ use std::alloc::{AllocError, Global};
 
 /// The report with this as its one listing.
 fn with_listing(alloc: Global, report: Report, listing: Value) -> Result<Report, AllocError>
-    ensures { IfOk result (IsListed report (view listing)) }
+    ensures { IfOk result (λ shown. (view shown.info ≡ array (items_of (view listing ∷ []))) × (shown ≡ record report { info = shown.info })) }
 {
     let Report {
         files,
@@ -55,8 +57,10 @@ fn with_positions(
     match placed_info(alloc, project, command) {
         Ok(Some(listing)) => with_listing(alloc, report, listing),
         Ok(None) => Ok(report),
-        Err(Refusal::OutOfMemory) => Err(AllocError),
-        Err(_) => Ok(report),
+        Err(refusal) => match refusal {
+            Refusal::OutOfMemory => Err(AllocError),
+            _ => Ok(report),
+        },
     }
 }
 

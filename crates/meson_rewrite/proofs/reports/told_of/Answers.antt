@@ -1,13 +1,14 @@
 use Rattle.std.proofs.lemmas.Result.{IfOk-weaker}
 use Rattle.meson_rewrite.proofs.Listings.{does-plain}
-use Rattle.meson_rewrite.proofs.steps.told_of.Goals as goal
+use Rattle.meson_rewrite.proofs.reports.told_of.Goals as goal
 
 pub of-requires : goal.of-requires
 of-requires c = does-plain c.args.step.now c.args.session.now c.act.new.session c.in_ok-report.report c.in_ok-report.ensures.does
 
 pub returns-then-json-clause-told : goal.returns-then-json-clause-told
 returns-then-json-clause-told c =
-    IfOk-weaker c.object_of.result _ _ (λ said o. record { new = o.new; report = o.report; does = o.does; says = rw (c.if-json.true) o.says }) c.object_of.ensures.object
+    IfOk-weaker c.told_object.result _ _
+    (λ said o. record { new = o.new; report = o.report; does = o.does; says = rw (c.if-json.true) (o.shown, o.reports, o.says) }) c.told_object.ensures.told
 
 pub returns-clause-told : goal.returns-clause-told
 returns-clause-told c = record {
