@@ -25,3 +25,7 @@ pub mod RefusalObjects
 pub mod CodeWords
 pub mod RefusalMembers
 pub mod ObjectEdits
+pub mod PlacedTexts
+pub mod TextsAsked
+pub mod TextEnds
+pub mod TextLaws

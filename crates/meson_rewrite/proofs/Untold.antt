@@ -22,7 +22,7 @@ use Rattle.meson_rewrite.specs.declared.said.Said.{Said}
 use Rattle.meson_rewrite.specs.declared.stop.Stop.{Stop}
 use Rattle.meson_rewrite.specs.declared.stop.Stop.TheVariants.{Usage}
 
-same-keeps : (dir : Option (List ℕ)) (before after : Option Content) (stop : Stop) → after ≡ before → KeepsUntold dir before after stop
+pub same-keeps : (dir : Option (List ℕ)) (before after : Option Content) (stop : Stop) → after ≡ before → KeepsUntold dir before after stop
 same-keeps dir before after stop same old new is now path untold = inl (ap (λ c. get c path) (some-is (sym now ∙ same ∙ is)))
 
 -- ---- a file that is written

@@ -31,7 +31,7 @@ CheckedUndosRestore = (count : ℕ) (kept : NamedFile) (left : List File) (s : S
     → Stands old.history left s → kept.bytes ≡ sums left → IsProject old.project → Does (UndoChecked count kept) old report new
     → ((t : Stack) × (undos count s ≡ Some t) × (new.project.files ≡ t.present) × Stands new.history t.present t) ⊎ Collision
 
--- What the store holds, and the number of its reads for these words, determine which file could not be read. A count that has reached its end is excepted.
+-- What the store holds, and the number of its reads for these words without texts, determine which file could not be read. A count that has reached its end is excepted.
 abbrev pub OneUnread : Type 0
 OneUnread = (asked : Result Asked UsageFault) (held : Content) (reads reads' : ℕ) (name other : List ℕ) → reads' < 2 ^ 64 - 1
     → MayRead asked (Some held) reads reads' (Some name) → MayRead asked (Some held) reads reads' (Some other) → name ≡ other
