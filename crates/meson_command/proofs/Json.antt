@@ -1,5 +1,5 @@
 -- Where a request is answered in JSON.
-use Rattle.std.proofs.Common.{◌≡◌, ◌≢◌, ◌∙◌, ◌∷◌, ◌⊎◌, inl, inr, Bool, List, [], Option, false, Result, Ok, Err, codes, refl, sym, ap, ap₂, subst}
+use Rattle.std.proofs.Common.{◌≡◌, ◌≢◌, ◌∙◌, ◌∷◌, ◌⊎◌, inl, inr, Bool, List, [], Option, false, codes, refl, sym, ap₂, subst}
 use Rattle.std.specs.Prelude.{IfOk, ok_or}
 use Rattle.clap.specs.Kinds.{IsAmong, Kinds}
 use Rattle.clap.specs.Words.{App, HasMatchesOf, Row, Text, fault_of, first_of, found_of, matches_of, rows_of}
@@ -13,7 +13,6 @@ use Rattle.meson_command.specs.Asking.{answer, answer_by, asked_from, asked_of, 
 use Rattle.meson_command.specs.Laws.{JsonWhereWanted}
 use Rattle.meson_command.specs.Program.{program}
 use Rattle.meson_command.specs.declared.asked.Asked.{Asked}
-use Rattle.meson_command.specs.declared.fault.UsageFault.{UsageFault}
 use Rattle.meson_command.specs.declared.fault.UsageFault.TheVariants.{Usage, BadTitle}
 use Rattle.meson_command.proofs.NoHelp.{Answers, after, either, err, ok}
 use Rattle.meson_command.proofs.Taken.{rows-of}

@@ -1,5 +1,5 @@
 -- What the matches of the program's words are, and what they ask for.
-use Rattle.std.proofs.Common.{◌≡◌, ◌≢◌, ◌∙◌, ◌∷◌, ◌⊎◌, inl, inr, Bool, List, [], Option, Some, None, true, false, Result, Ok, Err, option_map, codes, Box, refl, sym, ap, ap₂, subst}
+use Rattle.std.proofs.Common.{◌≡◌, ◌≢◌, ◌∙◌, ◌∷◌, ◌⊎◌, inl, inr, List, [], Option, Some, None, true, false, Result, Ok, Err, option_map, codes, Box, refl, sym, ap, ap₂, subst}
 use Rattle.std.specs.Box.{box_value}
 use Rattle.clap.specs.Words.{App, HasMatchesOf, Row, Text, fault_of, first_of, found_of, is_simple, is_simple_and_free, matches_of, rows_of, subcommand_rows, subcommand_rows_of, takes}
 use Rattle.clap.specs.Kinds.{IsAmong, Kinds}

@@ -276,5 +276,5 @@ usage-law words none e =
     let asked : asked_of words ≡ Err Usage = sym (as_taken (fault_of program words) (asked_of words) none) ∙ e in
     elim (split (matches_of program words) (subcommand_of program words) (entered_one words none) asked) [
       | inl folder ↦ inl folder
-      | inr u ↦ inr (u.0, u.1, u.2, elim u.3 [ inl no ↦ inl (unknown u.0 u.1 (known words u.0 u.1 u.2) no) | inr misused ↦ inr misused ])
+      | inr u ↦ inr (u.0, u.1, u.2, elim u.3 [ inl bad ↦ inl (unknown u.0 u.1 (known words u.0 u.1 u.2) bad) | inr misused ↦ inr misused ])
     ]

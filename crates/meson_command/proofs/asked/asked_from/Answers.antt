@@ -32,24 +32,24 @@ pub returns-clause-ok : goal.returns-clause-ok
 returns-clause-ok c =
     let m = c.args.matches.now in
     let dir = c.get_str.ensures ∙ first_value-rows (found_of m) (codes "DIR") in
-    let file = c.get_str-texts.ensures ∙ first_value-rows (found_of m) (codes "FILE") in
+    let file = c.get_str-2.ensures ∙ first_value-rows (found_of m) (codes "FILE") in
     let texts = c.in_ok-texts.ensures.ok in
-    let fit = ap₂ (λ (t : Option (List ℕ)) (d : Bool). texts_fit c.in_ok-action.action t d) file (ap (λ (f : Flags). f.dry_run) c.flags_in.ensures) in
+    let fit = ap₂ (λ (t : Option (List ℕ)) (d : Bool). texts_fit c.in_ok-action.action t d) file (ap (λ (f : Flags). f.dry_run) c.flags_in-flags.ensures) in
     let title = c.in_ok-titled.ensures.ok in
     let same = title.1 ∙ c.word_or-word.ensures in
     let read = c.in_ok-titled.ensures.read in
     rw read (
     asks _ _ _ _ _ _ _ _ _ (entered_by (out-ArgMatches m).subcommand _ _ c.in-Some.ensures.name c.in-Some.ensures.rows)
     (sym (ap names_no_folder dir) ∙ c.in_ok-dir.ensures.ok.0) (c.in_ok-dir.ensures.ok.1 ∙ dir) c.in_ok-action.ensures.ok
-    (sym fit ∙ texts.0) (texts.1 ∙ file) (subst (λ t. is_title t ≡ true) same title.0) same c.flags_in.ensures
+    (sym fit ∙ texts.0) (texts.1 ∙ file) (subst (λ t. is_title t ≡ true) same title.0) same c.flags_in-flags.ensures
     )
 
 pub returns-in_err-texts-clause-refused : goal.returns-in_err-texts-clause-refused
 returns-in_err-texts-clause-refused c =
     let m = c.args.matches.now in
     let dir = c.get_str.ensures ∙ first_value-rows (found_of m) (codes "DIR") in
-    let file = c.get_str-texts.ensures ∙ first_value-rows (found_of m) (codes "FILE") in
-    let fit = ap₂ (λ (t : Option (List ℕ)) (d : Bool). texts_fit c.in_ok-action.action t d) file (ap (λ (f : Flags). f.dry_run) c.flags_in.ensures) in
+    let file = c.get_str-2.ensures ∙ first_value-rows (found_of m) (codes "FILE") in
+    let fit = ap₂ (λ (t : Option (List ℕ)) (d : Bool). texts_fit c.in_ok-action.action t d) file (ap (λ (f : Flags). f.dry_run) c.flags_in-flags.ensures) in
     let p = err_from_is_err_and c.from_residual-in_err-texts.result c.from_residual-in_err-texts.ensures.1 in
     rw (p.1, p.2) (λ n.
     let refused = c.in_err-texts.ensures.refused n in
@@ -62,8 +62,8 @@ returns-in_err-titled-clause-refused c =
     let dir = c.get_str.ensures ∙ first_value-rows (found_of m) (codes "DIR") in
     let p = err_from_is_err_and c.from_residual-in_err-titled.result c.from_residual-in_err-titled.ensures.1 in
     rw (p.1, p.2) (λ n.
-    let file = c.get_str-texts.ensures ∙ first_value-rows (found_of m) (codes "FILE") in
-    let fit = ap₂ (λ (t : Option (List ℕ)) (d : Bool). texts_fit c.in_ok-action.action t d) file (ap (λ (f : Flags). f.dry_run) c.flags_in.ensures) in
+    let file = c.get_str-2.ensures ∙ first_value-rows (found_of m) (codes "FILE") in
+    let fit = ap₂ (λ (t : Option (List ℕ)) (d : Bool). texts_fit c.in_ok-action.action t d) file (ap (λ (f : Flags). f.dry_run) c.flags_in-flags.ensures) in
     let refused = c.in_err-titled.ensures.refused n in
     refuses_title _ _ _ _ _ (entered_by (out-ArgMatches m).subcommand _ _ c.in-Some.ensures.name c.in-Some.ensures.rows)
     (sym (ap names_no_folder dir) ∙ c.in_ok-dir.ensures.ok.0) c.in_ok-action.ensures.ok (sym fit ∙ c.in_ok-texts.ensures.ok.0)

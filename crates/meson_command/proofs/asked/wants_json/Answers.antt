@@ -1,4 +1,4 @@
-use Rattle.std.proofs.Common.{◌≡◌, ◌∙◌, map, string_bytes, [], List, sym}
+use Rattle.std.proofs.Common.{◌≡◌, ◌∙◌, map, string_bytes, [], List}
 use Rattle.clap.specs.Words.{Text, kind_of, matches_of}
 use Rattle.clap.specs.Kinds.{HasKind}
 use Rattle.meson_command.specs.Asking.{is_json_answer}

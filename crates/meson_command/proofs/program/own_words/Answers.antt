@@ -6,8 +6,8 @@ use Rattle.clap.specs.declared.builder.command.Command.TheViews.{out-Command}
 use Rattle.meson_command.specs.Program.{bare_command}
 use Rattle.meson_command.proofs.program.own_words.Goals as goal
 
-abbrev flags : App → App
-flags a = record a { top = record a.top { subcommand_required = true; disable_help_flag = true; disable_help_subcommand = true } }
+abbrev needs : App → App
+needs a = record a { top = record a.top { subcommand_required = true; disable_help_flag = true; disable_help_subcommand = true } }
 
 pub returns : goal.returns
 returns c =
@@ -15,8 +15,11 @@ returns c =
     ap app_of_fields c.disable_help_subcommand-bare.ensures
     ∙ ap (λ f. app_of_fields (record f { disable_help_subcommand = true })) c.disable_help_flag.ensures
     ∙ ap (λ f. app_of_fields (record f { disable_help_flag = true; disable_help_subcommand = true })) c.subcommand_required.ensures
-    ∙ ap flags c.described.ensures.0 in
+    ∙ ap needs c.described.ensures.0 in
     let has_none : (out-Command c.disable_help_subcommand-bare.result).has_globals ≡ false =
     ap (λ f. f.has_globals) c.disable_help_subcommand-bare.ensures ∙ ap (λ f. f.has_globals) c.disable_help_flag.ensures
     ∙ ap (λ f. f.has_globals) c.subcommand_required.ensures ∙ c.described.ensures.1 in
-    IfOk-weaker c.with_version.result _ _ (λ r h. h.0) (c.with_version.ensures _ (c.with_help-program.ensures _ (c.with_short_flag-program.ensures _ (c.with_flag-program-2.ensures _ (c.with_flag-program.ensures _ (c.with_option-program.ensures _ (c.with_short_option-program.ensures _ (bare_is, has_none))))))))
+    let title = c.with_option-program.ensures _ (c.with_short_option-program.ensures _ (bare_is, has_none)) in
+    let flags = c.with_flag-program-4.ensures _ (c.with_flag-program-3.ensures _ (c.with_flag-program-2.ensures _ (c.with_flag-program.ensures _ title))) in
+    let verbose = c.with_short_flag-program.ensures _ (c.with_option-program-2.ensures _ flags) in
+    IfOk-weaker c.with_version.result _ _ (λ r h. h.0) (c.with_version.ensures _ (c.with_help-program.ensures _ verbose))

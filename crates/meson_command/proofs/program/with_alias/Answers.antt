@@ -1,12 +1,10 @@
-use Rattle.std.proofs.Common.{◌≡◌, ◌∙◌, ◌∷◌, ◌++◌, [], List, map, ap, false}
+use Rattle.std.proofs.Common.{◌∙◌, List, map, ap}
 use Rattle.std.proofs.lemmas.List.{map-append}
 use Rattle.std.proofs.lemmas.Result.{IfOk-weaker}
-use Rattle.clap.specs.Adds.{AddsCommandAliases}
 use Rattle.clap.specs.Simple.{app_of_fields}
 use Rattle.clap.specs.Words.{App, Text, app_of}
-use Rattle.clap.specs.declared.builder.command.Command.{Command}
 use Rattle.clap.specs.declared.builder.command.Command.TheViews.{out-Command}
-use Rattle.meson_command.specs.Program.{IsToldToClap, with_alias}
+use Rattle.meson_command.specs.Program.{with_alias}
 use Rattle.meson_command.proofs.program.with_alias.Goals as goal
 
 abbrev with_aliases : App → List Text → App
