@@ -18,7 +18,7 @@ use Rattle.meson_rewrite.specs.Codes.{memory_code, stop_code}
 use Rattle.meson_rewrite.specs.Lines.{stop_text}
 use Rattle.meson_rewrite.specs.RefusalLaws.{CodesAreWords, HasCode, numbered_place}
 use Rattle.meson_rewrite.specs.declared.stop.Stop.{Stop}
-use Rattle.meson_rewrite.specs.declared.stop.Stop.TheVariants.{Usage, Script, Parse, TooManyFiles, BadFileName, Refused, Splice, OtherFiles, Store}
+use Rattle.meson_rewrite.specs.declared.stop.Stop.TheVariants.{Usage, Script, Parse, TooManyFiles, BadFileName, Refused, Splice, OtherFiles, BadTexts, Store}
 
 abbrev Known : Stop → Type 0
 Known stop = ((stop_code stop ≡ memory_code) × (stop_text stop ≡ codes "out of memory")) ⊎ HasCode stop
@@ -119,4 +119,5 @@ codes_are_words (BadFileName place) = inr (record { meaning = codes "bad file na
 codes_are_words (Refused fault) = of_refusal fault.index fault.refusal
 codes_are_words (Splice fault) = of_splice fault
 codes_are_words (OtherFiles name) = inr (record { meaning = codes "files are not as " ++ (name ++ codes " has them"); words = refl; one_word = refl })
+codes_are_words BadTexts = inr (record { meaning = codes "bad texts"; words = refl; one_word = refl })
 codes_are_words (Store fault) = of_store fault

@@ -29,3 +29,7 @@ pub mod CodeWords
 pub mod RefusalMembers
 pub mod ObjectEdits
 pub mod InfosPlaced
+pub mod PlacedTexts
+pub mod TextsAsked
+pub mod TextEnds
+pub mod TextLaws

@@ -29,7 +29,7 @@ kept-so : (how : LogUse) (dir : Option (List ℕ)) (old new : Content) (path : L
 kept-so Kept dir old new path is = inl is
 kept-so Ignored dir old new path is = is
 
-same-keeps : (how : LogUse) (dir : Option (List ℕ)) (before after : Option Content) (stop : Stop) → after ≡ before → KeepsUntold how dir before after stop
+pub same-keeps : (how : LogUse) (dir : Option (List ℕ)) (before after : Option Content) (stop : Stop) → after ≡ before → KeepsUntold how dir before after stop
 same-keeps how dir before after stop same old new is now path untold = kept-so how dir old new path (ap (λ c. get c path) (some-is (sym now ∙ same ∙ is)))
 
 -- ---- a file that is written

@@ -15,7 +15,7 @@ use Rattle.meson_command.specs.declared.fault.UsageFault.TheVariants as usage
 use Rattle.meson_store.specs.declared.store_fault.StoreFault.{StoreFault}
 use Rattle.meson_store.specs.declared.store_fault.StoreFault.TheVariants as store
 use Rattle.meson_rewrite.specs.declared.stop.Stop.{Stop}
-use Rattle.meson_rewrite.specs.declared.stop.Stop.TheVariants.{Usage, Script, Parse, TooManyFiles, BadFileName, Refused, Splice, OtherFiles, Store}
+use Rattle.meson_rewrite.specs.declared.stop.Stop.TheVariants.{Usage, Script, Parse, TooManyFiles, BadFileName, Refused, Splice, OtherFiles, BadTexts, Store}
 
 -- out of memory
 abbrev pub memory_code : List ℕ
@@ -102,4 +102,5 @@ stop_code (BadFileName place) = codes "M2"
 stop_code (Refused fault) = refusal_code fault.refusal
 stop_code (Splice fault) = splice_code fault
 stop_code (OtherFiles name) = codes "P6"
+stop_code BadTexts = codes "J11"
 stop_code (Store fault) = store_code fault

@@ -41,7 +41,8 @@ StatusesTellChanges = (json : Bool) (step : Step) (old new : Session) (report : 
     → SaysStep json step old.project.files new.project.files report said ⊎ ShowsStep json step old report new said
     → ((new.project.files ≡ old.project.files) × (status true (Ok said) ≡ 0)) ⊎ ((new.project.files ≢ old.project.files) × (status true (Ok said) ≡ 4))
 
--- What the store holds, and the number of its reads for these words, determine which file could not be read. A count that has reached its end is excepted.
+-- What the store holds, and the number of its reads for these words without texts, determine which file could not be read. A count that has reached its end is
+-- excepted.
 abbrev pub OneUnread : Type 0
 OneUnread = (asked : Result Asked UsageFault) (held : Content) (reads reads' : ℕ) (name other : List ℕ) → reads' < 2 ^ 64 - 1
     → MayRead asked (Some held) reads reads' (Some name) → MayRead asked (Some held) reads reads' (Some other) → name ≡ other

@@ -10,9 +10,11 @@ pub mod Objects
 pub mod Steps
 pub mod Requests
 pub mod Opening
+pub mod Texts
 pub mod Runs
 pub mod StoreReads
 pub mod Laws
 pub mod RefusalLaws
+pub mod TextLaws
 pub mod ObjectLaws
 pub mod inside

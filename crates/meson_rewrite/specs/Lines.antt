@@ -16,7 +16,7 @@ use Rattle.meson_store.specs.declared.store_fault.StoreFault.{StoreFault}
 use Rattle.meson_store.specs.declared.store_fault.StoreFault.TheVariants as store
 use Rattle.meson_store.specs.Messages.{store_fault_text}
 use Rattle.meson_rewrite.specs.declared.stop.Stop.{Stop}
-use Rattle.meson_rewrite.specs.declared.stop.Stop.TheVariants.{Usage, Script, Parse, TooManyFiles, BadFileName, Refused, Splice, OtherFiles, Store}
+use Rattle.meson_rewrite.specs.declared.stop.Stop.TheVariants.{Usage, Script, Parse, TooManyFiles, BadFileName, Refused, Splice, OtherFiles, BadTexts, Store}
 use Rattle.meson_rewrite.specs.declared.said.Said.{Said}
 
 -- a text and a line end
@@ -38,6 +38,7 @@ stop_text (BadFileName place) = load_fault_text (load.BadFileName place)
 stop_text (Refused fault) = refused_text fault.index fault.refusal
 stop_text (Splice fault) = splice_fault_text fault
 stop_text (OtherFiles name) = codes "P6 files are not as " ++ (name ++ codes " has them")
+stop_text BadTexts = codes "J11 bad texts"
 stop_text (Store fault) = store_fault_text fault
 
 -- one line for each file that may have its new bytes

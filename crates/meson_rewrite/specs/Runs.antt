@@ -4,6 +4,7 @@ use Rattle.std.specs.FinMap.{get}
 use Rattle.std.specs.List.{Contains}
 use Rattle.meson_calls.specs.Loading.{IsProject}
 use Rattle.meson_json.specs.Log.{log_of}
+use Rattle.meson_json.specs.TextsFile.{GivenText, HasNoTexts, HasTexts}
 use Rattle.meson_script.specs.declared.session.Report.{Report}
 use Rattle.meson_script.specs.declared.session.Session.{Session}
 use Rattle.meson_command.specs.Asking.{only_asks, only_shows, without_text}
@@ -23,11 +24,12 @@ use Rattle.meson_rewrite.specs.Listed.{listing_text}
 use Rattle.meson_rewrite.specs.Logs.{empty_log, log_name, log_use, with_log}
 use Rattle.meson_rewrite.specs.Opening.{Opens, OpensNone}
 use Rattle.meson_rewrite.specs.Refused.{stop_object}
-use Rattle.meson_rewrite.specs.Requests.{AsksFor, AsksForNone}
+use Rattle.meson_rewrite.specs.Requests.{AsksFor, AsksForNone, HasBytes, IsNoFile}
 use Rattle.meson_rewrite.specs.Steps.{Does, MayRefuseStep, SaysStep, ShowsStep, only_tells}
 use Rattle.meson_rewrite.specs.Stops.{WantsMemory}
 use Rattle.meson_rewrite.specs.Telling.{TellsStep}
-use Rattle.meson_rewrite.specs.StoreReads.{MayRead, unread_in}
+use Rattle.meson_rewrite.specs.StoreReads.{RunMayRead, unread_in}
+use Rattle.meson_rewrite.specs.Texts.{laid, placed, plain, texts_of}
 use Rattle.meson_rewrite.specs.declared.opening.LogUse.{LogUse}
 use Rattle.meson_rewrite.specs.declared.opening.LogUse.TheVariants.{Kept, Ignored}
 use Rattle.meson_rewrite.specs.declared.request.Listing.{Listing}
@@ -35,7 +37,7 @@ use Rattle.meson_rewrite.specs.declared.request.ProgramRequest.TheVariants as re
 use Rattle.meson_rewrite.specs.declared.request.Step.{Step}
 use Rattle.meson_rewrite.specs.declared.said.Said.{Said}
 use Rattle.meson_rewrite.specs.declared.stop.Stop.{Stop}
-use Rattle.meson_rewrite.specs.declared.stop.Stop.TheVariants.{Usage, Store}
+use Rattle.meson_rewrite.specs.declared.stop.Stop.TheVariants.{Usage, BadTexts, Store}
 
 -- ---- a step on the project of a folder
 
@@ -93,7 +95,7 @@ pub data ListingEnds (dir : Option (List ℕ)) (listing : Listing) (flags : Flag
       → ListingEnds dir listing flags before after (Ok (shown_text (listing_text flags.json listing session)))
   wants_memory : (stop : Stop) → Untouched before after → WantsMemory stop → ListingEnds dir listing flags before after (Err stop)
 
--- ---- a whole run, by the request of the words
+-- ---- a request, by what the store holds
 
 pub data Ends (asked : Result Asked UsageFault) (before after : Seen) : Result Said Stop → Type 0 where
   misused : (fault : UsageFault) → Untouched before after → asked ≡ Err fault → Ends asked before after (Err (Usage fault))
@@ -110,6 +112,28 @@ pub data Ends (asked : Result Asked UsageFault) (before after : Seen) : Result S
       → AsksFor a.title a.action before.content (request.List listing)
       → ListingEnds a.dir listing a.flags before after end → Ends asked before after end
   memory_ran_out : (stop : Stop) → Untouched before after → WantsMemory stop → Ends asked before after (Err stop)
+
+-- ---- a request with the texts of the file of that name
+
+-- it ends as the request without texts would on a store in which each text is the file of its name, and nothing is written
+pub data TextsEnd (a : Asked) (name : List ℕ) (before after : Seen) : Result Said Stop → Type 0 where
+  -- the file is not read, or does not exist
+  has_no_file : (stop : Stop) → Untouched before after → IsNoFile before.content before.failures after.failures name stop → TextsEnd a name before after (Err stop)
+  -- it lists no texts of build files
+  has_no_texts : (bytes : List ℕ) → Untouched before after → HasBytes before.content name bytes → HasNoTexts bytes
+      → TextsEnd a name before after (Err BadTexts)
+  -- the file was read, and then the store as if it held the texts
+  as_with_files : (reached : Seen) (bytes : List ℕ) (texts : List GivenText) (end : Result Said Stop) → Untouched before reached → Untouched reached after
+      → HasBytes before.content name bytes → HasTexts bytes texts
+      → Ends (Ok a) (laid (placed a.dir texts) reached) (laid (placed a.dir texts) after) end → TextsEnd a name before after end
+  has_no_memory : (stop : Stop) → Untouched before after → WantsMemory stop → TextsEnd a name before after (Err stop)
+
+-- ---- a whole run, by the request of the words
+
+pub data RunEnds (asked : Result Asked UsageFault) (before after : Seen) : Result Said Stop → Type 0 where
+  without_texts : (end : Result Said Stop) → texts_of asked ≡ None → Ends asked before after end → RunEnds asked before after end
+  with_texts : (a : Asked) (name : List ℕ) (end : Result Said Stop) → asked ≡ Ok a → a.texts ≡ Some name → TextsEnd (plain a) name before after end
+      → RunEnds asked before after end
 
 -- ---- what stays if nothing is done
 
@@ -207,9 +231,9 @@ Tells exit_code json code out out' err err' end =
 -- for words that may want an answer in JSON
 pub record Run (asked : Result Asked UsageFault) (json : Bool) (before after : Seen) (reads reads' code : ℕ) (out out' err err' : Heard) : Type 0 where
   pub end : Result Said Stop
-  pub ends : Ends asked before after end
+  pub ends : RunEnds asked before after end
   pub tells : Tells (wants_exit_code asked) json code out out' err err' end
   -- if it was stopped
   pub kept : IfErr end (KeepsUntold (log_use_of asked) (dir_of asked) before.content after.content)
   -- this is how often the store was read, the last time for the file that is reported as unreadable, if there is one
-  pub may_read : MayRead asked before.content reads reads' (unread_in end)
+  pub may_read : RunMayRead asked before.content reads reads' (unread_in end)

@@ -1,6 +1,7 @@
 -- The number of reads of the store by a run: one for the file that the words name, if they name one, one for each queried file of the project, and one for the
 -- log, if it is kept. If it reports a file as unreadable, it is the last file that the store was queried for.
-use Rattle.std.specs.Prelude.{◌≡◌, ◌⊎◌, ℕ, List, Option, None, Result, Ok, Err}
+use Rattle.std.specs.Prelude.{◌≡◌, ◌≤◌, ◌+◌, ◌⊎◌, ℕ, List, Option, Some, None, Result, Ok, Err}
+use Rattle.meson_json.specs.TextsFile.{GivenText, HasTexts}
 use Rattle.meson_command.specs.declared.asked.Action.{Action}
 use Rattle.meson_command.specs.declared.asked.Action.TheVariants as action
 use Rattle.meson_command.specs.declared.asked.Asked.{Asked}
@@ -8,13 +9,15 @@ use Rattle.meson_command.specs.declared.fault.UsageFault.{UsageFault}
 use Rattle.meson_splice.specs.declared.file_set.File.{File}
 use Rattle.meson_store.specs.StoreCalls.{one_more}
 use Rattle.meson_store.specs.Content.{Content}
+use Rattle.meson_store.specs.Texts.{texts_over}
 use Rattle.meson_gathering.specs.Gathering.{Finds, whole}
 use Rattle.meson_gathering.specs.ReadCounts.{Asks, AsksNone, MayAsk, ReadsFiles, StopsReading}
 use Rattle.meson_rewrite.specs.Logs.{log_name, log_use}
 use Rattle.meson_rewrite.specs.declared.opening.LogUse.{LogUse}
 use Rattle.meson_rewrite.specs.declared.opening.LogUse.TheVariants.{Kept, Ignored}
-use Rattle.meson_rewrite.specs.Requests.{AsksFor}
+use Rattle.meson_rewrite.specs.Requests.{AsksFor, HasBytes}
 use Rattle.meson_rewrite.specs.Stops.{unread_by}
+use Rattle.meson_rewrite.specs.Texts.{placed, plain}
 use Rattle.meson_rewrite.specs.declared.request.Listing.{Listing}
 use Rattle.meson_rewrite.specs.declared.request.ProgramRequest.TheVariants as request
 use Rattle.meson_rewrite.specs.declared.request.Step.{Step}
@@ -65,7 +68,7 @@ module _ (how : LogUse) (before : Option Content) (dir : Option (List ℕ)) wher
   ReadsAtMost reads reads' unread = StopsReading before dir reads reads' unread
       ⊎ ((files : List File) × (n : ℕ) × ReadsFiles before dir reads files n × MayAskLog how n reads' unread)
 
--- ---- a whole run, by the request of the words
+-- ---- a request without texts
 
 -- a step on the project, or a listing of it, and no script that is not valid
 abbrev pub AsksForProject : List ℕ → Action → Option Content → Type 0
@@ -87,3 +90,43 @@ ReadsFor a how before dir reads reads' = ReadsProject how before dir (file_read 
 abbrev pub ReadsAll : Result Asked UsageFault → Option Content → ℕ → ℕ → Type 0
 ReadsAll (Err fault) before reads reads' = reads' ≡ reads
 ReadsAll (Ok a) before reads reads' = ReadsFor a.action (log_use a.flags.no_log) before a.dir reads reads'
+
+-- ---- a request with the texts of the file of that name
+
+-- That file is read once. Then there are this number of queries for files of the project, as P has it for a store that holds the texts. Those for a text do
+-- not reach the store below.
+pub record ReadsOver (a : Asked) (name : List ℕ) (before : Option Content) (reads reads' : ℕ) (P : Option Content → ℕ → ℕ → Type 0) : Type 0 where
+  pub bytes : List ℕ
+  pub has : HasBytes before name bytes
+  pub texts : List GivenText
+  pub lists : HasTexts bytes texts
+  pub queries : ℕ
+  pub at_most : reads' ≤ one_more reads + queries
+  pub reads_so : P (texts_over (placed a.dir texts) before) 0 queries
+
+abbrev pub TextsMayRead : Asked → List ℕ → Option Content → ℕ → ℕ → Option (List ℕ) → Type 0
+TextsMayRead a name before reads reads' unread =
+    MayAsk name reads reads' unread ⊎ ReadsOver a name before reads reads' (λ held n n'. MayRead (Ok a) held n n' unread)
+
+abbrev pub TextsReadAll : Asked → List ℕ → Option Content → ℕ → ℕ → Type 0
+TextsReadAll a name before reads reads' = ReadsOver a name before reads reads' (ReadsAll (Ok a))
+
+-- ---- a whole run, by the request of the words
+
+-- by the texts that they name
+abbrev pub AskedMayRead : Asked → Option (List ℕ) → Option Content → ℕ → ℕ → Option (List ℕ) → Type 0
+AskedMayRead a None before reads reads' unread = MayRead (Ok a) before reads reads' unread
+AskedMayRead a (Some name) before reads reads' unread = TextsMayRead (plain a) name before reads reads' unread
+
+abbrev pub RunMayRead : Result Asked UsageFault → Option Content → ℕ → ℕ → Option (List ℕ) → Type 0
+RunMayRead (Err fault) before reads reads' unread = MayRead (Err fault) before reads reads' unread
+RunMayRead (Ok a) before reads reads' unread = AskedMayRead a a.texts before reads reads' unread
+
+abbrev pub AskedReadsAll : Asked → Option (List ℕ) → Option Content → ℕ → ℕ → Type 0
+AskedReadsAll a None before reads reads' = ReadsAll (Ok a) before reads reads'
+AskedReadsAll a (Some name) before reads reads' = TextsReadAll (plain a) name before reads reads'
+
+-- all of it, if the run is done
+abbrev pub RunReadsAll : Result Asked UsageFault → Option Content → ℕ → ℕ → Type 0
+RunReadsAll (Err fault) before reads reads' = ReadsAll (Err fault) before reads reads'
+RunReadsAll (Ok a) before reads reads' = AskedReadsAll a a.texts before reads reads'

@@ -135,6 +135,7 @@ pub(crate) fn code_of(stop: &Stop) -> &'static str
         Stop::Refused(fault) => refusal_code(&fault.refusal),
         Stop::Splice(fault) => splice_code(fault),
         Stop::OtherFiles(_) => "P6",
+        Stop::BadTexts => "J11",
         Stop::Store(fault) => store_code(fault),
     }
 }

@@ -1,9 +1,10 @@
-//! Laws of checked undos, of the status of a change, of a read that failed, and of answers and refusals as objects. The functions do nothing; the contract of
-//! each is a law.
+//! Laws of checked undos, of the status of a change, of a read that failed, of answers and refusals as objects, and of texts in place of files. The functions do
+//! nothing; the contract of each is a law.
 
 ghost use Rattle.meson_rewrite.specs.Laws.{CheckedUndosRestore, OneUnread, SameSumsUndo, StatusesTellChanges};
 ghost use Rattle.meson_rewrite.specs.ObjectLaws.{EditsOfObjectsMake};
 ghost use Rattle.meson_rewrite.specs.RefusalLaws.{CodesAreWords, MembersAreWords};
+ghost use Rattle.meson_rewrite.specs.TextLaws.{AnswersAsFiles, TextsAreFiles};
 
 use meson_sums::laws::sums_tell;
 
@@ -48,4 +49,11 @@ pub fn members_are_words()
 /// is not listed is as it was.
 pub fn edits_of_objects_make()
     ensures { EditsOfObjectsMake }
+{}
+
+/// What texts in place of files mean. Each text is the file of its name, and any other file is that of the store. A run with them ends as it would without
+/// texts on a store with these files, unless their own file is not read or memory runs out. Nothing is written.
+pub fn texts_are_files()
+    ensures files { TextsAreFiles }
+    ensures answers { AnswersAsFiles }
 {}

@@ -1,31 +1,35 @@
 //! The program, over any store and any two writers.
 
-ghost use Rattle.std.specs.Prelude.{◌≡◌, ◌≤◌, ◌⊎◌, Err, IsTrue, MatchResult, Ok, map, option_map, string_bytes, true, OnOk};
-ghost use Rattle.meson_command.specs.Asking.{asked_by, only_shows, wants_json, without_text};
+ghost use Rattle.std.specs.Prelude.{◌≡◌, ◌≤◌, ◌+◌, ◌⊎◌, ◌||◌, ℕ, Err, IfSome, IsTrue, MatchResult, None, Ok, map, option_map, string_bytes, true, OnOk};
+ghost use Rattle.meson_command.specs.Asking.{asked_by, only_asks, only_shows, wants_json, without_text};
 ghost use Rattle.meson_command.specs.declared.fault.UsageFault.TheVariants.{OutOfMemory};
 ghost use Rattle.meson_gathering.specs.Gathering.{named_folder};
 ghost use Rattle.meson_json.specs.Titles.{is_title};
 ghost use Rattle.meson_rewrite.specs.Lines.{done_status, status, store_fault_status, usage_status};
 ghost use Rattle.meson_rewrite.specs.Logs.{log_use};
-ghost use Rattle.meson_rewrite.specs.StoreReads.{MayRead, ReadsAll, ReadsAtMost, ReadsProject, unread_in};
+ghost use Rattle.meson_rewrite.specs.StoreReads.{MayRead, ReadsAll, ReadsAtMost, ReadsProject, RunMayRead, RunReadsAll, TextsMayRead, TextsReadAll, unread_in};
 ghost use Rattle.meson_rewrite.specs.Steps.{IsTitled, only_tells};
-ghost use Rattle.meson_rewrite.specs.Runs.{CannotSay, Ends, IsUnchanged, KeepsFiles, LeavesFiles, LeavesLog, ListingEnds, NeedsNoStore, OnlyAsks, Run, Says, StepEnds, Tells, dir_of, wants_exit_code};
+ghost use Rattle.meson_rewrite.specs.Runs.{CannotSay, Ends, IsUnchanged, KeepsFiles, LeavesFiles, LeavesLog, ListingEnds, NeedsNoStore, OnlyAsks, Run, RunEnds, Says, StepEnds, Tells, TextsEnd, dir_of, wants_exit_code};
+ghost use Rattle.meson_rewrite.specs.Texts.{laid};
 ghost use Rattle.meson_rewrite.specs.declared.stop.Stop.TheVariants.{Usage};
-ghost use Rattle.meson_store.specs.Seen.{seen_by};
+ghost use Rattle.meson_store.specs.Seen.{seen, seen_by};
+ghost use Rattle.meson_store.specs.Texts.{texts_over};
 
 use crate::lines::tell_stop;
 use crate::listed::listed;
 use crate::opening::{LogUse, open};
-use crate::request::{Listing, ProgramRequest, Step, request_of};
+use crate::reports::told;
+use crate::request::{Listing, ProgramRequest, Step, read_named, request_of};
 use crate::said::Said;
 use crate::steps::{edited, shown};
 use crate::stop::Stop;
-use crate::reports::told;
+use crate::texts::texts_in;
 use meson_command::{Asked, Flags, UsageFault, command_of, wants_json};
-use meson_splice::Text;
-use meson_store::{Output, Store, StoreFault, commit};
+use meson_splice::{FileSet, Text};
+use meson_store::{Below, Output, Overlaid, Store, StoreFault, commit};
 use std::alloc::{AllocError, Global};
 use std::io;
+use std::marker::{Brand, PhantomData};
 
 /// It writes nothing.
 fn only_tells(step: &Step) -> bool
@@ -95,7 +99,7 @@ fn folder(dir: &Option<Text>) -> Option<&str>
     }
 }
 
-/// Answers the request.
+/// Answers the request by what the store holds. If it names texts, nothing is done about them.
 fn answer<S: Store>(alloc: Global, store: &mut S, asked: Asked) -> Result<Said, Stop>
     requires { is_title asked.title ≡ true }
     ensures ends { Ends (Ok (without_text asked)) (seen_by S.content S.failures S.replaces store.old)
@@ -116,6 +120,101 @@ fn answer<S: Store>(alloc: Global, store: &mut S, asked: Asked) -> Result<Said, 
         Ok(ProgramRequest::Step(step)) => { do_step(alloc, store, folder(&dir), &step, flags) }
         Ok(ProgramRequest::List(listing)) => list(alloc, store, folder(&dir), listing, flags),
         Err(stop) => Err(stop),
+    }
+}
+
+/// Answers the request over the texts, and hands the store back, of which this was known. `end` becomes the answer.
+///
+/// The two are apart, since a caller learns nothing of a reference that is returned together with memory.
+fn answer_over<'a, S: Store, B: Below>(
+    alloc: Global,
+    store: &'a mut S,
+    texts: &'a FileSet,
+    asked: Asked,
+    end: &mut Result<Said, Stop>,
+) -> &'a mut S
+    requires title { is_title asked.title ≡ true }
+    requires asks { IsTrue (only_asks asked.action || asked.flags.dry_run) }
+    requires same { store.ghost_name ≡ B.name }
+    requires content { S.content store.old ≡ B.content }
+    requires failures { S.failures store.old ≡ B.failures }
+    requires reads { S.reads store.old ≡ B.reads }
+    requires replaces { S.replaces store.old ≡ B.replaces }
+    ensures same { result.ghost_name ≡ B.name }
+    ensures ends { Ends (Ok (without_text asked)) (laid texts.now (seen B.content B.failures B.replaces))
+        (laid texts.now (seen (S.content result.now) (S.failures result.now) (S.replaces result.now))) end.new }
+    ensures kept { S.content result.now ≡ B.content }
+    ensures counts { B.failures ≤ S.failures result.now }
+    ensures no_replace { S.replaces result.now ≡ B.replaces }
+    ensures reads { (n : ℕ) × (S.reads result.now ≤ B.reads + n)
+        × MayRead (Ok (without_text asked)) (texts_over texts.now B.content) 0 n (unread_in end.new) }
+    ensures reads_all { OnOk end.new ((n : ℕ) × (S.reads result.now ≤ B.reads + n)
+        × ReadsAll (Ok (without_text asked)) (texts_over texts.now B.content) 0 n) }
+{
+    let failures = store.failures();
+    let mut over: Overlaid<'a, S, B> = Overlaid {
+        store,
+        texts,
+        failures,
+        reads: 0,
+        refused: 0,
+        below: PhantomData,
+    };
+    *end = answer(alloc, &mut over, asked);
+    let Overlaid { store, .. } = over;
+    store
+}
+
+/// Answers the request with the texts of the file of this name, as if each were the file of its name. Nothing is written.
+fn answer_with_texts<S: Store>(
+    alloc: Global,
+    store: &mut S,
+    name: Text,
+    asked: Asked,
+) -> Result<Said, Stop>
+    requires title { is_title asked.title ≡ true }
+    requires asks { IsTrue (only_asks asked.action || asked.flags.dry_run) }
+    ensures ends { TextsEnd (without_text asked) name (seen_by S.content S.failures S.replaces store.old)
+        (seen_by S.content S.failures S.replaces store.new) result }
+    ensures reads { TextsMayRead (without_text asked) name (S.content store.old) (S.reads store.old) (S.reads store.new) (unread_in result) }
+    ensures reads_all { OnOk result (TextsReadAll (without_text asked) name (S.content store.old) (S.reads store.old) (S.reads store.new)) }
+{
+    let file = read_named(alloc, store, name)?;
+    let texts = texts_in(alloc, folder(&asked.dir), file.bytes.get())?;
+    // Until it is answered.
+    let mut end = Err(Stop::TooManyFiles);
+    answer_over::<S, Brand>(alloc, store, &texts, asked, &mut end);
+    end
+}
+
+/// Answers the request, with texts if it names a file of them.
+fn respond<S: Store>(alloc: Global, store: &mut S, asked: Asked) -> Result<Said, Stop>
+    requires title { is_title asked.title ≡ true }
+    requires fits { IfSome asked.texts (λ _. IsTrue (only_asks asked.action || asked.flags.dry_run)) }
+    requires none_shown { IsTrue (only_shows asked.action) → asked.texts ≡ None }
+    ensures ends { RunEnds (Ok (without_text asked)) (seen_by S.content S.failures S.replaces store.old)
+        (seen_by S.content S.failures S.replaces store.new) result }
+    ensures untouched { IsTrue (only_shows asked.action) → store.new ≡ store.old }
+    ensures reads { RunMayRead (Ok (without_text asked)) (S.content store.old) (S.reads store.old) (S.reads store.new) (unread_in result) }
+    ensures reads_all { OnOk result (RunReadsAll (Ok (without_text asked)) (S.content store.old) (S.reads store.old) (S.reads store.new)) }
+{
+    let Asked {
+        dir,
+        title,
+        flags,
+        texts,
+        action,
+    } = asked;
+    let plain = Asked {
+        dir,
+        title,
+        flags,
+        texts: None,
+        action,
+    };
+    match texts {
+        Some(name) => answer_with_texts(alloc, store, name, plain),
+        None => answer(alloc, store, plain),
     }
 }
 
@@ -150,20 +249,20 @@ fn misused(alloc: Global, words: &[String], fault: UsageFault) -> Ending
 
 /// Answers the request of the words.
 fn run<S: Store>(alloc: Global, store: &mut S, words: &[String]) -> Ending
-    ensures ends { Ends (asked_by (map string_bytes words.now)) (seen_by S.content S.failures S.replaces store.old)
+    ensures ends { RunEnds (asked_by (map string_bytes words.now)) (seen_by S.content S.failures S.replaces store.old)
         (seen_by S.content S.failures S.replaces store.new) result.end }
     ensures json { (result.json ≡ wants_json (map string_bytes words.now)) ⊎ (result.end ≡ Err (Usage OutOfMemory)) }
     ensures exit_code { OnOk result.end (result.exit_code ≡ wants_exit_code (asked_by (map string_bytes words.now))) }
     ensures untouched { NeedsNoStore (asked_by (map string_bytes words.now)) → store.new ≡ store.old }
-    ensures reads { MayRead (asked_by (map string_bytes words.now)) (S.content store.old) (S.reads store.old) (S.reads store.new)
+    ensures reads { RunMayRead (asked_by (map string_bytes words.now)) (S.content store.old) (S.reads store.old) (S.reads store.new)
         (unread_in result.end) }
-    ensures reads_all { OnOk result.end (ReadsAll (asked_by (map string_bytes words.now)) (S.content store.old) (S.reads store.old) (S.reads store.new)) }
+    ensures reads_all { OnOk result.end (RunReadsAll (asked_by (map string_bytes words.now)) (S.content store.old) (S.reads store.old) (S.reads store.new)) }
 {
     match command_of(alloc, words) {
         Ok(asked) => {
             let flags = asked.flags;
             Ending {
-                end: answer(alloc, store, asked),
+                end: respond(alloc, store, asked),
                 json: flags.json,
                 exit_code: flags.exit_code,
             }
@@ -243,10 +342,13 @@ fn ended<O: Output, E: Output>(alloc: Global, out: &mut O, err: &mut E, ending: 
 /// early, the store is read up to that point, and no more. The file that it reports as unreadable is the last that the store was queried for. With `--no-log`
 /// the log is neither read nor replaced, and the history is the empty one.
 ///
-/// The status is 0 if it was done. It is 1 if a file, a script or the log is not valid, a command is refused, or memory ran out. It is also 1 if files do not
-/// have the digests that they should have. It is 2 if the words are not a request, and 3 if the store or a writer failed. With `--exit-code` it is 4 in place
-/// of 0 if a build file has other bytes after it, or would have them after a run that is only shown. Help, the version, the listings, a dry run, and an info
-/// command of the command line leave the store as it is, whatever the status.
+/// If the words name a file of texts, that is read first, once. Then all is as if each text were the file of its name: what the store holds by that name is not
+/// read, and nothing is written.
+///
+/// The status is 0 if it was done. It is 1 if a file, a script, the log or texts are not valid, a command is refused, or memory ran out. It is also 1 if files
+/// do not have the digests that they should have. It is 2 if the words are not a request, and 3 if the store or a writer failed. With `--exit-code` it is 4 in
+/// place of 0 if a build file has other bytes after it, or would have them after a run that is only shown. Help, the version, the listings, a dry run, and an
+/// info command of the command line leave the store as it is, whatever the status.
 pub fn rewrite<S: Store, O: Output, E: Output>(
     alloc: Global,
     store: &mut S,
@@ -268,7 +370,7 @@ pub fn rewrite<S: Store, O: Output, E: Output>(
         → LeavesFiles (dir_of (asked_by (map string_bytes words.now))) (seen_by S.content S.failures S.replaces store.old)
         (seen_by S.content S.failures S.replaces store.new) }
     ensures changed { (result ≡ 4) → wants_exit_code (asked_by (map string_bytes words.now)) ≡ true }
-    ensures reads_all { (result ≡ 0) ⊎ (result ≡ 4) → ReadsAll (asked_by (map string_bytes words.now)) (S.content store.old) (S.reads store.old)
+    ensures reads_all { (result ≡ 0) ⊎ (result ≡ 4) → RunReadsAll (asked_by (map string_bytes words.now)) (S.content store.old) (S.reads store.old)
         (S.reads store.new) }
 {
     let ending = run(alloc, store, words);

@@ -30,6 +30,8 @@ pub(crate) enum Stop {
     Splice(SpliceFault),
     /// The files of the project have other digests than the file of this name holds.
     OtherFiles(Text),
+    /// The file of texts lists no texts of build files.
+    BadTexts,
     /// The store failed, or memory ran out.
     Store(StoreFault),
 }
@@ -53,6 +55,7 @@ impl fmt::Display for Stop {
             Stop::Refused(fault) => write!(f, "{fault}"),
             Stop::Splice(fault) => write!(f, "{fault}"),
             Stop::OtherFiles(name) => write!(f, "P6 files are not as {name} has them"),
+            Stop::BadTexts => f.write_str("J11 bad texts"),
             Stop::Store(fault) => write!(f, "{fault}"),
         }
     }

@@ -1,10 +1,7 @@
 use Rattle.std.proofs.Common.{◌≡◌, map, string_bytes, subst}
 use Rattle.meson_command.specs.Asking.{asked_by, wants_json}
-use Rattle.meson_rewrite.proofs.Endings.{asking-keeps}
-use Rattle.meson_rewrite.proofs.FilesLeft.{run-leaves-files}
-use Rattle.meson_rewrite.proofs.LogLeft.{run-leaves}
+use Rattle.meson_rewrite.proofs.TextEnds.{run-asking-keeps, run-leaves-all, run-leaves-files-all, run-untold-all}
 use Rattle.meson_rewrite.proofs.Statuses.{told-0, told-by-words, told-changed, told-keeps, told-reads, told-wanted}
-use Rattle.meson_rewrite.proofs.Untold.{run-untold}
 use Rattle.meson_rewrite.specs.Lines.{status}
 use Rattle.meson_rewrite.specs.Runs.{wants_exit_code}
 use Rattle.meson_rewrite.proofs.program.rewrite.Goals as goal
@@ -18,12 +15,12 @@ returns-clause-runs g c =
       ends = c.run-ending.ensures.ends;
       tells = told-wanted wanted _ _ _ _ _ ending.json (wants_json (map string_bytes c.args.words.now)) ending.end c.run-ending.ensures.json
           (told-by-words ending.json ending.exit_code wanted _ _ _ _ _ ending.end c.run-ending.ensures.exit_code c.ended-status.ensures);
-      kept = run-untold _ _ _ _ c.run-ending.ensures.ends;
+      kept = run-untold-all _ _ _ _ c.run-ending.ensures.ends;
       may_read = c.run-ending.ensures.reads;
     }
 
 pub returns-clause-asking : goal.returns-clause-asking
-returns-clause-asking g c = λ t. asking-keeps _ _ _ _ c.run-ending.ensures.ends t
+returns-clause-asking g c = λ t. run-asking-keeps _ _ _ _ c.run-ending.ensures.ends t
 
 pub returns-clause-kept : goal.returns-clause-kept
 returns-clause-kept g c = λ s. told-keeps _ _ _ _ _ _ _ _ _ _ _ c.run-ending.ensures.ends c.ended-status.ensures s
