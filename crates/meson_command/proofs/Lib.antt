@@ -6,3 +6,4 @@ pub mod HelpAlone
 pub mod Taken
 pub mod WordsInPairs
 pub mod Usages
+pub mod FitTexts

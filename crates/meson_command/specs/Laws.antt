@@ -1,10 +1,10 @@
 -- What holds of any command line.
-use Rattle.std.specs.Prelude.{◌≡◌, ◌≢◌, ◌↔◌, ◌⊎◌, ◌%◌, List, [], ◌∷◌, length, codes, false, true, Option, Some, None, Ok, Err}
+use Rattle.std.specs.Prelude.{◌≡◌, ◌≢◌, ◌↔◌, ◌⊎◌, ◌||◌, ◌%◌, List, [], ◌∷◌, length, codes, false, true, IfSome, IsTrue, Option, Some, None, Ok, Err}
 use Rattle.std.specs.List.{AllPairs}
 use Rattle.clap.specs.Words.{Row, Text, fault_of, first_of, matches_of, subcommand_of}
 use Rattle.clap.specs.declared.error.kind.ErrorKind.TheVariants.{DisplayHelp, DisplayVersion}
 use Rattle.meson_command.specs.Actions.{action_of, has_flag, options_by, word_at}
-use Rattle.meson_command.specs.Asking.{asked_by, help, is_dry, names_no_folder, texts_fit, version, wants_json}
+use Rattle.meson_command.specs.Asking.{asked_by, help, is_dry, names_no_folder, only_asks, only_shows, texts_fit, version, wants_json}
 use Rattle.meson_json.specs.Operations.{kwargs_operation, role_of}
 use Rattle.meson_command.specs.Counts.{count_of}
 use Rattle.meson_command.specs.Operations.{operation_of_word, options_word}
@@ -46,6 +46,11 @@ VersionWhereAsked = (words : List Text) → (asked_by words ≡ Ok version) ↔ 
 -- a request is answered in JSON exactly where the words want it
 abbrev pub JsonWhereWanted : Type 0
 JsonWhereWanted = (words : List Text) (asked : Asked) → asked_by words ≡ Ok asked → asked.flags.json ≡ wants_json words
+
+-- Texts are named only where nothing is written, and not for help or the version.
+abbrev pub TextsWriteNothing : Type 0
+TextsWriteNothing = (words : List Text) (asked : Asked) → asked_by words ≡ Ok asked
+    → IfSome asked.texts (λ _. IsTrue (only_asks asked.action || asked.flags.dry_run)) × (IsTrue (only_shows asked.action) → asked.texts ≡ None)
 
 -- the given word is not a number
 abbrev pub IsNoCount : Option Text → Text → Type 0

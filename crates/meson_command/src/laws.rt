@@ -1,6 +1,7 @@
 //! Laws of the command line. The functions do nothing: what they ensure is the law.
 
 ghost use Rattle.meson_command.specs.Laws.{HelpWhereAsked, JsonWhereWanted, OddWordsAreOdd, PairsAreTheWords, UnsetIsDelete, UsageMeansUnknown, VersionWhereAsked};
+ghost use Rattle.meson_command.specs.Laws.{TextsWriteNothing};
 ghost use Rattle.meson_command.specs.Rows.{Done, Flagged, Json, Other, Refused, Shown, Texts, Titled};
 
 /// The requests of some command lines.
@@ -31,6 +32,11 @@ pub fn help_where_asked()
 /// A request is answered in JSON exactly where `wants_json` says so of its words.
 pub fn json_where_wanted()
     ensures { JsonWhereWanted }
+{}
+
+/// Texts are named only with a request that writes nothing: a dry run, a listing, or what an info command reports. Help and the version have none.
+pub fn texts_write_nothing()
+    ensures { TextsWriteNothing }
 {}
 
 /// Words that clap takes are wrong usage only in these cases: the folder is empty, an operation or a function is unknown, a number is not valid, two listings

@@ -13,13 +13,13 @@ use Rattle.meson_rewrite.specs.Texts.{placed}
 -- files of one folder with different names have different names in the store
 pub path-apart : (dir : Option (List ℕ)) (a b : List ℕ) → path_in dir a ≡ path_in dir b → a ≡ b
 path-apart None a b same = same
-path-apart (Some folder) a b same = append_cancel_left (codes "/") a b (append_cancel_left folder (codes "/" ++ a) (codes "/" ++ b) same)
+path-apart (Some folder) a b same = append_cancel_left (folder ++ codes "/") a b same
 
 nobody : File
 nobody = record { name = []; bytes = [] }
 
 module _ (dir : Option (List ℕ)) (texts : List GivenText) (are : AreTexts texts) (i : ℕ) (t : GivenText) (within : i < length texts) (is : t ≡ get_or texts i t) where
-  before : List File
+  abbrev before : List File
   before = placed dir (take i texts)
 
   none-before : (o : Option ℕ) → position_of_file (path_in dir t.0) before ≡ o → position_of_file (path_in dir t.0) before ≡ None

@@ -1,15 +1,18 @@
 //! The program, over any store and any two writers.
 
-ghost use Rattle.std.specs.Prelude.{◌≡◌, ◌≤◌, ◌+◌, ◌⊎◌, ◌||◌, ℕ, Err, IfSome, IsTrue, MatchResult, None, Ok, map, option_map, string_bytes, true, OnOk};
+ghost use Rattle.std.specs.Prelude.{◌≡◌, ◌≤◌, ◌+◌, ◌⊎◌, ◌||◌, ℕ, Err, IfSome, IsTrue, MatchResult, None, Ok, OnOk};
+ghost use Rattle.std.specs.Prelude.{map, option_map, string_bytes, true};
 ghost use Rattle.meson_command.specs.Asking.{asked_by, only_asks, only_shows, wants_json, without_text};
 ghost use Rattle.meson_command.specs.declared.fault.UsageFault.TheVariants.{OutOfMemory};
 ghost use Rattle.meson_gathering.specs.Gathering.{named_folder};
 ghost use Rattle.meson_json.specs.Titles.{is_title};
 ghost use Rattle.meson_rewrite.specs.Lines.{done_status, status, store_fault_status, usage_status};
 ghost use Rattle.meson_rewrite.specs.Logs.{log_use};
-ghost use Rattle.meson_rewrite.specs.StoreReads.{MayRead, ReadsAll, ReadsAtMost, ReadsProject, RunMayRead, RunReadsAll, TextsMayRead, TextsReadAll, unread_in};
+ghost use Rattle.meson_rewrite.specs.StoreReads.{MayRead, ReadsAll, ReadsAtMost, ReadsProject, unread_in};
+ghost use Rattle.meson_rewrite.specs.StoreReads.{RunMayRead, RunReadsAll, TextsMayRead, TextsReadAll};
 ghost use Rattle.meson_rewrite.specs.Steps.{IsTitled, only_tells};
-ghost use Rattle.meson_rewrite.specs.Runs.{CannotSay, Ends, IsUnchanged, KeepsFiles, LeavesFiles, LeavesLog, ListingEnds, NeedsNoStore, OnlyAsks, Run, RunEnds, Says, StepEnds, Tells, TextsEnd, dir_of, wants_exit_code};
+ghost use Rattle.meson_rewrite.specs.Runs.{CannotSay, Ends, IsUnchanged, KeepsFiles, ListingEnds, NeedsNoStore, OnlyAsks, Run, Says, StepEnds, Tells};
+ghost use Rattle.meson_rewrite.specs.Runs.{LeavesFiles, LeavesLog, RunEnds, TextsEnd, dir_of, wants_exit_code};
 ghost use Rattle.meson_rewrite.specs.Texts.{laid};
 ghost use Rattle.meson_rewrite.specs.declared.stop.Stop.TheVariants.{Usage};
 ghost use Rattle.meson_store.specs.Seen.{seen, seen_by};

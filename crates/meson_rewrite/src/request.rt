@@ -97,7 +97,11 @@ fn script_in(alloc: Global, bytes: &[u8], unknown: UnknownMembers) -> Result<Scr
 }
 
 /// The file of this name.
-pub(crate) fn read_named<S: Store>(alloc: Global, store: &mut S, name: Text) -> Result<NamedFile, Stop>
+pub(crate) fn read_named<S: Store>(
+    alloc: Global,
+    store: &mut S,
+    name: Text,
+) -> Result<NamedFile, Stop>
     ensures read { IfOk result (IsFileOf (S.content store.old) name) }
     ensures none { IfErr result (λ why. WantsMemory why ⊎ IsNoFile (S.content store.old) (S.failures store.old) (S.failures store.new) name why) }
     ensures kept { S.content store.new ≡ S.content store.old }

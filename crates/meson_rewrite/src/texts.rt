@@ -14,11 +14,7 @@ use meson_store::path_in;
 use std::alloc::{AllocError, Global};
 
 /// The texts as files of a store, each by the name of its file there.
-fn place(
-    alloc: Global,
-    dir: Option<&str>,
-    texts: &[(Text, Text)],
-) -> Result<FileSet, AllocError>
+fn place(alloc: Global, dir: Option<&str>, texts: &[(Text, Text)]) -> Result<FileSet, AllocError>
     requires { AreTexts texts.now }
     ensures { IfOk result (λ files. files ≡ placed (named_folder dir.entry) texts.now) }
 {

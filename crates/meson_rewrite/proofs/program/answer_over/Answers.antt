@@ -18,12 +18,13 @@ returns-clause-ends g c =
     let below = c.args.store.now in
     let held = texts_over texts (S.content below) in
     let from : Option Content → ℕ → Type 0 = λ content n. Ends (Ok (without_text a)) (seen (texts_over texts content) n 0) (seen (texts_over texts (S.content over.store.now)) (S.failures over.store.now) 0) c.answer.result in
-    let ends = over-below a c.requires.asks c.answer.result held (texts_over over.texts.now (S.content over.store.now)) (S.failures below) over.failures (S.failures over.store.now) over.refused
+    let count = c.failures-failures.result in
+    let ends = over-below a c.requires.asks c.answer.result held (texts_over over.texts.now (S.content over.store.now)) count over.failures (S.failures over.store.now) over.refused
     over.failures_below over.no_other_failures c.answer.ensures.ends in
     let same : S.content over.store.now ≡ S.content below = over.kept ∙ sym c.requires.content in
     subst (λ content. from content g.B.Below.failures) c.requires.content
-    (subst (from (S.content below)) c.requires.failures
-    (subst (λ content. Ends (Ok (without_text a)) (seen held (S.failures below) 0) (seen (texts_over texts content) (S.failures over.store.now) 0) c.answer.result) (sym same) ends))
+    (subst (from (S.content below)) (c.failures-failures.ensures ∙ c.requires.failures)
+    (subst (λ content. Ends (Ok (without_text a)) (seen held count 0) (seen (texts_over texts content) (S.failures over.store.now) 0) c.answer.result) (sym same) ends))
 
 pub returns-clause-reads : goal.returns-clause-reads
 returns-clause-reads g c =
