@@ -1,6 +1,7 @@
 -- A status tells whether a step gave files other bytes.
 use Rattle.std.proofs.Common.{◌≡◌, ◌⊎◌, ◌∙◌, ℕ, zero, suc, Bool, true, false, List, [], ◌∷◌, Ok, inl, inr, refl, sym, ap, ap₂, subst, arith}
 use Rattle.std.specs.Prelude.{◌≢◌, ◌==◌, bytes_eq, cond, not}
+use Rattle.std.proofs.lemmas.Bool.Decides.{nat_tests}
 use Rattle.std.proofs.lemmas.Slice.Eq.{bytes_eq-Decides}
 use Rattle.meson_splice.proofs.Counts.{differing-same}
 use Rattle.meson_splice.specs.Files.{differing}
@@ -10,7 +11,7 @@ use Rattle.meson_script.specs.declared.session.Report.{Report}
 use Rattle.meson_script.specs.declared.session.Session.{Session}
 use Rattle.meson_rewrite.proofs.Names.{step-names}
 use Rattle.meson_rewrite.specs.Laws.{StatusesTellChanges}
-use Rattle.meson_rewrite.specs.Lines.{done_status, status}
+use Rattle.meson_rewrite.specs.Lines.{status}
 use Rattle.meson_rewrite.specs.Objects.{changes_files}
 use Rattle.meson_rewrite.specs.Steps.{Does, SaysStep, ShowsStep, only_tells}
 use Rattle.meson_rewrite.specs.declared.request.Step.{Step}
@@ -42,10 +43,14 @@ all-same (f ∷ old) (g ∷ new) named none =
 abbrev pub Tells : List File → List File → Bool → Type 0
 Tells old new changed = ((new ≡ old) × (changed ≡ false)) ⊎ ((new ≢ old) × (changed ≡ true))
 
+not-zero : (n : ℕ) (b : Bool) → (suc n == 0) ≡ b → not b ≡ true
+not-zero n true e = absurd (let zero : suc n ≡ 0 = grind (arith, nat_tests) in omega (arith, zero))
+not-zero n false e = refl
+
 counted-by : (old new : List File) (n : ℕ) → names old ≡ names new → n ≡ differing old new → Tells old new (not (n == 0))
 counted-by old new zero named is = inl (sym (all-same old new named (sym is)), refl)
 counted-by old new (suc n) named is =
-    inr ((λ same. let none : suc n ≡ 0 = is ∙ ap (differing old) same ∙ differing-same old in absurd (omega (arith, none))), refl)
+    inr ((λ same. let none : suc n ≡ 0 = is ∙ ap (differing old) same ∙ differing-same old in absurd (omega (arith, none))), not-zero n (suc n == 0) refl)
 
 pub by-step : (step : Step) (old new : Session) (report : Report) → only_tells step ≡ false → Does step old report new
     → Tells old.project.files new.project.files (changes_files step report)

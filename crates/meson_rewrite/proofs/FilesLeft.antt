@@ -1,5 +1,5 @@
 -- Where the words want to be told of a change and are told of none, each file but the log is as it was.
-use Rattle.std.proofs.Common.{◌≡◌, ◌⊎◌, ◌∙◌, ℕ, Bool, true, false, List, [], ◌∷◌, Option, Some, None, Result, Ok, Err, cond, inl, inr, refl, sym, ap, subst}
+use Rattle.std.proofs.Common.{◌≡◌, ◌∙◌, ℕ, Bool, true, false, List, [], ◌∷◌, Option, Some, Result, Ok, cond, inl, inr, refl, sym, ap, subst}
 use Rattle.std.specs.FinMap.{get}
 use Rattle.std.specs.Prelude.{◌≢◌, bytes_eq}
 use Rattle.std.proofs.lemmas.Slice.Eq.{bytes_eq-Decides}
@@ -11,7 +11,6 @@ use Rattle.meson_splice.specs.declared.file_set.File.{File}
 use Rattle.meson_store.proofs.Leaving.{some-is}
 use Rattle.meson_store.proofs.Restoring.{IsNoneOf, elsewhere, put_all-told, writes}
 use Rattle.meson_store.specs.Commit.{AreReplaced, path_in, put_all, put_at, puts}
-use Rattle.meson_store.specs.Content.{Content}
 use Rattle.meson_store.specs.Seen.{Seen}
 use Rattle.meson_rewrite.proofs.ChangesTold.{Tells, by-step, says-changed}
 use Rattle.meson_rewrite.proofs.Endings.{listing-untouched}
@@ -48,7 +47,7 @@ module _ (dir : Option (List ℕ)) (path : List ℕ) (other : path ≢ path_in d
 not-changed : (said : Said) → status true (Ok said) ≡ 0 → said.changed ≡ false
 not-changed said is = go said.changed is
   where
-    go : (changed : Bool) → cond changed 4 0 ≡ 0 → changed ≡ false
+    go : (changed : Bool) → ◌≡◌ {A = ℕ} (cond changed 4 0) 0 → changed ≡ false
     go true is = absurd (let no : ⊥ = cc in no)
     go false is = refl
 

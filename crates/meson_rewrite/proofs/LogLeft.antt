@@ -1,5 +1,5 @@
 -- A run that ignores the log leaves what the store holds by its name.
-use Rattle.std.proofs.Common.{◌≡◌, ◌⊎◌, ◌∙◌, ℕ, suc, List, [], ◌∷◌, ◌++◌, All, Option, Some, None, Result, Ok, Err, codes, inl, inr, refl, sym, ap, subst, arith}
+use Rattle.std.proofs.Common.{◌≡◌, ◌∙◌, ℕ, suc, List, [], ◌∷◌, ◌++◌, All, Option, Some, None, Result, codes, inl, inr, sym, ap, subst, arith}
 use Rattle.std.proofs.lemmas.List.{append_cancel_left}
 use Rattle.std.specs.FinMap.{get}
 use Rattle.std.specs.List.{Contains}
@@ -10,7 +10,7 @@ use Rattle.meson_command.specs.declared.fault.UsageFault.{UsageFault}
 use Rattle.meson_splice.specs.declared.file_set.File.{File}
 use Rattle.meson_store.proofs.Leaving.{some-is, untold-at}
 use Rattle.meson_store.proofs.Restoring.{Each, IsNoneOf, each-map, elsewhere, put_all-told, puts-each, writes}
-use Rattle.meson_store.specs.Commit.{AreReplaced, Put, TakenBack, path_in, put_all, puts, still_new}
+use Rattle.meson_store.specs.Commit.{AreReplaced, TakenBack, path_in, put_all, puts, still_new}
 use Rattle.meson_store.specs.Content.{Content}
 use Rattle.meson_store.specs.Seen.{Seen}
 use Rattle.meson_store.specs.declared.store_fault.StoreFault.{StoreFault}
@@ -91,8 +91,8 @@ run-leaves asked before after _ (helped a text u is_asked shows) ignored old new
 run-leaves asked before after _ (told_version a u is_asked shows) ignored old new is now = same-stays (dir_of asked) old new before.content after.content u.kept is now
 run-leaves asked before after _ (asks_for_none a stop u is_asked none) ignored old new is now =
     same-stays (dir_of asked) old new before.content after.content u.kept is now
-run-leaves asked before after _ (steps a step end is_asked asks ends) =
-    subst (λ r. LeavesLog r before after) (sym is_asked) (λ ignored old new is now. step-leaves a.dir old new step before after is now a.flags end ends ignored)
+run-leaves asked before after _ (steps a step end is_asked asks ends) ignored old new is now =
+    subst (λ r. LeavesLog r before after) (sym is_asked) (λ left m n was is_new. step-leaves a.dir m n step before after was is_new a.flags end ends left) ignored old new is now
 run-leaves asked before after _ (lists a listing end is_asked asks ends) ignored old new is now =
     same-stays (dir_of asked) old new before.content after.content (listing-untouched a.dir listing a.flags before after end ends).kept is now
 run-leaves asked before after _ (memory_ran_out stop u wants) ignored old new is now =

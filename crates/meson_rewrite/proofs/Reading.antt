@@ -25,7 +25,7 @@ use Rattle.meson_rewrite.specs.declared.request.ProgramRequest.TheVariants as re
 use Rattle.meson_rewrite.specs.declared.request.Step.{Step}
 use Rattle.meson_rewrite.specs.declared.said.Said.{Said}
 use Rattle.meson_rewrite.specs.declared.stop.Stop.{Stop}
-use Rattle.meson_rewrite.specs.declared.stop.Stop.TheVariants.{Usage, Script, Parse, TooManyFiles, BadFileName, Refused, Splice, OtherFiles, BadTexts, Store}
+use Rattle.meson_rewrite.specs.declared.stop.Stop.TheVariants.{Usage, Store}
 
 -- what holds, whatever was answered
 pub on_ok : {T E P : Type 0} (r : Result T E) → P → OnOk r P

@@ -136,7 +136,7 @@ pub(crate) fn leave<T: Drop>(it: T) {
 }
 
 /// The session of the project in this folder: its files, each parsed once, and then the history that its log holds, if the log is kept.
-pub(crate) fn open<S: Store>(
+fn open_with<S: Store>(
     alloc: Global,
     store: &mut S,
     dir: Option<&str>,
@@ -162,4 +162,26 @@ pub(crate) fn open<S: Store>(
         session: Session::of(project, log.history),
         log: log.text,
     })
+}
+
+/// The session of the project in this folder: its files, each parsed once, and then the history that its log holds. If the words
+/// leave the log alone, it is the empty history.
+pub(crate) fn open<S: Store>(
+    alloc: Global,
+    store: &mut S,
+    dir: Option<&str>,
+    no_log: bool,
+) -> Result<StoredSession, Stop>
+    ensures opens { IfOk result (λ o. Opens (log_use no_log) (S.content store.old) (named_folder dir.entry) o.session o.log.items) }
+    ensures none { IfErr result (λ why. WantsMemory why
+        ⊎ OpensNone (log_use no_log) (S.content store.old) (named_folder dir.entry) (S.failures store.old) (S.failures store.new) why) }
+    ensures kept { S.content store.new ≡ S.content store.old }
+    ensures counts { S.failures store.old ≤ S.failures store.new }
+    ensures no_replace { S.replaces store.new ≡ S.replaces store.old }
+    ensures reads { IfOk result (λ o. ReadsWithLog (log_use no_log) (S.content store.old) (named_folder dir.entry) (S.reads store.old)
+        o.session.project.files (S.reads store.new)) }
+    ensures reads_at_most { IfErr result (λ why. ReadsAtMost (log_use no_log) (S.content store.old) (named_folder dir.entry) (S.reads store.old)
+        (S.reads store.new) (unread_by why)) }
+{
+    open_with(alloc, store, dir, LogUse::of(no_log))
 }

@@ -20,7 +20,7 @@ ghost use Rattle.meson_store.specs.Texts.{texts_over};
 
 use crate::lines::tell_stop;
 use crate::listed::listed;
-use crate::opening::{LogUse, open};
+use crate::opening::open;
 use crate::reports::told;
 use crate::request::{Listing, ProgramRequest, Step, read_named, request_of};
 use crate::said::Said;
@@ -58,7 +58,7 @@ fn do_step<S: Store>(
     ensures reads_all { OnOk result (ReadsProject (log_use flags.no_log) (S.content store.old) (named_folder dir.entry) (S.reads store.old)
         (S.reads store.new)) }
 {
-    let opened = open(alloc, store, dir, LogUse::of(flags.no_log))?;
+    let opened = open(alloc, store, dir, flags.no_log)?;
     if only_tells(step) {
         return told(alloc, opened, step, flags.json);
     }
@@ -88,7 +88,7 @@ fn list<S: Store>(
     ensures reads_all { OnOk result (ReadsProject (log_use flags.no_log) (S.content store.old) (named_folder dir.entry) (S.reads store.old)
         (S.reads store.new)) }
 {
-    let opened = open(alloc, store, dir, LogUse::of(flags.no_log))?;
+    let opened = open(alloc, store, dir, flags.no_log)?;
     listed(alloc, opened, listing, flags.json)
 }
 

@@ -52,8 +52,8 @@ returns-then-only_tells-clause-ends g c =
     let only : only_tells c.args.step.now ≡ true = cc in
     ends-by-telling dir c.args.step.now c.args.flags b a u c.in_ok-opened.opened.session c.in_ok-opened.opened.log.items c.in_ok-opened.ensures.opens only c.told.result c.told.ensures.told c.told.ensures.refused
 
-pub returns-then-dry_run-clause-ends : goal.returns-then-dry_run-clause-ends
-returns-then-dry_run-clause-ends g c =
+pub returns-then-flags-clause-ends : goal.returns-then-flags-clause-ends
+returns-then-flags-clause-ends g c =
     let S = g.S.Store in
     let dir = option_map (λ d. d.now) c.args.dir in
     let b = seen (S.content c.args.store.now) (S.failures c.args.store.now) (S.replaces c.args.store.now) in
@@ -115,15 +115,15 @@ returns-then-only_tells-clause-reads_all g c =
     let dir = option_map (λ d. d.now) c.args.dir in
     on_ok c.told.result (with-log-all (log_use c.args.flags.no_log) (S.content c.args.store.now) dir (S.reads c.args.store.now) c.in_ok-opened.opened.session.project.files (S.reads c.open.new.store) _ refl c.in_ok-opened.ensures.reads c.in_ok-opened.ensures.opens.found)
 
-pub returns-then-dry_run-clause-reads : goal.returns-then-dry_run-clause-reads
-returns-then-dry_run-clause-reads g c =
+pub returns-then-flags-clause-reads : goal.returns-then-flags-clause-reads
+returns-then-flags-clause-reads g c =
     let S = g.S.Store in
     let dir = option_map (λ d. d.now) c.args.dir in
     with-log-at-most (log_use c.args.flags.no_log) (S.content c.args.store.now) dir (S.reads c.args.store.now) c.in_ok-opened.opened.session.project.files (S.reads c.open.new.store) _ refl c.in_ok-opened.ensures.reads
     (unread_in c.shown.result) (acting-unread c.args.step.now c.in_ok-opened.opened.session c.shown.result c.shown.ensures.refused)
 
-pub returns-then-dry_run-clause-reads_all : goal.returns-then-dry_run-clause-reads_all
-returns-then-dry_run-clause-reads_all g c =
+pub returns-then-flags-clause-reads_all : goal.returns-then-flags-clause-reads_all
+returns-then-flags-clause-reads_all g c =
     let S = g.S.Store in
     let dir = option_map (λ d. d.now) c.args.dir in
     on_ok c.shown.result (with-log-all (log_use c.args.flags.no_log) (S.content c.args.store.now) dir (S.reads c.args.store.now) c.in_ok-opened.opened.session.project.files (S.reads c.open.new.store) _ refl c.in_ok-opened.ensures.reads c.in_ok-opened.ensures.opens.found)

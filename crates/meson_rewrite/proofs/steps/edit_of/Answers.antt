@@ -6,7 +6,7 @@ use Rattle.meson_script.proofs.RunFacts.{names}
 use Rattle.meson_rewrite.proofs.Listings.{does-plain}
 use Rattle.meson_rewrite.proofs.Names.{logged-names, step-names}
 use Rattle.meson_rewrite.proofs.PlainObjects.{IsText, project-text}
-use Rattle.meson_rewrite.specs.Logs.{log_use, with_log}
+use Rattle.meson_rewrite.specs.Logs.{with_log}
 use Rattle.meson_rewrite.specs.Steps.{SaysStep}
 use Rattle.meson_rewrite.proofs.steps.edit_of.Goals as goal
 
@@ -30,11 +30,12 @@ returns-clause-same_names c =
     let new = c.act.new.session in
     let same = c.in_ok-old.ensures.cases ∙ c.files.ensures in
     ap names c.in_ok-before.ensures
-    ∙ logged-names (log_use c.args.flags.no_log) _ _ _ _ (ap names same ∙ step-names c.args.step.now old new c.in_ok-report.report c.in_ok-report.ensures.does)
+    ∙ logged-names c.of-log_use.result _ _ _ _ (ap names same ∙ step-names c.args.step.now old new c.in_ok-report.report c.in_ok-report.ensures.does)
     ∙ ap names (sym c.in_ok-after.ensures.files.2)
 
 pub returns-clause-edited : goal.returns-clause-edited
 returns-clause-edited c =
+    let old = c.args.session.now in
     let new = c.act.new.session in
     let same = c.in_ok-old.ensures.cases ∙ c.files.ensures in
     record {
@@ -44,8 +45,8 @@ returns-clause-edited c =
       does = c.in_ok-report.ensures.does;
       new_log = c.in_ok-after.ensures.files.0;
       is_log = c.in_ok-after.ensures.files.1;
-      before = c.in_ok-before.ensures ∙ ap (λ fs. with_log (log_use c.args.flags.no_log) fs c.args.log.items) same;
-      after = c.in_ok-after.ensures.files.2;
+      before = c.in_ok-before.ensures ∙ ap (λ fs. with_log c.of-log_use.result fs c.args.log.items) same ∙ ap (λ how. with_log how old.project.files c.args.log.items) c.of-log_use.ensures;
+      after = c.in_ok-after.ensures.files.2 ∙ ap (λ how. with_log how new.project.files c.in_ok-after.ensures.files.0) c.of-log_use.ensures;
       says = subst (λ fs. SaysStep c.args.flags.json c.args.step.now fs new.project.files c.in_ok-report.report c.in_ok-said.said) same c.in_ok-said.ensures;
     }
 
