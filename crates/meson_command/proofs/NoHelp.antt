@@ -1,10 +1,10 @@
 -- No subcommand asks for help or the version.
 use Rattle.std.proofs.Common.{◌≡◌, ℕ, Bool, true, false, List, Option, Some, None, Result, Ok, Err, codes, refl, ap, subst}
-use Rattle.std.specs.Prelude.{IfOk, bytes_eq, if◌then◌else◌, ok_or}
+use Rattle.std.specs.Prelude.{◌||◌, ◌==◌, length, IfOk, bytes_eq, if◌then◌else◌, ok_or}
 use Rattle.clap.specs.Words.{Row, Text, first_of}
 use Rattle.meson_calls.specs.declared.call.Role.{Role}
 use Rattle.meson_splice.specs.Patch.{then_ok}
-use Rattle.meson_command.specs.Actions.{action_of, count_in, kwargs_action, history_by, kwargs_by, has_flag, list_by, options_action, options_by, is_json, other_action, script_action, target_action, target_by, target_words, undo_of, unknown_members, word_at, words_at}
+use Rattle.meson_command.specs.Actions.{action_of, count_in, kwargs_action, history_by, kwargs_by, has_flag, list_by, list_with, options_action, options_by, is_json, other_action, script_action, target_action, target_by, target_words, undo_of, unknown_members, word_at, words_at}
 use Rattle.meson_command.specs.Asking.{asked_from, is_dry, names_no_folder, texts_fit, title_in, with_texts, with_title, without_help_text, without_text}
 use Rattle.meson_command.specs.declared.asked.Action.{Action}
 use Rattle.meson_command.specs.declared.asked.Action.TheVariants as action
@@ -118,6 +118,15 @@ list-plain false false = ok _ tt
 list-plain false true = ok _ tt
 list-plain true true = err Usage
 
+listing_of-plain : (is : Bool) (function : Text) (json : Bool) → IsPlain (if is then action.ListAssignments json else action.ListCalls function json)
+listing_of-plain true function json = tt
+listing_of-plain false function json = tt
+
+list_with-plain : (function : Option Text) (json sums : Bool) → Answers IsPlain (list_with function json sums)
+list_with-plain None json sums = list-plain json sums
+list_with-plain (Some function) json sums =
+    either (sums || length function == 0) _ _ (err Usage) (ok _ (listing_of-plain (bytes_eq function (codes "variable")) function json))
+
 action-plain : (name : Text) (rows : List Row) → Answers IsPlain (action_of name rows)
 unfolding action_of other_action
 action-plain name rows =
@@ -128,7 +137,7 @@ action-plain name rows =
     (either (bytes_eq name (codes "undo")) _ _ (undo-plain (first_of (codes "N") rows) (first_of (codes "FILE") rows))
     (either (bytes_eq name (codes "redo")) _ _ (ok Redo tt)
     (either (bytes_eq name (codes "history")) _ _ (history-plain (first_of (codes "N") rows))
-    (either (bytes_eq name (codes "list")) _ _ (list-plain (has_flag (codes "json") rows) (has_flag (codes "sums") rows)) (err Usage))))))))
+    (either (bytes_eq name (codes "list")) _ _ (list_with-plain (first_of (codes "FUNCTION") rows) (has_flag (codes "json") rows) (has_flag (codes "sums") rows)) (err Usage))))))))
 
 titled : (rows : List Row) (a : Action) → IsPlain a → Answers (λ x. IsPlain x.action) (with_title rows a)
 titled rows a plain = either (is_title (title_in rows)) _ _ (ok _ plain) (err BadTitle)
@@ -157,6 +166,8 @@ same History h = refl
 same (ForgetOldest count) h = refl
 same ForgetAll h = refl
 same (action.List json) h = refl
+same (action.ListCalls function json) h = refl
+same (action.ListAssignments json) h = refl
 same Sums h = refl
 same (Help text) h = absurd h
 same Version h = absurd h

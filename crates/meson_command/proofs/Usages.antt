@@ -1,7 +1,8 @@
 -- Where help and the version are answered, and where the usage is wrong though clap takes the words.
-use Rattle.std.proofs.Common.{◌≡◌, ◌≢◌, ◌∙◌, ◌∷◌, ◌||◌, ◌&&◌, ◌⊎◌, inl, inr, ℕ, Bool, true, false, not, List, [], Option, Some, None, Result, Ok, Err, is_some, bytes_eq, codes, refl, sym, ap}
+use Rattle.std.proofs.Common.{◌≡◌, ◌≢◌, ◌∙◌, ◌∷◌, ◌||◌, ◌&&◌, ◌==◌, length, ◌⊎◌, inl, inr, ℕ, Bool, true, false, not, List, [], Option, Some, None, Result, Ok, Err, is_some, bytes_eq, codes, refl, sym, ap, arith}
 use Rattle.std.specs.Prelude.{find, option_map, unwrap_or, if◌then◌else◌, ok_or}
 use Rattle.std.specs.List.{list_any}
+use Rattle.std.proofs.lemmas.Bool.Decides.{nat_tests}
 use Rattle.std.proofs.lemmas.Slice.Eq.{bytes_eq-Decides}
 use Rattle.clap.specs.Facts.{explicit_source}
 use Rattle.clap.specs.Faults.{check_fault, defaults_fault, entered_fault, level_fault, settle_fault, walk_fault}
@@ -13,7 +14,7 @@ use Rattle.clap.specs.Words.{Row, Text, fault_of, first_of, matches_of, subcomma
 use Rattle.clap.specs.declared.error.kind.ErrorKind.TheVariants.{DisplayHelp, DisplayVersion}
 use Rattle.meson_calls.specs.declared.call.Role.{Role}
 use Rattle.meson_splice.specs.Patch.{then_ok}
-use Rattle.meson_command.specs.Actions.{action_of, count_in, history_by, kwargs_action, kwargs_by, list_by, options_action, options_by, other_action, target_action, undo_of, word_at, words_at}
+use Rattle.meson_command.specs.Actions.{action_of, count_in, history_by, kwargs_action, kwargs_by, list_by, list_with, listing_of, options_action, options_by, other_action, target_action, undo_of, word_at, words_at}
 use Rattle.meson_command.specs.Asking.{answer, asked_from, asked_of, help, is_dry, names_no_folder, texts_fit, title_in, version, with_texts, with_title}
 use Rattle.meson_command.specs.Counts.{count_of}
 use Rattle.meson_command.specs.Laws.{HelpWhereAsked, IsNoCount, IsUnknown, TextsAreMisused, UsageMeansUnknown, VersionWhereAsked}
@@ -217,6 +218,25 @@ both-listed true false e = cc
 both-listed false true e = cc
 both-listed false false e = cc
 
+abbrev AreTwo : Option Text → Bool → Bool → Type 0
+AreTwo function json sums = (sums ≡ true) × ((json ≡ true) ⊎ (is_some function ≡ true))
+
+empty : (function : Text) → (length function == 0) ≡ true → Some function ≡ Some []
+empty [] is = refl
+empty (b ∷ bytes) is = let none : length (b ∷ bytes) ≡ 0 = grind (arith, nat_tests) in absurd (omega (arith, none))
+
+of_function : (function : Text) (json sums : Bool) → list_with (Some function) json sums ≡ Err Usage → AreTwo (Some function) json sums ⊎ (Some function ≡ Some [])
+of_function function json true e = inl (refl, inr refl)
+of_function function json false e = inr (empty function (which (length function == 0) e))
+  where
+    which : (b : Bool) → (if b then Err Usage else Ok (listing_of function json)) ≡ Err Usage → b ≡ true
+    which true e = refl
+    which false e = cc
+
+list-unknown : (function : Option Text) (json sums : Bool) → list_with function json sums ≡ Err Usage → AreTwo function json sums ⊎ (function ≡ Some [])
+list-unknown None json sums e = let both = both-listed json sums e in inl (both.1, inl both.0)
+list-unknown (Some function) json sums e = of_function function json sums e
+
 by_name : {P : Type 0} (b : Bool) (x y : Result Action UsageFault) (rest : Bool) → (if b then x else y) ≡ Err Usage → (b || rest) ≡ true
     → (b ≡ true → x ≡ Err Usage → P) → (y ≡ Err Usage → rest ≡ true → P) → P
 by_name true x y rest e k h n = h refl e
@@ -235,7 +255,7 @@ unknown name rows k e =
     by_name (bytes_eq name (codes "undo")) _ _ _ e k (λ b x. inr (inr (inr (inl (named _ _ b, undo-unknown _ (first_of (codes "FILE") rows) x))))) (λ e k.
     by_name (bytes_eq name (codes "redo")) _ _ _ e k (λ b x. cc) (λ e k.
     by_name (bytes_eq name (codes "history")) _ _ _ e k (λ b x. inr (inr (inr (inr (inl (named _ _ b, history-unknown _ x)))))) (λ e k.
-    by_name (bytes_eq name (codes "list")) _ _ _ e k (λ b x. inr (inr (inr (inr (inr (named _ _ b, both-listed _ _ x)))))) (λ e k. cc))))))))
+    by_name (bytes_eq name (codes "list")) _ _ _ e k (λ b x. inr (inr (inr (inr (inr (named _ _ b, list-unknown _ _ _ x)))))) (λ e k. cc))))))))
 
 -- ---- wrong usage
 

@@ -1,5 +1,5 @@
 -- The request of the words of a subcommand.
-use Rattle.std.specs.Prelude.{ℕ, Bool, false, true, ◌||◌, ◌==◌, not, List, [], ◌∷◌, codes, bytes_eq, find, map, if◌then◌else◌, Option, Some, None, ok_or, unwrap_or, Result, Ok, Err}
+use Rattle.std.specs.Prelude.{ℕ, Bool, false, true, ◌||◌, ◌==◌, not, List, [], ◌∷◌, codes, bytes_eq, find, map, if◌then◌else◌, Option, Some, None, ok_or, unwrap_or, Result, Ok, Err, length}
 use Rattle.std.specs.Option.{option_map_or}
 use Rattle.clap.specs.Words.{Row, Text, all_of, first_of}
 use Rattle.meson_calls.specs.declared.call.Role.{Role}
@@ -148,16 +148,29 @@ history_by (Some word) =
 abbrev pub history_action : List Row → Result Action UsageFault
 history_action rows = history_by (first_of (codes "N") rows)
 
--- ---- list [--json] [--sums]
+-- ---- list [--of FUNCTION] [--json] [--sums]
 
--- as JSON, as digests, or as neither; not as both
+-- of the project: as JSON, as digests, or as neither; not as both
 abbrev pub list_by : Bool → Bool → Result Action UsageFault
 list_by json false = Ok (action.List json)
 list_by false true = Ok Sums
 list_by true true = Err Usage
 
+-- the calls of a function; `variable` stands for the assignments
+abbrev pub listing_of : Text → Bool → Action
+listing_of function json = if bytes_eq function (codes "variable") then action.ListAssignments json else action.ListCalls function json
+
+-- of this function, if it has a name; not as digests
+abbrev pub list_of : Text → Bool → Bool → Result Action UsageFault
+list_of function json sums = if sums || length function == 0 then Err Usage else Ok (listing_of function json)
+
+-- of a function, or else of the project
+abbrev pub list_with : Option Text → Bool → Bool → Result Action UsageFault
+list_with None json sums = list_by json sums
+list_with (Some function) json sums = list_of function json sums
+
 abbrev pub list_action : List Row → Result Action UsageFault
-list_action rows = list_by (has_flag (codes "json") rows) (has_flag (codes "sums") rows)
+list_action rows = list_with (first_of (codes "FUNCTION") rows) (has_flag (codes "json") rows) (has_flag (codes "sums") rows)
 
 -- ---- any subcommand
 

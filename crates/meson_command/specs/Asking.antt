@@ -56,6 +56,8 @@ abbrev pub only_asks : Action → Bool
 only_asks (action.Info c) = true
 only_asks action.History = true
 only_asks (action.List json) = true
+only_asks (action.ListCalls function json) = true
+only_asks (action.ListAssignments json) = true
 only_asks action.Sums = true
 only_asks a = only_shows a
 

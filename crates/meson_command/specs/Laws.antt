@@ -1,5 +1,5 @@
 -- What holds of any command line.
-use Rattle.std.specs.Prelude.{◌≡◌, ◌≢◌, ◌↔◌, ◌⊎◌, ◌||◌, ◌%◌, List, [], ◌∷◌, length, codes, false, true, IfSome, IsTrue, Option, Some, None, Ok, Err}
+use Rattle.std.specs.Prelude.{◌≡◌, ◌≢◌, ◌↔◌, ◌⊎◌, ◌||◌, ◌%◌, List, [], ◌∷◌, length, codes, is_some, false, true, IfSome, IsTrue, Option, Some, None, Ok, Err}
 use Rattle.std.specs.List.{AllPairs}
 use Rattle.clap.specs.Words.{Row, Text, fault_of, first_of, matches_of, subcommand_of}
 use Rattle.clap.specs.declared.error.kind.ErrorKind.TheVariants.{DisplayHelp, DisplayVersion}
@@ -56,11 +56,15 @@ TextsWriteNothing = (words : List Text) (asked : Asked) → asked_by words ≡ O
 abbrev pub IsNoCount : Option Text → Text → Type 0
 IsNoCount given word = (given ≡ Some word) × (count_of word ≡ None)
 
--- a listing as JSON and one of digests are requested, which are two
-abbrev pub AsksForBoth : List Row → Type 0
-AsksForBoth rows = (has_flag (codes "json") rows ≡ true) × (has_flag (codes "sums") rows ≡ true)
+-- a listing of digests is requested, and one as JSON or of a function, which are two
+abbrev pub AsksForTwo : List Row → Type 0
+AsksForTwo rows = (has_flag (codes "sums") rows ≡ true) × ((has_flag (codes "json") rows ≡ true) ⊎ (is_some (first_of (codes "FUNCTION") rows) ≡ true))
 
--- the subcommand's operation, function or number is not valid, or two listings are requested
+-- a listing of a function without a name is requested
+abbrev pub NamesNoFunction : List Row → Type 0
+NamesNoFunction rows = first_of (codes "FUNCTION") rows ≡ Some []
+
+-- the subcommand's operation, function or number is not valid, or two listings are requested or one of a function without a name
 abbrev pub IsUnknown : Text → List Row → Type 0
 IsUnknown subcommand rows =
     ((subcommand ≡ codes "target") × (operation_of_word (word_at (codes "OPERATION") rows) ≡ None))
@@ -68,13 +72,14 @@ IsUnknown subcommand rows =
     ⊎ (((subcommand ≡ codes "default-options") × (options_word (word_at (codes "OPERATION") rows) ≡ None))
     ⊎ (((subcommand ≡ codes "undo") × ((word : Text) × IsNoCount (first_of (codes "N") rows) word))
     ⊎ (((subcommand ≡ codes "history") × ((word : Text) × (word ≢ codes "all") × IsNoCount (first_of (codes "N") rows) word))
-    ⊎ ((subcommand ≡ codes "list") × AsksForBoth rows)))))
+    ⊎ ((subcommand ≡ codes "list") × (AsksForTwo rows ⊎ NamesNoFunction rows))))))
 
 -- a file of texts is named for an action that writes, or standard input would be read twice
 abbrev pub TextsAreMisused : List Row → Text → List Row → Type 0
 TextsAreMisused own subcommand rows = (asked : Action) × (action_of subcommand rows ≡ Ok asked) × (texts_fit asked (first_of (codes "FILE") own) (is_dry own) ≡ false)
 
--- if clap takes the words and the usage is wrong: the folder is empty, a word is unknown or not a number, two listings are requested, or texts do not fit
+-- if clap takes the words and the usage is wrong: the folder is empty, a word is unknown or not a number, two listings are requested or one of a
+-- function without a name, or texts do not fit
 abbrev pub UsageMeansUnknown : Type 0
 UsageMeansUnknown = (words : List Text) → fault_of program words ≡ [] → asked_by words ≡ Err Usage
     → (names_no_folder (first_of (codes "DIR") (matches_of program words)) ≡ true)

@@ -74,9 +74,10 @@ redo = of_words (new_app (codes "redo")) (help ∷ [])
 unfoldable pub history : App
 history = of_words (new_app (codes "history")) (option (codes "N") (codes "forget") ∷ help ∷ [])
 
--- list [--json] [--sums]
+-- list [--of FUNCTION] [--json] [--sums]
 unfoldable pub list : App
-list = of_words (new_app (codes "list")) (flag (codes "json") (codes "json") ∷ flag (codes "sums") (codes "sums") ∷ help ∷ [])
+list = of_words (new_app (codes "list")) (option (codes "FUNCTION") (codes "of") ∷ flag (codes "json") (codes "json") ∷ flag (codes "sums") (codes "sums")
+    ∷ help ∷ [])
 
 -- a subcommand is required; clap adds no `help` subcommand and no help flag of its own
 abbrev pub bare_command : Text → App

@@ -195,6 +195,31 @@ Texts =
     × asks (codes "--texts t kwargs set project / version") (Err OddWords)
     × (asked_by (codes "T" ∷ codes "--title" ∷ codes "\t" ∷ codes "--texts" ∷ codes "t" ∷ codes "undo" ∷ []) ≡ Err Usage)
 
+-- what is listed of a function, or of variables
+abbrev pub Listed : Type 0
+Listed =
+    asks (codes "list --of dependency") (in_place (action.ListCalls (codes "dependency") false))
+    × asks (codes "list --of=test --json") (in_place (action.ListCalls (codes "test") true))
+    × asks (codes "list --json --of subdir") (in_place (action.ListCalls (codes "subdir") true))
+    × asks (codes "--sourcedir d list --of variables") (there (codes "d") (action.ListCalls (codes "variables") false))
+    × asks (codes "list --of variable") (in_place (action.ListAssignments false))
+    × asks (codes "list --json --of variable") (in_place (action.ListAssignments true))
+    × asks (codes "--json list --of project") (in_json (action.ListCalls (codes "project") false))
+    × asks (codes "--json list --of variable") (in_json (action.ListAssignments false))
+    × asks (codes "--texts t list --of test") (texted no_flags (codes "t") (action.ListCalls (codes "test") false))
+    × asks (codes "--texts - list --of variable") (texted no_flags (codes "-") (action.ListAssignments false))
+    × asks (codes "list --of") (Err Usage)
+    × asks (codes "list --of=") (Err Usage)
+    × asks (codes "list --of test test") (Err Usage)
+    × asks (codes "list --of test --of test") (Err Usage)
+    × asks (codes "list --of test --sums") (Err Usage)
+    × asks (codes "list --sums --of variable") (Err Usage)
+    × asks (codes "list --of test --json --sums") (Err Usage)
+    × asks (codes "--of test list") (Err Usage)
+    × asks (codes "history --of test") (Err Usage)
+    × wants (codes "--json list --of=") true
+    × wants (codes "list --of test --json") false
+
 -- what is listed, which scripts are meant, help and the version
 abbrev pub Other : Type 0
 Other =

@@ -51,6 +51,10 @@ pub enum Action {
     ForgetAll,
     /// List the targets and files of the project, and the `subdir` calls that were not entered, as JSON or as lines; change nothing.
     List { json: bool },
+    /// List the calls of this function, as JSON or as lines; change nothing.
+    ListCalls { function: Text, json: bool },
+    /// List the assignments of the project, as JSON or as lines; change nothing.
+    ListAssignments { json: bool },
     /// List the digests of the files, and change nothing.
     Sums,
     /// Print this text.
@@ -102,7 +106,7 @@ fn other_action(
     } else if subcommand == "history" {
         history_action(matches)
     } else if subcommand == "list" {
-        list_action(matches)
+        list_action(alloc, matches)
     } else {
         Err(UsageFault::Usage)
     }
@@ -148,7 +152,8 @@ fn only_asks(action: &Action) -> bool
     ensures { result ≡ only_asks action.now }
 {
     match action {
-        Action::Info(_) | Action::History | Action::List { .. } | Action::Sums => true,
+        Action::Info(_) | Action::History | Action::Sums => true,
+        Action::List { .. } | Action::ListCalls { .. } | Action::ListAssignments { .. } => true,
         Action::Help(_) | Action::Version => true,
         _ => false,
     }
@@ -265,9 +270,9 @@ fn shown(alloc: Global, action: Action) -> Asked
 /// program's own. Values, ids and names are passed on as given.
 ///
 /// # Errors
-/// The first of these faults, in this order. A word is missing, unknown or one too many, a number is not valid, two listings are requested, or the folder is
-/// empty. In words that are names with values, the last name has no value. A name is repeated. The operation is not done here. Texts are named for what writes,
-/// or standard input would be read twice. The title is not valid. And out of memory, at any time.
+/// The first of these faults, in this order. A word is missing, unknown or one too many, a number is not valid, two listings are requested or one of a function
+/// without a name, or the folder is empty. In words that are names with values, the last name has no value. A name is repeated. The operation is not done here.
+/// Texts are named for what writes, or standard input would be read twice. The title is not valid. And out of memory, at any time.
 pub fn command_of(alloc: Global, words: &[String]) -> Result<Asked, UsageFault>
     ensures ok { IfOk result (λ a. asked_by (map string_bytes words.now) ≡ Ok (without_text a)) }
     ensures refused { IfErr result (λ e. e ≢ OutOfMemory → asked_by (map string_bytes words.now) ≡ Err e) }

@@ -247,14 +247,22 @@ each subdir call that is not entered:
 Where the name is not a literal, the line says so. What is in a folder that is
 not entered is not found.
 
+--of FUNCTION lists the calls of that function instead, as dependency or test,
+each in the form of a target. --of variable lists the assignments:
+  FILE:LINE: variable NAME
+  FILE:LINE: variable NAME, added to
+
 --json prints all of it as one JSON object; man meson_rewrite lists its members.
 --sums prints the SHA-256 digest of each build file instead, as sha256sum does;
 undo --check compares them.
 
 Examples:
   meson_rewrite list
+  meson_rewrite list --of dependency
   meson_rewrite list --sums >sums
   meson_rewrite --sourcedir harbor list --json";
+
+pub(crate) const OF: &str = "List the calls of FUNCTION; variable lists assignments";
 
 pub(crate) const JSON: &str = "Print one line of JSON instead";
 

@@ -1,8 +1,8 @@
-//! `undo [--to N] [--check FILE]`, `history [--forget N]` and `list [--json] [--sums]`.
+//! `undo [--to N] [--check FILE]`, `history [--forget N]` and `list [--of FUNCTION] [--json] [--sums]`.
 
 ghost use Rattle.std.specs.Prelude.{◌≡◌, ◌≢◌, Err, IfErr, IfOk, Ok, option_map};
 ghost use Rattle.clap.specs.Words.{found_of, rows_of};
-ghost use Rattle.meson_command.specs.Actions.{count_in, history_action, history_by, list_action, list_by, undo_action, undo_of};
+ghost use Rattle.meson_command.specs.Actions.{count_in, history_action, history_by, list_action, list_by, list_of, undo_action, undo_of};
 ghost use Rattle.meson_command.specs.declared.fault.UsageFault.TheVariants.{OutOfMemory};
 
 use crate::asked::Action;
@@ -56,7 +56,7 @@ fn history_by(word: Option<&str>) -> Result<Action, UsageFault>
     }
 }
 
-/// What is listed, depending on whether the two flags are there.
+/// What is listed of the project, depending on whether the two flags are there.
 fn list_by(json: bool, sums: bool) -> Result<Action, UsageFault>
     ensures { result ≡ list_by json sums }
 {
@@ -65,6 +65,23 @@ fn list_by(json: bool, sums: bool) -> Result<Action, UsageFault>
         (false, true) => Ok(Action::Sums),
         (true, true) => Err(UsageFault::Usage),
     }
+}
+
+/// What is listed of this function, depending on whether the two flags are there; `variable` stands for the assignments.
+fn list_of(alloc: Global, function: &str, json: bool, sums: bool) -> Result<Action, UsageFault>
+    ensures ok { IfOk result (λ a. list_of function.now json sums ≡ Ok a) }
+    ensures refused { IfErr result (λ e. e ≢ OutOfMemory → list_of function.now json sums ≡ Err e) }
+{
+    if sums || function.is_empty() {
+        return Err(UsageFault::Usage);
+    }
+    if function == "variable" {
+        return Ok(Action::ListAssignments { json });
+    }
+    Ok(Action::ListCalls {
+        function: owned(alloc, function)?,
+        json,
+    })
 }
 
 /// The request of the words of `undo`.
@@ -94,10 +111,15 @@ pub(crate) fn history_action(matches: &ArgMatches<'_>) -> Result<Action, UsageFa
 /// The request of the words of `list`.
 ///
 /// # Errors
-/// Both flags are there.
-pub(crate) fn list_action(matches: &ArgMatches<'_>) -> Result<Action, UsageFault>
+/// Two listings are requested, or one of a function without a name.
+pub(crate) fn list_action(alloc: Global, matches: &ArgMatches<'_>) -> Result<Action, UsageFault>
     ensures ok { IfOk result (λ a. list_action (rows_of (found_of matches.now)) ≡ Ok a) }
     ensures refused { IfErr result (λ e. e ≢ OutOfMemory → list_action (rows_of (found_of matches.now)) ≡ Err e) }
 {
-    list_by(is_set(matches, "json"), is_set(matches, "sums"))
+    let json = is_set(matches, "json");
+    let sums = is_set(matches, "sums");
+    match matches.get_str("FUNCTION") {
+        Some(function) => list_of(alloc, function, json, sums),
+        None => list_by(json, sums),
+    }
 }

@@ -2,7 +2,7 @@
 
 ghost use Rattle.meson_command.specs.Laws.{HelpWhereAsked, JsonWhereWanted, OddWordsAreOdd, PairsAreTheWords, UnsetIsDelete, UsageMeansUnknown, VersionWhereAsked};
 ghost use Rattle.meson_command.specs.Laws.{TextsWriteNothing};
-ghost use Rattle.meson_command.specs.Rows.{Done, Flagged, Json, Other, Refused, Shown, Texts, Titled};
+ghost use Rattle.meson_command.specs.Rows.{Done, Flagged, Json, Listed, Other, Refused, Shown, Texts, Titled};
 
 /// The requests of some command lines.
 pub fn rows()
@@ -12,6 +12,7 @@ pub fn rows()
     ensures json { Json }
     ensures flagged { Flagged }
     ensures texts { Texts }
+    ensures listed { Listed }
     ensures other { Other }
     ensures refused { Refused }
 {}
@@ -40,7 +41,7 @@ pub fn texts_write_nothing()
 {}
 
 /// Words that clap takes are wrong usage only in these cases: the folder is empty, an operation or a function is unknown, a number is not valid, two listings
-/// are requested, or texts are named for what writes or would read standard input, too.
+/// are requested or one of a function without a name, or texts are named for what writes or would read standard input, too.
 pub fn usage_means_unknown()
     ensures { UsageMeansUnknown }
 {}

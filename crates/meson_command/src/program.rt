@@ -247,6 +247,7 @@ fn list<'h>(alloc: Global) -> Result<Command<'h>, AllocError>
     ensures { IfOk result (IsToldToClap list) }
 {
     let command = Ok(described(alloc, "list", help::LIST, help::BELOW_LIST));
+    let command = with_option(alloc, command, "FUNCTION", "of", help::OF);
     let command = with_flag(alloc, command, "json", "json", help::JSON);
     let command = with_flag(alloc, command, "sums", "sums", help::SUMS);
     with_help(alloc, command)

@@ -30,21 +30,21 @@ use Rattle.meson_inventory.specs.declared.holdings.HeldCall.{HeldCall}
 
 -- ---- elements of lists
 
-abbrev Among : {X : Type 0} → List X → X → Type 0
+abbrev pub Among : {X : Type 0} → List X → X → Type 0
 Among [] x = ⊥
 Among (y ∷ ys) x = (y ≡ x) ⊎ Among ys x
 
-among : {X : Type 0} (xs : List X) (x : X) (k : ℕ) → k < length xs → get_or xs k x ≡ x → Among xs x
+pub among : {X : Type 0} (xs : List X) (x : X) (k : ℕ) → k < length xs → get_or xs k x ≡ x → Among xs x
 among [] x k within at_k = absurd (omega (arith, within))
 among (y ∷ ys) x zero within at_k = inl at_k
 among (y ∷ ys) x (suc k) within at_k = let below : k < length ys = omega (arith, within) in inr (among ys x k below at_k)
 
-contained : {X : Type 0} (xs : List X) (x : X) → Among xs x → Contains xs x
+pub contained : {X : Type 0} (xs : List X) (x : X) → Among xs x → Contains xs x
 contained [] x m = absurd m
 contained (y ∷ ys) x (inl same) = (0, omega arith, same)
 contained (y ∷ ys) x (inr m) = let c = contained ys x m in let within : suc c.0 < suc (length ys) = omega (arith, c.1) in (suc c.0, within, c.2)
 
-given : {X Y : Type 0} (f : X → Option Y) (xs : List X) (x : X) (y : Y) → Among xs x → f x ≡ Some y → Among (filter_map f xs) y
+pub given : {X Y : Type 0} (f : X → Option Y) (xs : List X) (x : X) (y : Y) → Among xs x → f x ≡ Some y → Among (filter_map f xs) y
 given f [] x y m gives = absurd m
 given {X} {Y} f (z ∷ zs) x y (inl same) gives = first (f z) (ap f same ∙ gives)
   where

@@ -1,6 +1,9 @@
+mod StandingParts
+mod AssignmentsListed
 mod CallsHeld
 mod CallPlacesListed
 mod FoundListed
+mod AssignmentsStand
 mod NotEntered
 mod FileSteps
 mod LinesCounted

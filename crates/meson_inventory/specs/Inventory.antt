@@ -1,12 +1,14 @@
 -- What a project holds as JSON, and as lines for people.
-use Rattle.std.specs.Prelude.{ℕ, ◌+◌, ◌==◌, List, [], ◌++◌, length, map, filter, take, flat_map, codes, decimal, Option, Some, None}
+use Rattle.std.specs.Prelude.{ℕ, ◌+◌, ◌==◌, Bool, true, false, List, [], ◌++◌, length, map, filter, take, flat_map, codes, decimal, Option, Some, None}
 use Rattle.serde_json.specs.Data.{Data, number, unsigned, string, array, object, no_members, member}
 use Rattle.serde_json.specs.View.{items_of}
 use Rattle.meson_splice.specs.declared.file_set.File.{File}
 use Rattle.meson_splice.specs.Files.{bytes_at}
 use Rattle.meson_calls.specs.Loading.{Loaded, name_of_file}
 use Rattle.meson_listing.specs.Entries.{text_or_null}
+use Rattle.meson_inventory.specs.Assignments.{assignments}
 use Rattle.meson_inventory.specs.Holdings.{calls_held, holdings}
+use Rattle.meson_inventory.specs.declared.assignments.HeldAssignment.{HeldAssignment}
 use Rattle.meson_inventory.specs.declared.holdings.HeldCall.{HeldCall}
 
 -- ---- as JSON
@@ -30,6 +32,24 @@ project_data l =
     object (member (codes "files") (array (items_of (map file_data l.files)))
     (member (codes "not_entered") (array (items_of (map (spot_data l.files) (holdings l).not_entered)))
     (member (codes "targets") (array (items_of (map (held_data l.files) (holdings l).targets))) no_members)))
+
+-- the calls of a function, of any name
+abbrev pub calls_data : Loaded → List ℕ → Data
+calls_data l function = object (member (codes "calls") (array (items_of (map (held_data l.files) (calls_held l function)))) no_members)
+
+-- whether a variable is set or added to
+abbrev pub operator_of : Bool → List ℕ
+operator_of true = codes "="
+operator_of false = codes "+="
+
+-- the place of an assignment, its variable and its operator
+abbrev pub assignment_data : List File → HeldAssignment → Data
+assignment_data files a =
+    object (member (codes "at") (number (unsigned a.span.from)) (member (codes "file") (string (name_of_file a.file files))
+    (member (codes "name") (string a.variable) (member (codes "operator") (string (operator_of a.sets)) no_members))))
+
+abbrev pub assignments_data : Loaded → Data
+assignments_data l = object (member (codes "assignments") (array (items_of (map (assignment_data l.files) (assignments l)))) no_members)
 
 -- ---- as lines
 
@@ -63,3 +83,17 @@ project_lines l =
 -- a line for each call of a function
 abbrev pub calls_lines : Loaded → List ℕ → List ℕ
 calls_lines l function = flat_map (call_line l.files []) (calls_held l function)
+
+abbrev pub added_part : Bool → List ℕ
+added_part true = []
+added_part false = codes ", added to"
+
+-- `FILE:LINE: variable NAME`, and whether it is added to
+abbrev pub assignment_line : List File → HeldAssignment → List ℕ
+assignment_line files a =
+    name_of_file a.file files ++ (codes ":" ++ (decimal (line_number (bytes_at a.file files) a.span.from) ++ (codes ": variable "
+    ++ (a.variable ++ (added_part a.sets ++ codes "\n")))))
+
+-- a line for each assignment
+abbrev pub assignments_lines : Loaded → List ℕ
+assignments_lines l = flat_map (assignment_line l.files) (assignments l)

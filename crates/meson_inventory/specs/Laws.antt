@@ -1,15 +1,22 @@
--- What is promised about the calls that are listed of a project, in the words of ids and of variables.
-use Rattle.std.specs.Prelude.{◌≡◌, ◌≢◌, ◌⊎◌, ℕ, false, List, [], filter, Some, All}
+-- What is promised about the calls and assignments that are listed of a project, in the words of ids, of variables and of trees.
+use Rattle.std.specs.Prelude.{◌≡◌, ◌≢◌, ◌↔◌, ◌⊎◌, ℕ, false, List, [], filter, Option, Some, None, option_and_then, All}
 use Rattle.std.specs.List.{Contains, list_any}
+use Rattle.meson_lex.specs.declared.kinds.Span.{Span}
+use Rattle.meson_syntax.specs.Paths.{Sort, of_expression, of_statement, of_block, Node, block_of, reach}
+use Rattle.meson_syntax.specs.Tree.{Statement}
 use Rattle.meson_calls.specs.declared.call.CallRef.{CallRef}
 use Rattle.meson_calls.specs.declared.call.Role.TheVariants as role
 use Rattle.meson_calls.specs.Calls.{calls}
 use Rattle.meson_calls.specs.Loading.{Loaded, IsProject, project}
 use Rattle.meson_calls.specs.Naming.{found}
+use Rattle.meson_calls.specs.Parts.{a_statement}
+use Rattle.meson_calls.specs.Project.{Project, nth_file}
 use Rattle.meson_calls.specs.Roles.{places}
 use Rattle.meson_variables.specs.Variables.{all_known}
 use Rattle.meson_calls.specs.Subdirs.{enters_unknown}
+use Rattle.meson_inventory.specs.Assignments.{assignment_of, assignments}
 use Rattle.meson_inventory.specs.Holdings.{held_call, held_calls, holdings}
+use Rattle.meson_inventory.specs.declared.assignments.HeldAssignment.{HeldAssignment}
 use Rattle.meson_inventory.specs.declared.holdings.HeldCall.{HeldCall}
 
 -- ---- What an id finds is among the listed targets, and has the id there as its name or its variable.
@@ -34,3 +41,25 @@ pub record TellsWhyUnknown (l : Loaded) : Type 0 where
 
 abbrev pub NotEnteredMeansUnknown : Type 0
 NotEnteredMeansUnknown = (l : Loaded) → IsProject l → TellsWhyUnknown l
+
+-- ---- The assignments that are listed are those that the trees have.
+
+abbrev pub statement_in : (sort : Sort) → Node sort Span → Option (Statement Span)
+statement_in of_expression e = None
+statement_in of_statement s = Some s
+statement_in of_block b = None
+
+-- the statement at a place
+abbrev pub statement_at : Project Span → CallRef → Option (Statement Span)
+statement_at p c =
+    option_and_then (λ f. option_and_then (λ h. statement_in h.sort h.inside) (reach Span of_block (block_of f.tree) c.path.steps)) (nth_file p c.file)
+
+-- at some place a statement is this assignment
+pub record StandsIn (p : Project Span) (a : HeldAssignment) : Type 0 where
+  pub place : CallRef
+  pub statement : Statement Span
+  pub is_there : statement_at p place ≡ Some statement
+  pub is_it : assignment_of place.file (a_statement statement) ≡ Some a
+
+abbrev pub AssignmentsAreListed : Type 0
+AssignmentsAreListed = (l : Loaded) (a : HeldAssignment) → Contains (assignments l) a ↔ StandsIn (project l) a

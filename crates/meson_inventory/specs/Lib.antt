@@ -1,3 +1,4 @@
+pub mod Assignments
 pub mod Holdings
 pub mod Info
 pub mod Inventory

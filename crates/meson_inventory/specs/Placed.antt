@@ -3,14 +3,17 @@ use Rattle.std.specs.Prelude.{ℕ, List, if◌then◌else◌, map, codes}
 use Rattle.std.specs.Str.{is_utf8}
 use Rattle.serde_json.specs.Data.{Data, null, number, unsigned, string, array, object, no_members, member}
 use Rattle.serde_json.specs.View.{items_of}
+use Rattle.meson_lex.specs.declared.kinds.Span.{Span}
 use Rattle.meson_splice.specs.declared.file_set.File.{File}
 use Rattle.meson_splice.specs.Files.{bytes_at}
 use Rattle.meson_syntax.specs.View.{text_at}
 use Rattle.meson_ranges.specs.Positions.{position_of}
 use Rattle.meson_calls.specs.Loading.{Loaded, name_of_file}
 use Rattle.meson_listing.specs.Entries.{text_or_null}
+use Rattle.meson_inventory.specs.Assignments.{assignments}
 use Rattle.meson_inventory.specs.Holdings.{calls_held, holdings}
-use Rattle.meson_inventory.specs.Inventory.{file_data}
+use Rattle.meson_inventory.specs.Inventory.{file_data, operator_of}
+use Rattle.meson_inventory.specs.declared.assignments.HeldAssignment.{HeldAssignment}
 use Rattle.meson_inventory.specs.declared.holdings.HeldCall.{HeldCall}
 
 abbrev pub count : ℕ → Data
@@ -23,17 +26,21 @@ line_at files file offset = count (position_of (bytes_at file files) offset).lin
 abbrev pub character_at : List File → ℕ → ℕ → Data
 character_at files file offset = count (position_of (bytes_at file files) offset).character
 
--- where a call ends: after its last byte
-abbrev pub end_data : List File → HeldCall → Data
-end_data files c =
-    object (member (codes "at") (count c.end) (member (codes "character") (character_at files c.file c.end)
-    (member (codes "line") (line_at files c.file c.end) no_members)))
+-- where something ends in a file: after its last byte
+abbrev pub end_data : List File → ℕ → ℕ → Data
+end_data files file end =
+    object (member (codes "at") (count end) (member (codes "character") (character_at files file end)
+    (member (codes "line") (line_at files file end) no_members)))
 
--- the place of a call
-abbrev pub placed_spot_data : List File → HeldCall → Data
-placed_spot_data files c =
-    object (member (codes "at") (count c.head.at) (member (codes "character") (character_at files c.file c.head.at) (member (codes "end") (end_data files c)
-    (member (codes "file") (string (name_of_file c.file files)) (member (codes "line") (line_at files c.file c.head.at) no_members)))))
+-- the place of what is at a span of a file
+abbrev pub placed_spot_data : List File → ℕ → Span → Data
+placed_spot_data files file span =
+    object (member (codes "at") (count span.from) (member (codes "character") (character_at files file span.from)
+    (member (codes "end") (end_data files file span.to) (member (codes "file") (string (name_of_file file files))
+    (member (codes "line") (line_at files file span.from) no_members)))))
+
+abbrev pub call_span : HeldCall → Span
+call_span c = record { from = c.head.at; to = c.end }
 
 -- the bytes from one offset of a file up to another, as a text; null if they are not UTF-8
 abbrev pub bytes_data : List ℕ → Data
@@ -41,22 +48,22 @@ bytes_data bytes = if is_utf8 bytes then string bytes else null
 
 -- the text of a call in its file
 abbrev pub call_text : List File → HeldCall → List ℕ
-call_text files c = text_at (bytes_at c.file files) (record { from = c.head.at; to = c.end })
+call_text files c = text_at (bytes_at c.file files) (call_span c)
 
 -- the place of a `subdir` call that is not entered, and its text
 abbrev pub unentered_data : List File → HeldCall → Data
 unentered_data files c =
-    object (member (codes "at") (count c.head.at) (member (codes "character") (character_at files c.file c.head.at) (member (codes "end") (end_data files c)
-    (member (codes "file") (string (name_of_file c.file files)) (member (codes "line") (line_at files c.file c.head.at)
-    (member (codes "text") (bytes_data (call_text files c)) no_members))))))
+    object (member (codes "at") (count c.head.at) (member (codes "character") (character_at files c.file c.head.at)
+    (member (codes "end") (end_data files c.file c.end) (member (codes "file") (string (name_of_file c.file files))
+    (member (codes "line") (line_at files c.file c.head.at) (member (codes "text") (bytes_data (call_text files c)) no_members))))))
 
 -- the place of a call, and its names
 abbrev pub placed_call_data : List File → HeldCall → Data
 placed_call_data files c =
-    object (member (codes "at") (count c.head.at) (member (codes "character") (character_at files c.file c.head.at) (member (codes "end") (end_data files c)
-    (member (codes "file") (string (name_of_file c.file files)) (member (codes "function") (string c.head.function)
-    (member (codes "line") (line_at files c.file c.head.at) (member (codes "name") (text_or_null c.head.name)
-    (member (codes "variable") (text_or_null c.variable) no_members))))))))
+    object (member (codes "at") (count c.head.at) (member (codes "character") (character_at files c.file c.head.at)
+    (member (codes "end") (end_data files c.file c.end) (member (codes "file") (string (name_of_file c.file files))
+    (member (codes "function") (string c.head.function) (member (codes "line") (line_at files c.file c.head.at)
+    (member (codes "name") (text_or_null c.head.name) (member (codes "variable") (text_or_null c.variable) no_members))))))))
 
 abbrev pub placed_project_data : Loaded → Data
 placed_project_data l =
@@ -65,5 +72,16 @@ placed_project_data l =
     (member (codes "targets") (array (items_of (map (placed_call_data l.files) (holdings l).targets))) no_members)))
 
 -- the calls of a function, of any name
-abbrev pub calls_data : Loaded → List ℕ → Data
-calls_data l function = object (member (codes "calls") (array (items_of (map (placed_call_data l.files) (calls_held l function)))) no_members)
+abbrev pub placed_calls_data : Loaded → List ℕ → Data
+placed_calls_data l function = object (member (codes "calls") (array (items_of (map (placed_call_data l.files) (calls_held l function)))) no_members)
+
+-- the place of an assignment, its variable and its operator
+abbrev pub placed_assignment_data : List File → HeldAssignment → Data
+placed_assignment_data files a =
+    object (member (codes "at") (count a.span.from) (member (codes "character") (character_at files a.file a.span.from)
+    (member (codes "end") (end_data files a.file a.span.to) (member (codes "file") (string (name_of_file a.file files))
+    (member (codes "line") (line_at files a.file a.span.from) (member (codes "name") (string a.variable)
+    (member (codes "operator") (string (operator_of a.sets)) no_members)))))))
+
+abbrev pub placed_assignments_data : Loaded → Data
+placed_assignments_data l = object (member (codes "assignments") (array (items_of (map (placed_assignment_data l.files) (assignments l)))) no_members)

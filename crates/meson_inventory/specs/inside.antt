@@ -1,2 +1,3 @@
+pub mod Assignments
 pub mod Holdings
 pub mod Positions

@@ -1,6 +1,6 @@
 //! Laws of what a project holds. The contract of each function is a law.
 
-ghost use Rattle.meson_inventory.specs.Laws.{FoundAreListed, NotEnteredMeansUnknown};
+ghost use Rattle.meson_inventory.specs.Laws.{AssignmentsAreListed, FoundAreListed, NotEnteredMeansUnknown};
 
 use meson_calls::laws::parts_are_all;
 
@@ -15,4 +15,9 @@ pub fn found_are_listed()
 /// variable of the project is known. Without one, no `subdir` call is the reason why a variable is unknown.
 pub fn not_entered_means_unknown()
     ensures { NotEnteredMeansUnknown }
+{}
+
+/// An assignment is listed exactly where a statement of the project is one.
+pub fn assignments_are_listed()
+    ensures { AssignmentsAreListed }
 {}

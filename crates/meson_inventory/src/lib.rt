@@ -1,6 +1,8 @@
-//! What a project holds: its files, its targets, and the `subdir` calls that enter none of its files, as JSON and as lines.
+//! What a project holds: its files, its targets, and the `subdir` calls that enter none of its files; its calls of a function; and its assignments. Each as
+//! JSON and as lines.
 #![tactic(auto)]
 
+mod assignments;
 mod holdings;
 mod info;
 mod inventory;
@@ -11,6 +13,6 @@ mod placed;
 mod position_counter;
 
 pub use info::{placed_info, placed_info_kwargs, placed_info_target};
-pub use inventory::project_object;
-pub use lines::{calls_lines, project_lines};
-pub use placed::{calls_object, placed_project_object};
+pub use inventory::{assignments_object, calls_object, project_object};
+pub use lines::{assignments_lines, calls_lines, project_lines};
+pub use placed::{placed_assignments_object, placed_calls_object, placed_project_object};

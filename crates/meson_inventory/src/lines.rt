@@ -2,8 +2,9 @@
 
 ghost use Rattle.std.specs.Prelude.{◌≡◌, IfOk, flat_map, string_bytes};
 ghost use Rattle.meson_splice.specs.Files.{bytes_at};
-ghost use Rattle.meson_inventory.specs.Inventory.{call_line, calls_lines, file_line, line_number, named_part, project_lines, variable_part};
+ghost use Rattle.meson_inventory.specs.Inventory.{assignment_line, assignments_lines, call_line, calls_lines, file_line, line_number, named_part, project_lines, variable_part};
 
+use crate::assignments::{HeldAssignment, assignments_held};
 use crate::holdings::{HeldCall, calls_held, holdings_of};
 use crate::line_counter::LineCounter;
 use meson_listing::entries::file_name;
@@ -113,4 +114,49 @@ pub fn calls_lines(alloc: Global, project: &Project, function: &str) -> Result<S
 {
     let calls = calls_held(alloc, project, function)?;
     call_lines(alloc, project.files(), "", calls.get())
+}
+
+/// The line of an assignment, which begins on the line of this number.
+fn assignment_line(
+    alloc: Global,
+    files: &FileSet,
+    number: usize,
+    assignment: &HeldAssignment,
+) -> Result<String, AllocError>
+    requires { number ≡ line_number (bytes_at assignment.now.file files.now) assignment.now.span.from }
+    ensures { IfOk result (λ line. string_bytes line ≡ assignment_line files.now assignment.now) }
+{
+    let file = file_name(files, assignment.file);
+    let variable = assignment.variable.get();
+    let added = if assignment.sets { "" } else { ", added to" };
+    format!(in alloc; "{file}:{number}: variable {variable}{added}\n")
+}
+
+/// The lines of some assignments.
+fn assignment_lines(
+    alloc: Global,
+    files: &FileSet,
+    assignments: &[HeldAssignment],
+) -> Result<String, AllocError>
+    ensures { IfOk result (λ text. string_bytes text ≡ flat_map (assignment_line files.now) assignments.now) }
+{
+    let mut lines = LineCounter::new(files);
+    let mut text = String::new(alloc);
+    for assignment in assignments {
+        let number = lines.line_of(assignment.file, assignment.span.from);
+        let line = assignment_line(alloc, files, number, assignment)?;
+        text.push_str(line.as_str())?;
+    }
+    Ok(text)
+}
+
+/// The assignments, in lines of the form `FILE:LINE: WHAT`, with the number of the line counted from 1.
+///
+/// # Errors
+/// Out of memory.
+pub fn assignments_lines(alloc: Global, project: &Project) -> Result<String, AllocError>
+    ensures { IfOk result (λ text. string_bytes text ≡ assignments_lines project.now) }
+{
+    let assignments = assignments_held(alloc, project)?;
+    assignment_lines(alloc, project.files(), assignments.get())
 }

@@ -4,10 +4,12 @@ ghost use Rattle.std.specs.Prelude.{◌≡◌, IfOk, codes, map};
 ghost use Rattle.serde_json.specs.Data.{array, member, no_members, object, string};
 ghost use Rattle.serde_json.specs.View.{items_of, members_view, view};
 ghost use Rattle.meson_calls.specs.Loading.{name_of_file};
-ghost use Rattle.meson_inventory.specs.Placed.{bytes_data, calls_data, character_at, count, end_data, line_at, placed_call_data, placed_project_data, placed_spot_data, unentered_data};
+ghost use Rattle.meson_inventory.specs.Inventory.{operator_of};
+ghost use Rattle.meson_inventory.specs.Placed.{bytes_data, call_span, character_at, count, end_data, line_at, placed_assignment_data, placed_assignments_data, placed_call_data, placed_calls_data, placed_project_data, placed_spot_data, unentered_data};
 
+use crate::assignments::{HeldAssignment, assignments_held};
 use crate::holdings::{HeldCall, Holdings, calls_held, holdings_of};
-use crate::inventory::files_value;
+use crate::inventory::{files_value, operator_of};
 use crate::line_counter::file_bytes;
 use crate::position_counter::PositionCounter;
 use meson_calls::roles::text_of;
@@ -41,29 +43,40 @@ pub(crate) fn offset_members(
     Ok(members)
 }
 
-/// The place of a call: where it begins and where it ends.
+/// The place of a call or an assignment: where it begins in its file and where it ends.
 fn place_members(
     alloc: Global,
     files: &FileSet,
     positions: &mut PositionCounter<'_>,
-    call: &HeldCall,
+    file: usize,
+    span: Span,
 ) -> Result<Map<String, Value>, AllocError>
     requires { positions.old.files.now ≡ files.now }
-    ensures members { IfOk result (λ m. object (members_view m.entries) ≡ placed_spot_data files.now call.now) }
+    ensures members { IfOk result (λ m. object (members_view m.entries) ≡ placed_spot_data files.now file span) }
     ensures files { positions.new.files.now ≡ positions.old.files.now }
 {
-    let start = positions.go_to(call.file, call.head.at);
-    let end = positions.position_of(call.file, call.end);
-    let mut members = offset_members(alloc, call.head.at, start)?;
-    let end = offset_members(alloc, call.end, end)?;
+    let start = positions.go_to(file, span.from);
+    let end = positions.position_of(file, span.to);
+    let mut members = offset_members(alloc, span.from, start)?;
+    let end = offset_members(alloc, span.to, end)?;
     put(&mut members, alloc, "end", Value::Object(end))?;
     put(
         &mut members,
         alloc,
         "file",
-        Value::try_from_str(alloc, file_name(files, call.file))?,
+        Value::try_from_str(alloc, file_name(files, file))?,
     )?;
     Ok(members)
+}
+
+/// From the first byte of a call to its last.
+fn call_span(call: &HeldCall) -> Span
+    ensures { result ≡ call_span call.now }
+{
+    Span {
+        from: call.head.at,
+        to: call.end,
+    }
 }
 
 /// A call, with its place and its names.
@@ -77,7 +90,7 @@ fn call_value(
     ensures value { IfOk result (λ v. view v ≡ placed_call_data files.now call) }
     ensures files { positions.new.files.now ≡ positions.old.files.now }
 {
-    let mut members = place_members(alloc, files, positions, &call)?;
+    let mut members = place_members(alloc, files, positions, call.file, call_span(&call))?;
     let HeldCall {
         file: _,
         head,
@@ -128,11 +141,8 @@ fn unentered_value(
     ensures value { IfOk result (λ v. view v ≡ unentered_data files.now call.now) }
     ensures files { positions.new.files.now ≡ positions.old.files.now }
 {
-    let mut members = place_members(alloc, files, positions, call)?;
-    let span = Span {
-        from: call.head.at,
-        to: call.end,
-    };
+    let span = call_span(call);
+    let mut members = place_members(alloc, files, positions, call.file, span)?;
     let text = text_of(file_bytes(files, call.file), span);
     put(&mut members, alloc, "text", bytes_value(alloc, text)?)?;
     Ok(Value::Object(members))
@@ -180,12 +190,16 @@ pub fn placed_project_object(alloc: Global, project: &Project) -> Result<Value, 
     Ok(Value::Object(members))
 }
 
-/// The calls of a function, of any name, with their places and their names: an object with the member `calls`.
+/// The calls of a function, as `calls_object` has them, with the position of each and where it ends.
 ///
 /// # Errors
 /// Out of memory.
-pub fn calls_object(alloc: Global, project: &Project, function: &str) -> Result<Value, AllocError>
-    ensures { IfOk result (λ v. view v ≡ calls_data project.now function.now) }
+pub fn placed_calls_object(
+    alloc: Global,
+    project: &Project,
+    function: &str,
+) -> Result<Value, AllocError>
+    ensures { IfOk result (λ v. view v ≡ placed_calls_data project.now function.now) }
 {
     let calls = calls_held(alloc, project, function)?;
     let mut members = Map::new(alloc);
@@ -194,6 +208,68 @@ pub fn calls_object(alloc: Global, project: &Project, function: &str) -> Result<
         alloc,
         "calls",
         calls_value(alloc, project.files(), calls)?,
+    )?;
+    Ok(Value::Object(members))
+}
+
+/// An assignment, with its place.
+fn assignment_value(
+    alloc: Global,
+    files: &FileSet,
+    positions: &mut PositionCounter<'_>,
+    assignment: HeldAssignment,
+) -> Result<Value, AllocError>
+    requires { positions.old.files.now ≡ files.now }
+    ensures value { IfOk result (λ v. view v ≡ placed_assignment_data files.now assignment) }
+    ensures files { positions.new.files.now ≡ positions.old.files.now }
+{
+    let HeldAssignment {
+        file,
+        span,
+        variable,
+        sets,
+    } = assignment;
+    let mut members = place_members(alloc, files, positions, file, span)?;
+    put(&mut members, alloc, "name", Value::String(variable.take()))?;
+    put(
+        &mut members,
+        alloc,
+        "operator",
+        Value::try_from_str(alloc, operator_of(sets))?,
+    )?;
+    Ok(Value::Object(members))
+}
+
+/// Assignments, with their places.
+fn assignments_value(
+    alloc: Global,
+    files: &FileSet,
+    assignments: Many<HeldAssignment>,
+) -> Result<Value, AllocError>
+    ensures { IfOk result (λ v. view v ≡ array (items_of (map (placed_assignment_data files.now) assignments))) }
+{
+    let mut positions = PositionCounter::new(files);
+    let mut list = Vec::new(alloc);
+    for assignment in assignments.take() {
+        list.push(assignment_value(alloc, files, &mut positions, assignment)?)?;
+    }
+    Ok(Value::Array(list))
+}
+
+/// The assignments, as `assignments_object` has them, with the position of each and where it ends.
+///
+/// # Errors
+/// Out of memory.
+pub fn placed_assignments_object(alloc: Global, project: &Project) -> Result<Value, AllocError>
+    ensures { IfOk result (λ v. view v ≡ placed_assignments_data project.now) }
+{
+    let assignments = assignments_held(alloc, project)?;
+    let mut members = Map::new(alloc);
+    put(
+        &mut members,
+        alloc,
+        "assignments",
+        assignments_value(alloc, project.files(), assignments)?,
     )?;
     Ok(Value::Object(members))
 }

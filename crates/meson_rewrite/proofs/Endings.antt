@@ -283,6 +283,8 @@ shown-ends a b c text u asks = of-action a.action refl asks
     of-action action.Redo at is = absurd (let no : ⊥ = cc in no)
     of-action action.History at is = absurd (let no : ⊥ = cc in no)
     of-action (action.List json) at is = absurd (let no : ⊥ = cc in no)
+    of-action (action.ListCalls function json) at is = absurd (let no : ⊥ = cc in no)
+    of-action (action.ListAssignments json) at is = absurd (let no : ⊥ = cc in no)
     of-action action.Sums at is = absurd (let no : ⊥ = cc in no)
     of-action (action.Help t) at is = let same : t ≡ text = cc in helped a text u refl (at ∙ ap action.Help same)
     of-action action.Version at is =
@@ -312,6 +314,8 @@ asks-only title action.ForgetAll held step is t = absurd (let no : ⊥ = cc in n
 asks-only title action.Redo held step is t = absurd (let no : ⊥ = cc in no)
 asks-only title action.History held step is t = absurd (let no : ⊥ = cc in no)
 asks-only title (action.List json) held step is t = absurd (let no : ⊥ = cc in no)
+asks-only title (action.ListCalls function json) held step is t = absurd (let no : ⊥ = cc in no)
+asks-only title (action.ListAssignments json) held step is t = absurd (let no : ⊥ = cc in no)
 asks-only title action.Sums held step is t = absurd (let no : ⊥ = cc in no)
 asks-only title (action.Help text) held step is t = absurd (let no : ⊥ = cc in no)
 asks-only title action.Version held step is t = absurd (let no : ⊥ = cc in no)
@@ -332,6 +336,8 @@ asks-same a t = go a.action t
     go action.Redo t = t
     go action.History t = t
     go (action.List json) t = t
+    go (action.ListCalls function json) t = t
+    go (action.ListAssignments json) t = t
     go action.Sums t = t
     go (action.Help text) t = t
     go action.Version t = t

@@ -26,10 +26,11 @@ use Rattle.meson_details.specs.declared.details.Head.{Head}
 use Rattle.meson_details.specs.declared.details.Shown.{Shown}
 use Rattle.meson_details.specs.declared.details.Shown.TheVariants as shown
 use Rattle.meson_listing.specs.Entries.{call_data, id_data, item_data, put_each, shown_data, target_data, text_or_null}
-use Rattle.meson_inventory.specs.Holdings.{holdings}
-use Rattle.meson_inventory.specs.Inventory.{file_data, project_data, spot_data}
+use Rattle.meson_inventory.specs.Assignments.{assignments}
+use Rattle.meson_inventory.specs.Holdings.{calls_held, holdings}
+use Rattle.meson_inventory.specs.Inventory.{assignment_data, assignments_data, calls_data, file_data, project_data, spot_data}
 use Rattle.meson_inventory.specs.Inventory as inventory
-use Rattle.meson_inventory.specs.Placed.{bytes_data, call_text, placed_call_data, placed_project_data, unentered_data}
+use Rattle.meson_inventory.specs.Placed.{bytes_data, call_text, placed_assignment_data, placed_assignments_data, placed_call_data, placed_calls_data, placed_project_data, unentered_data}
 use Rattle.meson_plan.specs.Listing.{call_listing, kwargs_listing, or_not_found, target_at, target_listing, told}
 use Rattle.meson_script.specs.Running.{Runs, nothing_ran, ran_more}
 use Rattle.meson_script.specs.declared.session.Report.{Report}
@@ -116,6 +117,20 @@ project-with-positions-plain l =
     let spots = all-plain (unentered_data l.files) (holdings l).not_entered (λ c. rw (bytes-plain (call_text l.files c)) refl) in
     let calls = all-plain (placed_call_data l.files) (holdings l).targets (λ c. rw (text-plain c.head.name, text-plain c.variable) refl) in
     rw (files, spots, calls) refl
+
+-- ---- its calls of a function, and its assignments
+
+pub calls-plain : (l : Loaded) (function : List ℕ) → has_float (calls_data l function) ≡ false
+calls-plain l function = rw (all-plain (inventory.held_data l.files) (calls_held l function) (λ c. rw (text-plain c.head.name, text-plain c.variable) refl)) refl
+
+pub calls-with-positions-plain : (l : Loaded) (function : List ℕ) → has_float (placed_calls_data l function) ≡ false
+calls-with-positions-plain l function = rw (all-plain (placed_call_data l.files) (calls_held l function) (λ c. rw (text-plain c.head.name, text-plain c.variable) refl)) refl
+
+pub assignments-plain : (l : Loaded) → has_float (assignments_data l) ≡ false
+assignments-plain l = rw (all-plain (assignment_data l.files) (assignments l) (λ a. refl)) refl
+
+pub assignments-with-positions-plain : (l : Loaded) → has_float (placed_assignments_data l) ≡ false
+assignments-with-positions-plain l = rw (all-plain (placed_assignment_data l.files) (assignments l) (λ a. refl)) refl
 
 -- ---- a listing, if it is made
 

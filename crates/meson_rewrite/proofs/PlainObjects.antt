@@ -19,9 +19,9 @@ use Rattle.meson_script.specs.declared.session.Report.{Report}
 use Rattle.meson_script.specs.declared.session.Session.{Session}
 use Rattle.meson_rewrite.specs.Listed.{listed_data}
 use Rattle.meson_rewrite.specs.declared.request.Listing.{Listing}
-use Rattle.meson_rewrite.specs.declared.request.Listing.TheVariants.{History, Holdings, Sums}
+use Rattle.meson_rewrite.specs.declared.request.Listing.TheVariants.{History, Holdings, Calls, Assignments, Sums}
 use Rattle.meson_rewrite.specs.Objects.{change_data, changes_data, done_members, edit_data, file_edits_data, forgot_data, history_data, sum_data, sums_data}
-use Rattle.meson_rewrite.proofs.Listings.{all-plain, either, project-with-positions-plain}
+use Rattle.meson_rewrite.proofs.Listings.{all-plain, either, assignments-with-positions-plain, calls-with-positions-plain, project-with-positions-plain}
 
 -- ---- numbers
 
@@ -49,6 +49,8 @@ sums-plain files = rw (all-plain sum_data files (λ f. refl)) refl
 pub listed-plain : (listing : Listing) (session : Session) → has_float (listed_data listing session) ≡ false
 listed-plain History session = history-plain session.history
 listed-plain (Holdings json) session = project-with-positions-plain session.project
+listed-plain (Calls function json) session = calls-with-positions-plain session.project function
+listed-plain (Assignments json) session = assignments-with-positions-plain session.project
 listed-plain Sums session = sums-plain session.project.files
 
 -- ---- text

@@ -64,6 +64,8 @@ same-file action.ForgetAll reads = refl
 same-file action.Redo reads = refl
 same-file action.History reads = refl
 same-file (action.List json) reads = refl
+same-file (action.ListCalls function json) reads = refl
+same-file (action.ListAssignments json) reads = refl
 same-file action.Sums reads = refl
 same-file (action.Help text) reads = refl
 same-file action.Version reads = refl
@@ -91,6 +93,8 @@ same-project title action.ForgetAll before asks = asks
 same-project title action.Redo before asks = asks
 same-project title action.History before asks = asks
 same-project title (action.List json) before asks = asks
+same-project title (action.ListCalls function json) before asks = asks
+same-project title (action.ListAssignments json) before asks = asks
 same-project title action.Sums before asks = asks
 same-project title (action.Help text) before (inl (step, is)) = absurd (let no : ⊥ = cc in no)
 same-project title (action.Help text) before (inr (listing, is)) = absurd (let no : ⊥ = cc in no)
@@ -131,6 +135,8 @@ module _ (a : Asked) (before : Option Content) (reads : ℕ) where
         of-action action.Redo is h = h
         of-action action.History is h = absurd (let no : ⊥ = cc in no)
         of-action (action.List json) is h = absurd (let no : ⊥ = cc in no)
+        of-action (action.ListCalls function json) is h = absurd (let no : ⊥ = cc in no)
+        of-action (action.ListAssignments json) is h = absurd (let no : ⊥ = cc in no)
         of-action action.Sums is h = absurd (let no : ⊥ = cc in no)
         of-action (action.Help text) is h = absurd (let no : ⊥ = cc in no)
         of-action action.Version is h = absurd (let no : ⊥ = cc in no)
@@ -154,6 +160,8 @@ module _ (a : Asked) (before : Option Content) (reads : ℕ) where
         of-action action.Redo is h = absurd (let no : ⊥ = cc in no)
         of-action action.History is h = h
         of-action (action.List json) is h = h
+        of-action (action.ListCalls function json) is h = h
+        of-action (action.ListAssignments json) is h = h
         of-action action.Sums is h = h
         of-action (action.Help text) is h = absurd (let no : ⊥ = cc in no)
         of-action action.Version is h = absurd (let no : ⊥ = cc in no)
@@ -175,6 +183,8 @@ module _ (a : Asked) (before : Option Content) (reads : ℕ) where
       of-action action.Redo is e = absurd (let no : ⊥ = cc in no)
       of-action action.History is e = absurd (let no : ⊥ = cc in no)
       of-action (action.List json) is e = absurd (let no : ⊥ = cc in no)
+      of-action (action.ListCalls function json) is e = absurd (let no : ⊥ = cc in no)
+      of-action (action.ListAssignments json) is e = absurd (let no : ⊥ = cc in no)
       of-action action.Sums is e = absurd (let no : ⊥ = cc in no)
       of-action (action.Help t) is e = e
       of-action action.Version is e = e

@@ -3,30 +3,44 @@ use Rattle.std.specs.Prelude.{ℕ, Bool, true, false, List, if◌then◌else◌}
 use Rattle.serde_json.specs.Data.{Data}
 use Rattle.serde_json.specs.Written.{compact_text}
 use Rattle.meson_calls.specs.Loading.{Loaded}
-use Rattle.meson_inventory.specs.Inventory.{project_data, project_lines}
-use Rattle.meson_inventory.specs.Placed.{placed_project_data}
+use Rattle.meson_inventory.specs.Inventory.{assignments_data, assignments_lines, calls_data, calls_lines, project_data, project_lines}
+use Rattle.meson_inventory.specs.Placed.{placed_assignments_data, placed_calls_data, placed_project_data}
 use Rattle.meson_script.specs.declared.session.Session.{Session}
 use Rattle.meson_sums.specs.Sums.{sums}
 use Rattle.meson_rewrite.specs.Changes.{history_lines}
 use Rattle.meson_rewrite.specs.Lines.{line}
 use Rattle.meson_rewrite.specs.Objects.{history_data, sums_data}
 use Rattle.meson_rewrite.specs.declared.request.Listing.{Listing}
-use Rattle.meson_rewrite.specs.declared.request.Listing.TheVariants.{History, Holdings, Sums}
+use Rattle.meson_rewrite.specs.declared.request.Listing.TheVariants.{History, Holdings, Calls, Assignments, Sums}
 
 -- what a project holds: one line of JSON, or lines for people
 abbrev pub holdings_text : Bool → Loaded → List ℕ
 holdings_text true project = line (compact_text (project_data project))
 holdings_text false project = project_lines project
 
+-- its calls of a function
+abbrev pub calls_text : Bool → List ℕ → Loaded → List ℕ
+calls_text true function project = line (compact_text (calls_data project function))
+calls_text false function project = calls_lines project function
+
+-- its assignments
+abbrev pub assignments_text : Bool → Loaded → List ℕ
+assignments_text true project = line (compact_text (assignments_data project))
+assignments_text false project = assignments_lines project
+
 -- as lines, but for a project that is to be listed as JSON
 abbrev pub listed_text : Listing → Session → List ℕ
 listed_text History session = history_lines session.history
 listed_text (Holdings json) session = holdings_text json session.project
+listed_text (Calls function json) session = calls_text json function session.project
+listed_text (Assignments json) session = assignments_text json session.project
 listed_text Sums session = sums session.project.files
 
 abbrev pub listed_data : Listing → Session → Data
 listed_data History session = history_data session.history
 listed_data (Holdings json) session = placed_project_data session.project
+listed_data (Calls function json) session = placed_calls_data session.project function
+listed_data (Assignments json) session = placed_assignments_data session.project
 listed_data Sums session = sums_data session.project.files
 
 -- where the answer is JSON, one line of it

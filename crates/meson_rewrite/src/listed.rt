@@ -2,7 +2,7 @@
 
 ghost use Rattle.std.specs.Prelude.{◌≡◌, IfErr, IfOk};
 ghost use Rattle.serde_json.specs.View.{view};
-ghost use Rattle.meson_rewrite.specs.Listed.{holdings_text, listed_data, listed_text, listing_text};
+ghost use Rattle.meson_rewrite.specs.Listed.{assignments_text, calls_text, holdings_text, listed_data, listed_text, listing_text};
 ghost use Rattle.meson_rewrite.specs.Lines.{shown_text};
 ghost use Rattle.meson_rewrite.specs.Stops.{WantsMemory};
 
@@ -12,7 +12,10 @@ use crate::opening::{StoredSession, leave};
 use crate::request::Listing;
 use crate::said::{Said, json_line};
 use crate::stop::Stop;
-use meson_inventory::{placed_project_object, project_lines, project_object};
+use meson_inventory::{
+    assignments_lines, assignments_object, calls_lines, calls_object, placed_assignments_object,
+    placed_calls_object, placed_project_object, project_lines, project_object,
+};
 use meson_plan::Project;
 use meson_script::Session;
 use meson_splice::Bytes;
@@ -32,24 +35,61 @@ fn holdings_text(alloc: Global, project: &Project, json: bool) -> Result<Vec<u8>
     Ok(lines.into_bytes())
 }
 
+/// The calls of a function, as JSON or as lines.
+fn calls_text(
+    alloc: Global,
+    project: &Project,
+    function: &str,
+    json: bool,
+) -> Result<Vec<u8>, AllocError>
+    ensures { IfOk result (λ text. text.items ≡ calls_text json function.now project.now) }
+{
+    if json {
+        let listing = calls_object(alloc, project, function)?;
+        return json_line(alloc, &listing);
+    }
+    let lines = calls_lines(alloc, project, function)?;
+    Ok(lines.into_bytes())
+}
+
+/// The assignments of a project, as JSON or as lines.
+fn assignments_text(alloc: Global, project: &Project, json: bool) -> Result<Vec<u8>, AllocError>
+    ensures { IfOk result (λ text. text.items ≡ assignments_text json project.now) }
+{
+    if json {
+        let listing = assignments_object(alloc, project)?;
+        return json_line(alloc, &listing);
+    }
+    let lines = assignments_lines(alloc, project)?;
+    Ok(lines.into_bytes())
+}
+
 /// The content of a listing of a session, as JSON.
-fn listed_object(alloc: Global, session: &Session, listing: Listing) -> Result<Value, AllocError>
-    ensures { IfOk result (λ v. view v ≡ listed_data listing session.now) }
+fn listed_object(alloc: Global, session: &Session, listing: &Listing) -> Result<Value, AllocError>
+    ensures { IfOk result (λ v. view v ≡ listed_data listing.now session.now) }
 {
     match listing {
         Listing::History => history_object(alloc, &session.history),
         Listing::Holdings { .. } => placed_project_object(alloc, session.project()),
+        Listing::Calls { function, .. } => {
+            placed_calls_object(alloc, session.project(), function.get())
+        }
+        Listing::Assignments { .. } => placed_assignments_object(alloc, session.project()),
         Listing::Sums => sums_object(alloc, session.files()),
     }
 }
 
 /// The content of a listing of a session, as lines.
-fn listed_text(alloc: Global, session: &Session, listing: Listing) -> Result<Vec<u8>, AllocError>
-    ensures { IfOk result (λ text. text.items ≡ listed_text listing session.now) }
+fn listed_text(alloc: Global, session: &Session, listing: &Listing) -> Result<Vec<u8>, AllocError>
+    ensures { IfOk result (λ text. text.items ≡ listed_text listing.now session.now) }
 {
     match listing {
         Listing::History => history_text(alloc, &session.history),
-        Listing::Holdings { json } => holdings_text(alloc, session.project(), json),
+        Listing::Holdings { json } => holdings_text(alloc, session.project(), *json),
+        Listing::Calls { function, json } => {
+            calls_text(alloc, session.project(), function.get(), *json)
+        }
+        Listing::Assignments { json } => assignments_text(alloc, session.project(), *json),
         Listing::Sums => sums(alloc, session.files()),
     }
 }
@@ -58,10 +98,10 @@ fn listed_text(alloc: Global, session: &Session, listing: Listing) -> Result<Vec
 fn listing_text(
     alloc: Global,
     session: &Session,
-    listing: Listing,
+    listing: &Listing,
     json: bool,
 ) -> Result<Vec<u8>, AllocError>
-    ensures { IfOk result (λ text. text.items ≡ listing_text json listing session.now) }
+    ensures { IfOk result (λ text. text.items ≡ listing_text json listing.now session.now) }
 {
     if json {
         let listed = listed_object(alloc, session, listing)?;
@@ -81,7 +121,7 @@ pub(crate) fn listed(
     ensures none { IfErr result WantsMemory }
 {
     let StoredSession { session, log: _ } = opened;
-    let text = listing_text(alloc, &session, listing, json);
+    let text = listing_text(alloc, &session, &listing, json);
     leave(session);
     Ok(Said {
         out: Bytes::of(text?),

@@ -36,12 +36,16 @@ pub(crate) enum ProgramRequest {
 }
 
 /// What is listed of a project.
-#[derive(Clone, Copy)]
+#[derive(Drop)]
 pub(crate) enum Listing {
     /// The changes of its history.
     History,
     /// What it holds, as JSON or as lines.
     Holdings { json: bool },
+    /// Its calls of this function, as JSON or as lines.
+    Calls { function: Text, json: bool },
+    /// Its assignments, as JSON or as lines.
+    Assignments { json: bool },
     /// The digests of its files.
     Sums,
 }
@@ -191,6 +195,12 @@ fn asked_for(alloc: Global, action: Action, title: Text) -> Result<ProgramReques
         Action::Redo => Ok(ProgramRequest::Step(Step::Redo)),
         Action::History => Ok(ProgramRequest::List(Listing::History)),
         Action::List { json } => Ok(ProgramRequest::List(Listing::Holdings { json })),
+        Action::ListCalls { function, json } => {
+            Ok(ProgramRequest::List(Listing::Calls { function, json }))
+        }
+        Action::ListAssignments { json } => {
+            Ok(ProgramRequest::List(Listing::Assignments { json }))
+        }
         Action::Sums => Ok(ProgramRequest::List(Listing::Sums)),
         Action::ScriptFile { .. } => unreachable!(),
         Action::UndoChecked { .. } => unreachable!(),

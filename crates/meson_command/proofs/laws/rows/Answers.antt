@@ -31,6 +31,10 @@ pub returns-clause-texts : goal.returns-clause-texts
 unfolding clap_on_literals program target kwargs default_options command undo redo history list asked_from action_of other_action target_action kwargs_action kwargs_by options_action options_by script_action lone_names pairs_of count_of
 returns-clause-texts c = (refl, refl, refl, refl, refl, refl, refl, refl, refl, refl, refl, refl, refl, refl, refl, refl, refl, refl, refl)
 
+pub returns-clause-listed : goal.returns-clause-listed
+unfolding clap_on_literals program target kwargs default_options command undo redo history list asked_from action_of other_action target_action kwargs_action kwargs_by options_action options_by script_action lone_names pairs_of count_of
+returns-clause-listed c = (refl, refl, refl, refl, refl, refl, refl, refl, refl, refl, refl, refl, refl, refl, refl, refl, refl, refl, refl, refl, refl)
+
 pub returns-clause-other : goal.returns-clause-other
 unfolding clap_on_literals program target kwargs default_options command undo redo history list asked_from action_of other_action target_action kwargs_action kwargs_by options_action options_by script_action lone_names pairs_of count_of
 returns-clause-other c = (refl, refl, refl, refl, refl, refl, refl, refl, refl, refl, refl, refl, refl, refl, refl, refl, refl, refl, refl)

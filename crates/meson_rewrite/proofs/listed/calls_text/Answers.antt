@@ -1,0 +1,7 @@
+use Rattle.std.proofs.Common.{◌∙◌, ap}
+use Rattle.serde_json.specs.Written.{has_float}
+use Rattle.meson_rewrite.proofs.Listings.{calls-plain}
+use Rattle.meson_rewrite.proofs.listed.calls_text.Goals as goal
+
+pub json_line-requires : goal.json_line-requires
+json_line-requires c = ap has_float c.in_ok-listing.ensures ∙ calls-plain c.args.project.now c.args.function.now
