@@ -1,6 +1,7 @@
 mod CallsHeld
 mod CallPlacesListed
 mod FoundListed
+mod CallsNamed
 mod NotEntered
 mod FileSteps
 mod LinesCounted

@@ -1,7 +1,7 @@
 //! What a project holds: its files, its targets, and the `subdir` calls that enter none of its files, as JSON and as lines.
 #![tactic(auto)]
 
-mod holdings;
+pub mod holdings;
 mod inventory;
 pub mod laws;
 mod line_counter;
@@ -10,5 +10,6 @@ mod placed;
 mod position_counter;
 
 pub use inventory::project_object;
-pub use lines::{calls_lines, project_lines};
+pub use line_counter::file_bytes;
+pub use lines::{call_words, calls_lines, project_lines};
 pub use placed::{calls_object, placed_project_object};
