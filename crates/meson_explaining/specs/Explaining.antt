@@ -14,6 +14,7 @@ use Rattle.meson_explaining.specs.declared.explanation.Note.{Note}
 use Rattle.meson_explaining.specs.Keys.{keys, nearest_key, unknown_notes, wrong_notes}
 use Rattle.meson_explaining.specs.Nearest.{near_notes}
 use Rattle.meson_explaining.specs.Notes.{few_notes, further}
+use Rattle.meson_explaining.specs.Sources.{extras_at, sources_at, source_notes}
 use Rattle.meson_explaining.specs.Values.{value_notes}
 
 -- the kind of the call that a command is about, and the id that is to name it
@@ -95,6 +96,16 @@ wrong_kind c key = record { notes = wrong_notes (subject c).0 key; help = list_h
 abbrev pub not_literal : Loaded → Command → List ℕ → Explanation
 not_literal l c key = record { notes = value_notes l (subject c).0 (subject c).1 key; help = list_help (codes "set replaces the value") c }
 
+-- ---- the target does not have a source or an extra file
+
+abbrev pub with_info : List Note → Explanation
+with_info notes = record { notes = notes; help = codes "info lists the sources and extra files of a target" ∷ [] }
+
+abbrev pub not_there : Loaded → Command → Explanation
+not_there l (command.SourcesRemove target names) = with_info (source_notes (sources_at l target) names)
+not_there l (command.ExtraRemove target names) = with_info (source_notes (extras_at l target) names)
+not_there l _ = record { notes = []; help = [] }
+
 -- ---- each refusal
 
 abbrev pub explanation : Loaded → Command → Refusal → Explanation
@@ -103,4 +114,5 @@ explanation l c refusal.Ambiguous = ambiguous l (subject c).0 (subject c).1
 explanation l c (refusal.UnknownKey key) = unknown_key (subject c).0 key
 explanation l c (refusal.WrongKind key) = wrong_kind c key
 explanation l c (refusal.NotLiteral key) = not_literal l c key
+explanation l c refusal.SourceNotFound = not_there l c
 explanation l c _ = record { notes = []; help = [] }

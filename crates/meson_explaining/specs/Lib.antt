@@ -4,4 +4,5 @@ pub mod Explaining
 pub mod Lines
 pub mod Keys
 pub mod Values
+pub mod Sources
 pub mod Laws

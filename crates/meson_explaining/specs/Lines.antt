@@ -1,5 +1,6 @@
 -- An explanation as lines.
-use Rattle.std.specs.Prelude.{ℕ, ◌+◌, ◌==◌, nat_lt, nat_le, Bool, not, ◌||◌, if◌then◌else◌, List, [], ◌++◌, filter, flat_map, length, reverse, take, take_while, codes, decimal, encode_utf8, encode_utf8_all, Option, Some, None}
+use Rattle.std.specs.Prelude.{ℕ, ◌+◌, ◌==◌, nat_lt, nat_le, Bool, not, ◌||◌, if◌then◌else◌, List, [], ◌++◌, filter, flat_map, length, reverse, take}
+use Rattle.std.specs.Prelude.{take_while, codes, decimal, encode_utf8, encode_utf8_all, Option, Some, None}
 use Rattle.std.specs.Char.{is_control}
 use Rattle.std.specs.Char.Escape.{escape_unicode}
 use Rattle.std.specs.Str.{chars}

@@ -1,5 +1,6 @@
 -- The calls whose names are nearest to an id, by the number of edits from one to the other.
-use Rattle.std.specs.Prelude.{ℕ, zero, suc, ◌+◌, ◌/◌, ◌==◌, nat_eq, nat_lt, Bool, false, if◌then◌else◌, List, [], ◌++◌, filter, length, map, take, Option, Some, None, option_and_then}
+use Rattle.std.specs.Prelude.{ℕ, zero, suc, ◌+◌, ◌/◌, ◌==◌, nat_eq, nat_lt, Bool, false, if◌then◌else◌, List, [], ◌++◌, filter, length, map, take}
+use Rattle.std.specs.Prelude.{Option, Some, None, option_and_then}
 use Rattle.std.specs.Str.{chars}
 use Rattle.strsim.specs.Edits.{levenshtein_row}
 use Rattle.meson_inventory.specs.declared.holdings.HeldCall.{HeldCall}

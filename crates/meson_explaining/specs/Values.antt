@@ -1,5 +1,6 @@
 -- Notes of the values of keyword arguments.
-use Rattle.std.specs.Prelude.{ℕ, ◌==◌, not, ◌||◌, List, [], ◌++◌, if◌then◌else◌, bytes_eq, take, take_while, chars, codes, encode_utf8_all, Option, Some, None, Result, Ok, Err}
+use Rattle.std.specs.Prelude.{ℕ, ◌==◌, not, ◌||◌, List, [], ◌++◌, if◌then◌else◌, bytes_eq, take, take_while, chars, codes, encode_utf8_all, Option}
+use Rattle.std.specs.Prelude.{Some, None, Result, Ok, Err}
 use Rattle.std.specs.List.{filter_map}
 use Rattle.meson_lex.specs.declared.kinds.Span.{Span}
 use Rattle.meson_splice.specs.Files.{bytes_at}

@@ -1,12 +1,15 @@
 //! Why a command is refused, in words for people.
 
 ghost use Rattle.std.specs.Prelude.{◌≡◌, ◌∷◌, [], IfOk, filter, is_none, length, option_map};
-ghost use Rattle.meson_explaining.specs.Explaining.{ambiguous, ambiguous_help, explanation, list_help, missing_notes, not_found, not_literal, unknown_help, unknown_key, unnamed, wrong_kind};
+ghost use Rattle.meson_explaining.specs.Sources.{source_notes};
+ghost use Rattle.meson_explaining.specs.Explaining.{ambiguous, ambiguous_help, explanation, list_help, missing_notes, not_found, not_literal};
+ghost use Rattle.meson_explaining.specs.Explaining.{not_there, unknown_help, unknown_key, unnamed, with_info, wrong_kind};
 
 use crate::calls::{Telling, add_few, add_further};
 use crate::explanation::{Explanation, Note};
 use crate::keys::{keys, nearest_key, unknown_notes, wrong_notes};
 use crate::nearest::near_notes;
+use crate::sources::{extras_at, source_notes, sources_at};
 use crate::subject::{Subject, subject_of};
 use crate::values::value_notes;
 use meson_calls::Refusal;
@@ -14,6 +17,7 @@ use meson_inventory::holdings::{HeldCall, Holdings, calls_held, calls_named, hol
 use meson_plan::{Project, Role};
 use meson_splice::{Many, Text};
 use meson_steps::command::Command;
+use meson_variables::SourceItem;
 use std::alloc::{AllocError, Global};
 
 /// Notes with one line of help.
@@ -213,7 +217,47 @@ fn not_literal(
     })
 }
 
-/// Why a command is refused: what the project, as the command finds it, holds that the refusal is about, and what may be done. Nothing is said of some refusals.
+/// Which names a target does not have.
+fn not_there(alloc: Global, project: &Project, command: &Command) -> Result<Explanation, AllocError>
+    ensures { IfOk result (λ e. e ≡ not_there project.now command.now) }
+{
+    match command {
+        Command::SourcesRemove { target, sources } => {
+            let items = sources_at(alloc, project, target.get())?;
+            with_info(alloc, items.get(), sources.get())
+        }
+        Command::ExtraRemove { target, sources } => {
+            let items = extras_at(alloc, project, target.get())?;
+            with_info(alloc, items.get(), sources.get())
+        }
+        _ => Ok(unexplained(alloc)),
+    }
+}
+
+/// Which of the names none of the items has.
+fn with_info(alloc: Global, items: &[SourceItem], names: &[Text]) -> Result<Explanation, AllocError>
+    ensures { IfOk result (λ e. e ≡ with_info (source_notes items.now names.now)) }
+{
+    let notes = source_notes(alloc, items, names)?;
+    with_help(
+        alloc,
+        notes,
+        "info lists the sources and extra files of a target",
+    )
+}
+
+/// Nothing is said.
+fn unexplained(alloc: Global) -> Explanation
+    ensures { result ≡ record { notes = []; help = [] } }
+{
+    Explanation {
+        notes: Many::new(alloc),
+        help: Many::new(alloc),
+    }
+}
+
+/// Why a command is refused: what the project, as the command finds it, holds that the refusal is about, and what may be done. Of some refusals nothing is
+/// said.
 ///
 /// # Errors
 /// Out of memory.
@@ -231,9 +275,7 @@ pub fn explain(
         Refusal::UnknownKey(key) => unknown_key(alloc, subject_of(command).role, key.get()),
         Refusal::WrongKind(key) => wrong_kind(alloc, command, key.get()),
         Refusal::NotLiteral(key) => not_literal(alloc, project, command, key.get()),
-        _ => Ok(Explanation {
-            notes: Many::new(alloc),
-            help: Many::new(alloc),
-        }),
+        Refusal::SourceNotFound => not_there(alloc, project, command),
+        _ => Ok(unexplained(alloc)),
     }
 }

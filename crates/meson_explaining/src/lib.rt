@@ -9,6 +9,7 @@ pub mod laws;
 mod lines;
 mod nearest;
 mod printable;
+mod sources;
 mod subject;
 mod values;
 

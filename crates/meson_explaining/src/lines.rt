@@ -1,7 +1,8 @@
 //! An explanation as lines.
 
 ghost use Rattle.std.specs.Prelude.{◌≡◌, ◌≤◌, ◌==◌, ◌++◌, IfOk, OnOk, codes, filter, flat_map, length, string_bytes, take};
-ghost use Rattle.meson_explaining.specs.Lines.{begins_character, explanation_lines, help_line, last_line, note_line, place_part, place_words, printable, spot_part};
+ghost use Rattle.meson_explaining.specs.Lines.{begins_character, explanation_lines, help_line, last_line, note_line, place_part, place_words};
+ghost use Rattle.meson_explaining.specs.Lines.{printable, spot_part};
 
 use crate::explanation::{Explanation, Note, Spot};
 use crate::printable::printable;
@@ -116,8 +117,8 @@ fn add_help(alloc: Global, lines: &mut String, help: &[Text]) -> Result<(), Allo
     Ok(())
 }
 
-/// The lines of an explanation: `note: FILE:LINE:COLUMN: TEXT` for each note, without the place if it has none, and `help: TEXT` for each line of help. Lines and
-/// columns are counted from 1, columns in characters. Control characters are escaped.
+/// The lines of an explanation: `note: FILE:LINE:COLUMN: TEXT` for each note, without the place if it has none, and `help: TEXT` for each line of help. Lines
+/// and columns are counted from 1, columns in characters. Control characters are escaped.
 ///
 /// # Errors
 /// Out of memory.

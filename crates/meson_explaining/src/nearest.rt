@@ -103,7 +103,8 @@ impl<'c> Compared<'c> {
 
     /// Adds the notes of the calls that are near the id, the nearest first.
     fn add_near(&self, alloc: Global, notes: &mut Vec<Note>) -> Result<(), AllocError>
-        ensures { OnOk result (notes.new.items ≡ notes.old.items ++ map (call_note []) (nearer self.now.id.now (length self.now.id.now / 3 + 1) self.now.calls.now)) }
+        ensures { let id = self.now.id.now in
+            OnOk result (notes.new.items ≡ notes.old.items ++ map (call_note []) (nearer id (length id / 3 + 1) self.now.calls.now)) }
     {
         for distance in 0..self.id.len() / 3 + 1 {
             self.add_at(alloc, notes, distance)?;
