@@ -1,4 +1,4 @@
--- Where the words want to be told of a change and are told of none, each file but the log is as it was.
+-- With `--exit-code` and status 0 each file but the log is as it was.
 use Rattle.std.proofs.Common.{◌≡◌, ◌∙◌, ℕ, Bool, true, false, List, [], ◌∷◌, Option, Some, Result, Ok, cond, inl, inr, refl, sym, ap, subst}
 use Rattle.std.specs.FinMap.{get}
 use Rattle.std.specs.Prelude.{◌≢◌, bytes_eq}

@@ -63,7 +63,7 @@ module _ (exit_code : Bool) (code : ℕ) (out out' err err' : Heard) where
   told-wanted json wanted end (inr is) t =
       subst (Tells exit_code wanted code out out' err err') (sym is) (either-form json wanted (subst (Tells exit_code json code out out' err err') is t))
 
--- ---- a run that was stopped has its status, whether the words want to be told of a change or not
+-- ---- a run that was stopped has its status, with `--exit-code` and without
 
 pub told-by-words : (json by wanted : Bool) (code : ℕ) (out out' err err' : Heard) (end : Result Said Stop) → OnOk end (by ≡ wanted) → Tells by json code out out' err err' end
     → Tells wanted json code out out' err err' end

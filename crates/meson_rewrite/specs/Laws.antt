@@ -34,7 +34,7 @@ CheckedUndosRestore = (count : ℕ) (kept : NamedFile) (left : List File) (s : S
     → Stands old.history left s → kept.bytes ≡ sums left → IsProject old.project → Does (UndoChecked count kept) old report new
     → ((t : Stack) × (undos count s ≡ Some t) × (new.project.files ≡ t.present) × Stands new.history t.present t) ⊎ Collision
 
--- Where the words want to be told of a change, a step that is done or shown has status 0 if the files after it are those before it, to every byte. It has
+-- With `--exit-code` a step that is done or shown has status 0 if the files after it are those before it, to every byte. It has
 -- status 4 if they are not.
 abbrev pub StatusesTellChanges : Type 0
 StatusesTellChanges = (json : Bool) (step : Step) (old new : Session) (report : Report) (said : Said) → only_tells step ≡ false → Does step old report new

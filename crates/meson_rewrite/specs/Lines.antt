@@ -91,7 +91,7 @@ stop_status (Usage fault) = usage_status fault
 stop_status (Store fault) = store_fault_status fault
 stop_status _ = 1
 
--- of a run that was done: 4 if the words want to be told so that a build file has other bytes, and one has
+-- of a run that was done: 4 if the words have `--exit-code` and a build file has other bytes, or would have them
 abbrev pub done_status : Bool → Said → ℕ
 done_status exit_code said = if exit_code && said.changed then 4 else 0
 

@@ -193,7 +193,7 @@ abbrev pub OnlyAsks : Result Asked UsageFault → Type 0
 OnlyAsks (Err fault) = ⊤
 OnlyAsks (Ok a) = IsTrue (only_asks a.action || a.flags.dry_run)
 
--- whether the words want to be told by the status that a build file was changed
+-- whether the words have `--exit-code`
 abbrev pub wants_exit_code : Result Asked UsageFault → Bool
 wants_exit_code (Err fault) = false
 wants_exit_code (Ok a) = a.flags.exit_code
