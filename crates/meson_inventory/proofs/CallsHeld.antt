@@ -23,7 +23,7 @@ use Rattle.meson_inventory.specs.declared.holdings.HeldCall.{HeldCall}
 
 -- ---- places of calls
 
-abbrev Called : Project Span → Placed (Call Span) → Type 0
+abbrev pub Called : Project Span → Placed (Call Span) → Type 0
 Called p c = IsTrue (is_call p c.place)
 
 called_part : (p : Project Span) (q : Placed (Part Span)) (c : Call Span) → InProject 0 p q → part_call q.it ≡ Some c → Called p (placed q.place c)
@@ -41,7 +41,7 @@ every_call p = every_chosen (InProject 0 p) (Called p) part_call (called_part p)
 chosen_called : (p : Project Span) (choose : Call Span → Option (Call Span)) → Every (Called p) (all_chosen choose (calls p))
 chosen_called p choose = every_chosen (Called p) (Called p) choose (λ q c called is. called) (calls p) (every_call p)
 
-all_places : (p : Project Span) (cs : List (Placed (Call Span))) → Every (Called p) cs → All (λ c. IsTrue (is_call p c)) (places cs)
+pub all_places : (p : Project Span) (cs : List (Placed (Call Span))) → Every (Called p) cs → All (λ c. IsTrue (is_call p c)) (places cs)
 all_places p [] every = λ k d within. absurd (omega (arith, within))
 all_places p (c ∷ cs) every = at (all_places p cs every.1)
   where

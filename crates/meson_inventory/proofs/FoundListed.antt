@@ -9,6 +9,7 @@ use Rattle.meson_syntax.specs.Tree.{Name, Expression, call, Statement, assign}
 use Rattle.meson_syntax.proofs.parsing.Steps.{some-injective}
 use Rattle.meson_syntax.proofs.paths.Every.{Every}
 use Rattle.meson_calls.specs.declared.call.CallRef.{CallRef}
+use Rattle.meson_calls.specs.declared.call.Role.{Role}
 use Rattle.meson_calls.specs.declared.call.Role.TheVariants as role
 use Rattle.meson_calls.specs.AllParts.{PartsAreAll}
 use Rattle.meson_calls.specs.Calls.{Call, call_of, part_call, all_chosen, calls, chosen, first_literal, is}
@@ -17,8 +18,8 @@ use Rattle.meson_calls.specs.Parts.{Part, parts}
 use Rattle.meson_calls.specs.Parts as part
 use Rattle.meson_calls.specs.ChosenNotes.{call_with}
 use Rattle.meson_calls.specs.Project.{Project, Placed, placed, expression_at}
-use Rattle.meson_calls.specs.Naming.{assigned_values, found, or_else, part_set_to, set_to, value_of_assignment, with_name}
-use Rattle.meson_calls.specs.Roles.{has_role, places, role_calls, targets, with_role}
+use Rattle.meson_calls.specs.Naming.{assigned_values, found, named_or_assigned, or_else, part_set_to, project_ids, set_to, value_of_assignment, with_name}
+use Rattle.meson_calls.specs.Roles.{has_role, one_of, places, role_calls, targets, with_role}
 use Rattle.meson_calls.proofs.CallsReached.{InProject, every_chosen, every_part}
 use Rattle.meson_calls.proofs.ExpressionsAt.{assigned_stands, expression_stands}
 use Rattle.meson_details.specs.Details.{head_of}
@@ -127,13 +128,13 @@ some_if : {X : Type 0} (b : Bool) (x y : X) → (if b then Some x else None) ≡
 some_if true x y same = (refl, some-injective x y same)
 some_if false x y same = absurd (let no : ⊥ = cc in no)
 
-module _ (p : Project Span) (id : List ℕ) where
-  record Target (c : Placed (Call Span)) : Type 0 where
+module _ (p : Project Span) (r : Role) (id : List ℕ) where
+  record OfRole (c : Placed (Call Span)) : Type 0 where
     at : Standing p c
-    is_target : has_role role.Target c.it ≡ true
+    is_one : has_role r c.it ≡ true
 
   record Finds (c : Placed (Call Span)) : Type 0 where
-    target : Target c
+    one : OfRole c
     named : (first_literal c.it ≡ Some id) ⊎ (variable_of p c.place ≡ Some id)
 
   -- a value that the variable is set to, or a call that is one
@@ -147,30 +148,30 @@ module _ (p : Project Span) (id : List ℕ) where
 
   -- ---- by name
 
-  role_stands : (q : Placed (Call Span)) (c : Call Span) → Standing p q → with_role role.Target q.it ≡ Some c → Target (placed q.place c)
+  role_stands : (q : Placed (Call Span)) (c : Call Span) → Standing p q → with_role r q.it ≡ Some c → OfRole (placed q.place c)
   role_stands q c s h =
-      let b = some_if (has_role role.Target q.it) q.it c h in
+      let b = some_if (has_role r q.it) q.it c h in
       record {
         at = record { value = s.value; is_at = s.is_at; is_call = s.is_call ∙ ap Some b.1 };
-        is_target = ap (has_role role.Target) (sym b.1) ∙ b.0;
+        is_one = ap (has_role r) (sym b.1) ∙ b.0;
       }
 
-  name_finds : (q : Placed (Call Span)) (c : Call Span) → Target q → with_name id q.it ≡ Some c → Finds (placed q.place c)
+  name_finds : (q : Placed (Call Span)) (c : Call Span) → OfRole q → with_name id q.it ≡ Some c → Finds (placed q.place c)
   name_finds q c t h =
       let b = some_if (is id (first_literal q.it)) q.it c h in
       record {
-        target = record {
+        one = record {
           at = record { value = t.at.value; is_at = t.at.is_at; is_call = t.at.is_call ∙ ap Some b.1 };
-          is_target = ap (has_role role.Target) (sym b.1) ∙ t.is_target;
+          is_one = ap (has_role r) (sym b.1) ∙ t.is_one;
         };
         named = inl (ap (λ (d : Call Span). first_literal d) (sym b.1) ∙ is_there id (first_literal q.it) b.0);
       }
 
-  every_target : Every Target (role_calls p role.Target)
-  every_target = every_chosen (Standing p) Target (with_role role.Target) role_stands (calls p) (every_call_stands p)
+  every_role : Every OfRole (role_calls p r)
+  every_role = every_chosen (Standing p) OfRole (with_role r) role_stands (calls p) (every_call_stands p)
 
-  every_named : Every Finds (all_chosen (with_name id) (role_calls p role.Target))
-  every_named = every_chosen Target Finds (with_name id) name_finds (role_calls p role.Target) every_target
+  every_named : Every Finds (all_chosen (with_name id) (role_calls p r))
+  every_named = every_chosen OfRole Finds (with_name id) name_finds (role_calls p r) every_role
 
   -- ---- by variable
 
@@ -204,12 +205,12 @@ module _ (p : Project Span) (id : List ℕ) where
   call_set : (x : Placed (Expression Span)) (c : Call Span) → Value x → call_of x.it ≡ Some c → Set (placed x.place c)
   call_set x c v h = record { at = record { value = x.it; is_at = v.stands; is_call = h }; set = v.set }
 
-  variable_finds : (q : Placed (Call Span)) (c : Call Span) → Set q → with_role role.Target q.it ≡ Some c → Finds (placed q.place c)
-  variable_finds q c s h = record { target = role_stands q c s.at h; named = inr s.set }
+  variable_finds : (q : Placed (Call Span)) (c : Call Span) → Set q → with_role r q.it ≡ Some c → Finds (placed q.place c)
+  variable_finds q c s h = record { one = role_stands q c s.at h; named = inr s.set }
 
-  every_set : Every Finds (all_chosen (with_role role.Target) (all_chosen call_of (assigned_values p id)))
+  every_set : Every Finds (all_chosen (with_role r) (all_chosen call_of (assigned_values p id)))
   every_set =
-      every_chosen Set Finds (with_role role.Target) variable_finds (all_chosen call_of (assigned_values p id))
+      every_chosen Set Finds (with_role r) variable_finds (all_chosen call_of (assigned_values p id))
       (every_chosen Value Set call_of call_set (assigned_values p id)
       (every_value (all_chosen (part_set_to id) (parts p)) (every_chosen (InProject 0 p) Before (part_set_to id) assigned (parts p) (every_part 0 p))))
 
@@ -217,16 +218,35 @@ module _ (p : Project Span) (id : List ℕ) where
   either [] ys a b = b
   either (x ∷ xs) ys a b = a
 
-  every_found : Every Finds (found p role.Target id)
+  every_found : Every Finds (named_or_assigned p r id)
   every_found = either _ _ every_named every_set
 
-all_listed : (all : PartsAreAll) (l : Loaded) (id : List ℕ) (cs : List (Placed (Call Span))) → Every (Finds (project l) id) cs → All (IsListed l id) (places cs)
+all_listed : (all : PartsAreAll) (l : Loaded) (id : List ℕ) (cs : List (Placed (Call Span))) → Every (Finds (project l) role.Target id) cs → All (IsListed l id) (places cs)
 all_listed all l id [] every = λ k d within. absurd (omega (arith, within))
 all_listed all l id (c ∷ cs) every = at (all_listed all l id cs every.1)
   where
     at : All (IsListed l id) (places cs) → (k : ℕ) (d : CallRef) → k < suc (length (places cs)) → IsListed l id (get_or (c.place ∷ places cs) k d)
-    at rest zero d within = is_listed all l id c every.0.target.at every.0.target.is_target every.0.named
+    at rest zero d within = is_listed all l id c every.0.one.at every.0.one.is_one every.0.named
     at rest (suc k) d within = let below : k < length (places cs) = omega (arith, within) in rest k d below
 
 pub found_are_listed : PartsAreAll → FoundAreListed
-found_are_listed all l id = all_listed all l id (found (project l) role.Target id) (every_found (project l) id)
+found_are_listed all l id = all_listed all l id (found (project l) role.Target id) (every_found (project l) role.Target id)
+
+-- ---- and stands at its place
+
+standing : (p : Project Span) (P : Placed (Call Span) → Type 0) → ((c : Placed (Call Span)) → P c → Standing p c) → (cs : List (Placed (Call Span))) → Every P cs → Every (Standing p) cs
+standing p P stands [] every = tt
+standing p P stands (c ∷ cs) every = (stands c every.0, standing p P stands cs every.1)
+
+only_if : (p : Project Span) (b : Bool) (cs : List (Placed (Call Span))) → Every (Standing p) cs → Every (Standing p) (if b then cs else [])
+only_if p true cs every = every
+only_if p false cs every = tt
+
+named_stand : (p : Project Span) (r : Role) (id : List ℕ) → Every (Standing p) (named_or_assigned p r id)
+named_stand p r id = standing p (Finds p r id) (λ c f. f.one.at) (named_or_assigned p r id) (every_found p r id)
+
+pub found_stand : (p : Project Span) (r : Role) (id : List ℕ) → Every (Standing p) (found p r id)
+found_stand p role.Target id = named_stand p role.Target id
+found_stand p role.Dependency id = named_stand p role.Dependency id
+found_stand p role.Project id =
+    only_if p (one_of project_ids id) (role_calls p role.Project) (standing p (OfRole p role.Project id) (λ c o. o.at) (role_calls p role.Project) (every_role p role.Project id))

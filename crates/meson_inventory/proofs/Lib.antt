@@ -4,6 +4,7 @@ mod CallsHeld
 mod CallPlacesListed
 mod FoundListed
 mod AssignmentsStand
+mod CallsNamed
 mod NotEntered
 mod FileSteps
 mod LinesCounted

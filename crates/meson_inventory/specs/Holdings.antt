@@ -5,9 +5,11 @@ use Rattle.meson_lex.specs.declared.kinds.Span.{Span}
 use Rattle.meson_splice.specs.declared.file_set.File.{File}
 use Rattle.meson_syntax.specs.Tree.{Expression, call}
 use Rattle.meson_calls.specs.declared.call.CallRef.{CallRef}
+use Rattle.meson_calls.specs.declared.call.Role.{Role}
 use Rattle.meson_calls.specs.Calls.{Call, all_chosen, calls, calls_function}
 use Rattle.meson_calls.specs.FileNames.{is_entered, meant_in}
 use Rattle.meson_calls.specs.Loading.{Loaded, project}
+use Rattle.meson_calls.specs.Naming.{found}
 use Rattle.meson_calls.specs.Project.{Project, expression_at}
 use Rattle.meson_calls.specs.Roles.{places, targets}
 use Rattle.meson_details.specs.Details.{head}
@@ -39,6 +41,10 @@ calls_of p f = places (all_chosen (with_function f) (calls p))
 
 abbrev pub calls_held : Loaded → List ℕ → List HeldCall
 calls_held l f = held_calls l (calls_of (project l) f)
+
+-- the calls that an id names, in file order and source order
+abbrev pub calls_named : Loaded → Role → List ℕ → List HeldCall
+calls_named l r id = held_calls l (places (found (project l) r id))
 
 -- ---- what a project holds
 

@@ -65,11 +65,15 @@ abbrev pub variable_part : Option (List ℕ) → List ℕ
 variable_part None = []
 variable_part (Some name) = codes ", variable " ++ name
 
+-- `FUNCTION 'NAME', variable VARIABLE`
+abbrev pub call_words : HeldCall → List ℕ
+call_words c = c.head.function ++ (named_part c.head.name ++ variable_part c.variable)
+
 -- `FILE:LINE: FUNCTION 'NAME', variable VARIABLE`, and what else is to be said of it
 abbrev pub call_line : List File → List ℕ → HeldCall → List ℕ
 call_line files more c =
     name_of_file c.file files ++ (codes ":" ++ (decimal (line_number (bytes_at c.file files) c.head.at) ++ (codes ": "
-    ++ (c.head.function ++ (named_part c.head.name ++ (variable_part c.variable ++ (more ++ codes "\n")))))))
+    ++ (call_words c ++ (more ++ codes "\n")))))
 
 abbrev pub file_line : File → List ℕ
 file_line f = f.name ++ codes ":1: build file\n"

@@ -5,7 +5,7 @@ ghost use Rattle.meson_calls.specs.FileNames.{AreFileNames};
 ghost use Rattle.meson_calls.specs.Loading.{HasFileName};
 ghost use Rattle.meson_calls.specs.Notes.{note_view, note_views};
 ghost use Rattle.meson_calls.specs.ChosenNotes.{places_that};
-ghost use Rattle.meson_inventory.specs.Holdings.{calls_held, enters_one, held_call, held_calls, holdings, not_entered, subdirs_held, targets_held};
+ghost use Rattle.meson_inventory.specs.Holdings.{calls_held, calls_named, enters_one, held_call, held_calls, holdings, not_entered, subdirs_held, targets_held};
 ghost use Rattle.meson_inventory.specs.inside.Holdings.{AreAllNotes, IsCall, note_calls};
 
 use meson_calls::chosen_notes::with_role;
@@ -23,19 +23,20 @@ use std::collections::HashSet;
 
 /// A call of a project.
 #[derive(Drop)]
-pub(crate) struct HeldCall {
+pub struct HeldCall {
     /// The number of its file.
     pub file: usize,
+    /// Where it begins, its function and its name.
     pub head: Head,
     /// The variable that a statement sets to it.
     pub variable: Option<Text>,
-    /// The offset after its last byte.
+    /// The offset in bytes after its last byte in its file.
     pub end: usize,
 }
 
 /// What a project holds besides its files, each in file order and source order.
 #[derive(Drop)]
-pub(crate) struct Holdings {
+pub struct Holdings {
     /// The calls that make targets.
     pub targets: Many<HeldCall>,
     /// The `subdir` calls that enter none of the files.
@@ -168,7 +169,10 @@ fn calls_among(
 }
 
 /// The calls of a function of a project, in file order and source order.
-pub(crate) fn calls_held(
+///
+/// # Errors
+/// Out of memory.
+pub fn calls_held(
     alloc: Global,
     project: &Project,
     function: &str,
@@ -195,8 +199,29 @@ fn subdirs_held(
     not_entered(alloc, project.files(), calls)
 }
 
+/// The calls that an id names, in file order and source order.
+///
+/// # Errors
+/// Out of memory.
+pub fn calls_named(
+    alloc: Global,
+    project: &Project,
+    role: Role,
+    id: &str,
+) -> Result<Many<HeldCall>, AllocError>
+    ensures { IfOk result (λ calls. calls ≡ calls_named project.now role id.now) }
+{
+    match project.find(alloc, role, id) {
+        Ok(places) => held_calls(alloc, project, places.as_slice()),
+        Err(_) => Err(AllocError),
+    }
+}
+
 /// What a project holds.
-pub(crate) fn holdings_of(alloc: Global, project: &Project) -> Result<Holdings, AllocError>
+///
+/// # Errors
+/// Out of memory.
+pub fn holdings_of(alloc: Global, project: &Project) -> Result<Holdings, AllocError>
     ensures { IfOk result (λ held. held ≡ holdings project.now) }
 {
     project.reads();

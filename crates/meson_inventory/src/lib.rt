@@ -3,7 +3,7 @@
 #![tactic(auto)]
 
 mod assignments;
-mod holdings;
+pub mod holdings;
 mod info;
 mod inventory;
 pub mod laws;
@@ -14,5 +14,6 @@ mod position_counter;
 
 pub use info::{placed_info, placed_info_kwargs, placed_info_target};
 pub use inventory::{assignments_object, calls_object, project_object};
-pub use lines::{assignments_lines, calls_lines, project_lines};
+pub use line_counter::file_bytes;
+pub use lines::{assignments_lines, call_words, calls_lines, project_lines};
 pub use placed::{placed_assignments_object, placed_calls_object, placed_project_object};

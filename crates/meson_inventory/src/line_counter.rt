@@ -6,8 +6,8 @@ ghost use Rattle.meson_inventory.specs.Inventory.{line_number};
 
 use meson_splice::FileSet;
 
-/// The bytes of the file of a number.
-pub(crate) fn file_bytes(files: &FileSet, file: usize) -> &[u8]
+/// The bytes of the file of a number; no bytes if there is no such file.
+pub fn file_bytes(files: &FileSet, file: usize) -> &[u8]
     ensures { result.now ≡ bytes_at file files.now }
 {
     if file < files.len() {

@@ -2,7 +2,8 @@
 
 ghost use Rattle.std.specs.Prelude.{◌≡◌, IfOk, flat_map, string_bytes};
 ghost use Rattle.meson_splice.specs.Files.{bytes_at};
-ghost use Rattle.meson_inventory.specs.Inventory.{assignment_line, assignments_lines, call_line, calls_lines, file_line, line_number, named_part, project_lines, variable_part};
+ghost use Rattle.meson_inventory.specs.Inventory.{assignment_line, assignments_lines, call_line, call_words, calls_lines, file_line, line_number};
+ghost use Rattle.meson_inventory.specs.Inventory.{named_part, project_lines, variable_part};
 
 use crate::assignments::{HeldAssignment, assignments_held};
 use crate::holdings::{HeldCall, calls_held, holdings_of};
@@ -38,6 +39,19 @@ fn variable_part(alloc: Global, variable: &Option<Text>) -> Result<String, Alloc
     }
 }
 
+/// What a line says of a call: its function, its name, and its variable if it has one.
+///
+/// # Errors
+/// Out of memory.
+pub fn call_words(alloc: Global, call: &HeldCall) -> Result<String, AllocError>
+    ensures { IfOk result (λ words. string_bytes words ≡ call_words call.now) }
+{
+    let function = call.head.function.get();
+    let named = named_part(alloc, &call.head.name)?;
+    let variable = variable_part(alloc, &call.variable)?;
+    format!(in alloc; "{function}{named}{variable}")
+}
+
 /// The line of a call, which begins on the line of this number; more text may be added at its end.
 fn call_line(
     alloc: Global,
@@ -50,10 +64,8 @@ fn call_line(
     ensures { IfOk result (λ line. string_bytes line ≡ call_line files.now more.now call.now) }
 {
     let file = file_name(files, call.file);
-    let function = call.head.function.get();
-    let named = named_part(alloc, &call.head.name)?;
-    let variable = variable_part(alloc, &call.variable)?;
-    format!(in alloc; "{file}:{number}: {function}{named}{variable}{more}\n")
+    let words = call_words(alloc, call)?;
+    format!(in alloc; "{file}:{number}: {words}{more}\n")
 }
 
 /// The lines of some calls; each says more at its end.

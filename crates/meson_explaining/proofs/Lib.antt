@@ -1,0 +1,6 @@
+mod Nearby
+mod NearestKeys
+mod NearCalls
+mod Printed
+mod ArgumentNotes
+mod CallValues

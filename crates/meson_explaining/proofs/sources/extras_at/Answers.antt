@@ -1,0 +1,5 @@
+use Rattle.meson_plan.proofs.PlacesFound.{target_found}
+use Rattle.meson_explaining.proofs.sources.extras_at.Goals as goal
+
+pub extras_of-requires : goal.extras_of-requires
+extras_of-requires c = target_found c.args.project.now c.args.id.now c.in-Ok.target c.in-Ok.ensures.found

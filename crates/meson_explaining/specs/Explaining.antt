@@ -1,0 +1,118 @@
+-- Why a command is refused, in words for people.
+use Rattle.std.specs.Prelude.{ℕ, List, [], ◌∷◌, ◌++◌, length, filter, codes, is_none, Option, Some, None}
+use Rattle.meson_calls.specs.declared.call.Role.{Role}
+use Rattle.meson_calls.specs.declared.call.Role.TheVariants as role
+use Rattle.meson_calls.specs.declared.refusal.Refusal.{Refusal}
+use Rattle.meson_calls.specs.declared.refusal.Refusal.TheVariants as refusal
+use Rattle.meson_calls.specs.Loading.{Loaded}
+use Rattle.meson_steps.specs.declared.command.Command.{Command}
+use Rattle.meson_steps.specs.declared.command.Command.TheVariants as command
+use Rattle.meson_inventory.specs.Holdings.{calls_held, calls_named, subdirs_held, targets_held}
+use Rattle.meson_inventory.specs.declared.holdings.HeldCall.{HeldCall}
+use Rattle.meson_explaining.specs.declared.explanation.Explanation.{Explanation}
+use Rattle.meson_explaining.specs.declared.explanation.Note.{Note}
+use Rattle.meson_explaining.specs.Keys.{keys, nearest_key, unknown_notes, wrong_notes}
+use Rattle.meson_explaining.specs.Nearest.{near_notes}
+use Rattle.meson_explaining.specs.Notes.{few_notes, further}
+use Rattle.meson_explaining.specs.Sources.{extras_at, sources_at, source_notes}
+use Rattle.meson_explaining.specs.Values.{value_notes}
+
+-- the kind of the call that a command is about, and the id that is to name it
+abbrev pub subject : Command → Role × List ℕ
+subject (command.SourcesAdd target sources) = (role.Target, target)
+subject (command.SourcesRemove target sources) = (role.Target, target)
+subject (command.ExtraAdd target sources) = (role.Target, target)
+subject (command.ExtraRemove target sources) = (role.Target, target)
+subject (command.TargetAdd target kind subdir sources) = (role.Target, target)
+subject (command.TargetRemove target) = (role.Target, target)
+subject (command.TargetInfo target) = (role.Target, target)
+subject (command.KwargsSet r id pairs) = (r, id)
+subject (command.KwargsAdd r id pairs) = (r, id)
+subject (command.KwargsRemove r id pairs) = (r, id)
+subject (command.KwargsDelete r id keys) = (r, id)
+subject (command.KwargsInfo r id) = (r, id)
+subject (command.OptionsSet pairs) = (role.Project, codes "/")
+subject (command.OptionsDelete names) = (role.Project, codes "/")
+
+abbrev pub only_help : List ℕ → Explanation
+only_help text = record { notes = []; help = text ∷ [] }
+
+-- ---- the id names no call
+
+-- how many of the calls no id can name, for want of a literal name
+abbrev pub unnamed : List HeldCall → ℕ
+unnamed cs = length (filter (λ c. is_none c.head.name) cs)
+
+-- The calls of these with the nearest names, the `subdir` calls that enter no file, and how many of the calls have no literal name.
+abbrev pub missing_notes : List ℕ → List ℕ → List HeldCall → List HeldCall → List Note
+missing_notes id nameless cs subdirs =
+    near_notes id cs ++ (few_notes 2 (codes ", not entered") (codes "further subdir calls that are not entered") subdirs ++ further nameless (unnamed cs))
+
+abbrev pub not_found : Loaded → Role → List ℕ → Explanation
+not_found l role.Target id = record {
+  notes = missing_notes id (codes "targets without a literal name") (targets_held l) (subdirs_held l);
+  help = codes "a target is found by its name or its variable, which list shows; --sourcedir FOLDER reads the targets of another folder" ∷ [];
+}
+not_found l role.Dependency id = record {
+  notes = missing_notes id (codes "dependencies without a literal name") (calls_held l (codes "dependency")) (subdirs_held l);
+  help = codes "a dependency is found by its name or its variable; --sourcedir FOLDER reads the dependencies of another folder" ∷ [];
+}
+not_found l role.Project id = only_help (codes "the id of a project is /")
+
+-- ---- the id names more than one call
+
+abbrev pub ambiguous_help : Role → List ℕ
+ambiguous_help role.Project = codes "use --sourcedir FOLDER with the folder of one of them"
+ambiguous_help _ = codes "use a variable as the id, or --sourcedir FOLDER with the folder of one of them"
+
+abbrev pub ambiguous : Loaded → Role → List ℕ → Explanation
+ambiguous l r id = record {
+  notes = few_notes 5 [] (codes "further calls that the id names") (calls_named l r id);
+  help = ambiguous_help r ∷ [];
+}
+
+-- ---- the key is not one that commands change
+
+abbrev pub unknown_help : Option (List ℕ) → List (List ℕ)
+unknown_help None = []
+unknown_help (Some key) = (codes "the nearest key is " ++ key) ∷ []
+
+abbrev pub unknown_key : Role → List ℕ → Explanation
+unknown_key r key = record { notes = unknown_notes r key; help = unknown_help (nearest_key key (keys r)) }
+
+-- ---- the value is not of the kind that the key takes
+
+-- help for commands that change lists; none for others
+abbrev pub list_help : List ℕ → Command → List (List ℕ)
+list_help help (command.KwargsAdd r id pairs) = help ∷ []
+list_help help (command.KwargsRemove r id pairs) = help ∷ []
+list_help help _ = []
+
+abbrev pub wrong_kind : Command → List ℕ → Explanation
+wrong_kind c key = record { notes = wrong_notes (subject c).0 key; help = list_help (codes "add and remove change lists; set replaces a value") c }
+
+-- ---- the value of the key is not a literal that can be changed
+
+abbrev pub not_literal : Loaded → Command → List ℕ → Explanation
+not_literal l c key = record { notes = value_notes l (subject c).0 (subject c).1 key; help = list_help (codes "set replaces the value") c }
+
+-- ---- the target does not have a source or an extra file
+
+abbrev pub with_info : List Note → Explanation
+with_info notes = record { notes = notes; help = codes "info lists the sources and extra files of a target" ∷ [] }
+
+abbrev pub not_there : Loaded → Command → Explanation
+not_there l (command.SourcesRemove target names) = with_info (source_notes (sources_at l target) names)
+not_there l (command.ExtraRemove target names) = with_info (source_notes (extras_at l target) names)
+not_there l _ = record { notes = []; help = [] }
+
+-- ---- each refusal
+
+abbrev pub explanation : Loaded → Command → Refusal → Explanation
+explanation l c refusal.NotFound = not_found l (subject c).0 (subject c).1
+explanation l c refusal.Ambiguous = ambiguous l (subject c).0 (subject c).1
+explanation l c (refusal.UnknownKey key) = unknown_key (subject c).0 key
+explanation l c (refusal.WrongKind key) = wrong_kind c key
+explanation l c (refusal.NotLiteral key) = not_literal l c key
+explanation l c refusal.SourceNotFound = not_there l c
+explanation l c _ = record { notes = []; help = [] }

@@ -1,0 +1,281 @@
+//! Why a command is refused, in words for people.
+
+ghost use Rattle.std.specs.Prelude.{◌≡◌, ◌∷◌, [], IfOk, filter, is_none, length, option_map};
+ghost use Rattle.meson_explaining.specs.Sources.{source_notes};
+ghost use Rattle.meson_explaining.specs.Explaining.{ambiguous, ambiguous_help, explanation, list_help, missing_notes, not_found, not_literal};
+ghost use Rattle.meson_explaining.specs.Explaining.{not_there, unknown_help, unknown_key, unnamed, with_info, wrong_kind};
+
+use crate::calls::{Telling, add_few, add_further};
+use crate::explanation::{Explanation, Note};
+use crate::keys::{keys, nearest_key, unknown_notes, wrong_notes};
+use crate::nearest::near_notes;
+use crate::sources::{extras_at, source_notes, sources_at};
+use crate::subject::{Subject, subject_of};
+use crate::values::value_notes;
+use meson_calls::Refusal;
+use meson_inventory::holdings::{HeldCall, Holdings, calls_held, calls_named, holdings_of};
+use meson_plan::{Project, Role};
+use meson_splice::{Many, Text};
+use meson_steps::command::Command;
+use meson_variables::SourceItem;
+use std::alloc::{AllocError, Global};
+
+/// Notes with one line of help.
+fn with_help(alloc: Global, notes: Vec<Note>, help: &str) -> Result<Explanation, AllocError>
+    ensures { IfOk result (λ e. e ≡ record { notes = notes.items; help = help.now ∷ [] }) }
+{
+    let mut lines = Vec::new(alloc);
+    lines.push(Text::of(String::from_str(alloc, help)?))?;
+    Ok(Explanation {
+        notes: Many::of(notes),
+        help: Many::of(lines),
+    })
+}
+
+/// How many calls no id can name, for want of a literal name.
+fn unnamed(calls: &[HeldCall]) -> usize
+    ensures { result ≡ unnamed calls.now }
+{
+    calls.iter().filter(|call| call.head.name.is_none()).count()
+}
+
+/// The notes where none of these calls has the id.
+fn missing_notes(
+    alloc: Global,
+    id: &str,
+    nameless: &str,
+    calls: &[HeldCall],
+    subdirs: &[HeldCall],
+) -> Result<Vec<Note>, AllocError>
+    ensures { IfOk result (λ notes. notes.items ≡ missing_notes id.now nameless.now calls.now subdirs.now) }
+{
+    let mut notes = near_notes(alloc, id, calls)?;
+    let telling = Telling {
+        most: 2,
+        more: ", not entered",
+        others: "further subdir calls that are not entered",
+    };
+    add_few(alloc, &mut notes, telling, subdirs)?;
+    add_further(alloc, &mut notes, nameless, unnamed(calls))?;
+    Ok(notes)
+}
+
+/// Why no target has the id.
+fn no_target(alloc: Global, project: &Project, id: &str) -> Result<Explanation, AllocError>
+    ensures { IfOk result (λ e. e ≡ not_found project.now Role.Target id.now) }
+{
+    let Holdings {
+        targets,
+        not_entered,
+    } = holdings_of(alloc, project)?;
+    let notes = missing_notes(
+        alloc,
+        id,
+        "targets without a literal name",
+        targets.get(),
+        not_entered.get(),
+    )?;
+    with_help(
+        alloc,
+        notes,
+        "a target is found by its name or its variable, which list shows; --sourcedir FOLDER reads the targets of another folder",
+    )
+}
+
+/// Why no dependency has the id.
+fn no_dependency(alloc: Global, project: &Project, id: &str) -> Result<Explanation, AllocError>
+    ensures { IfOk result (λ e. e ≡ not_found project.now Role.Dependency id.now) }
+{
+    let calls = calls_held(alloc, project, "dependency")?;
+    let held = holdings_of(alloc, project)?;
+    let notes = missing_notes(
+        alloc,
+        id,
+        "dependencies without a literal name",
+        calls.get(),
+        held.not_entered.get(),
+    )?;
+    with_help(
+        alloc,
+        notes,
+        "a dependency is found by its name or its variable; --sourcedir FOLDER reads the dependencies of another folder",
+    )
+}
+
+/// Why an id names no call.
+fn not_found(
+    alloc: Global,
+    project: &Project,
+    subject: Subject<'_>,
+) -> Result<Explanation, AllocError>
+    ensures { IfOk result (λ e. e ≡ not_found project.now subject.entry.role subject.entry.id.now) }
+{
+    match subject.role {
+        Role::Target => no_target(alloc, project, subject.id),
+        Role::Dependency => no_dependency(alloc, project, subject.id),
+        Role::Project => with_help(alloc, Vec::new(alloc), "the id of a project is /"),
+    }
+}
+
+fn ambiguous_help(role: Role) -> &'static str
+    ensures { result.now ≡ ambiguous_help role }
+{
+    match role {
+        Role::Project => "use --sourcedir FOLDER with the folder of one of them",
+        Role::Target | Role::Dependency => {
+            "use a variable as the id, or --sourcedir FOLDER with the folder of one of them"
+        }
+    }
+}
+
+/// Which calls an id names.
+fn ambiguous(
+    alloc: Global,
+    project: &Project,
+    subject: Subject<'_>,
+) -> Result<Explanation, AllocError>
+    ensures { IfOk result (λ e. e ≡ ambiguous project.now subject.entry.role subject.entry.id.now) }
+{
+    let calls = calls_named(alloc, project, subject.role, subject.id)?;
+    let telling = Telling {
+        most: 5,
+        more: "",
+        others: "further calls that the id names",
+    };
+    let mut notes = Vec::new(alloc);
+    add_few(alloc, &mut notes, telling, calls.get())?;
+    with_help(alloc, notes, ambiguous_help(subject.role))
+}
+
+/// The help where a key is not one that commands change.
+fn unknown_help(alloc: Global, nearest: Option<&'static str>) -> Result<Vec<Text>, AllocError>
+    ensures { IfOk result (λ help. help.items ≡ unknown_help (option_map (λ k. k.now) nearest.entry)) }
+{
+    let mut help = Vec::new(alloc);
+    if let Some(key) = nearest {
+        help.push(Text::of(format!(in alloc; "the nearest key is {key}")?))?;
+    }
+    Ok(help)
+}
+
+/// Why a key is not one that commands change.
+fn unknown_key(alloc: Global, role: Role, key: &str) -> Result<Explanation, AllocError>
+    ensures { IfOk result (λ e. e ≡ unknown_key role key.now) }
+{
+    let notes = unknown_notes(alloc, role, key)?;
+    let nearest = nearest_key(alloc, key, keys(role))?;
+    Ok(Explanation {
+        notes: Many::of(notes),
+        help: Many::of(unknown_help(alloc, nearest)?),
+    })
+}
+
+/// The help for commands that change lists; none for others.
+fn list_help(alloc: Global, command: &Command, help: &str) -> Result<Vec<Text>, AllocError>
+    ensures { IfOk result (λ lines. lines.items ≡ list_help help.now command.now) }
+{
+    let mut lines = Vec::new(alloc);
+    match command {
+        Command::KwargsAdd { .. } | Command::KwargsRemove { .. } => {
+            lines.push(Text::of(String::from_str(alloc, help)?))?;
+        }
+        _ => {}
+    }
+    Ok(lines)
+}
+
+/// Why a value is not of the kind that its key takes.
+fn wrong_kind(alloc: Global, command: &Command, key: &str) -> Result<Explanation, AllocError>
+    ensures { IfOk result (λ e. e ≡ wrong_kind command.now key.now) }
+{
+    let notes = wrong_notes(alloc, subject_of(command).role, key)?;
+    let help = list_help(
+        alloc,
+        command,
+        "add and remove change lists; set replaces a value",
+    )?;
+    Ok(Explanation {
+        notes: Many::of(notes),
+        help: Many::of(help),
+    })
+}
+
+/// Which value is not a literal that can be changed.
+fn not_literal(
+    alloc: Global,
+    project: &Project,
+    command: &Command,
+    key: &str,
+) -> Result<Explanation, AllocError>
+    ensures { IfOk result (λ e. e ≡ not_literal project.now command.now key.now) }
+{
+    let notes = value_notes(alloc, project, subject_of(command), key)?;
+    let help = list_help(alloc, command, "set replaces the value")?;
+    Ok(Explanation {
+        notes: Many::of(notes),
+        help: Many::of(help),
+    })
+}
+
+/// Which names a target does not have.
+fn not_there(alloc: Global, project: &Project, command: &Command) -> Result<Explanation, AllocError>
+    ensures { IfOk result (λ e. e ≡ not_there project.now command.now) }
+{
+    match command {
+        Command::SourcesRemove { target, sources } => {
+            let items = sources_at(alloc, project, target.get())?;
+            with_info(alloc, items.get(), sources.get())
+        }
+        Command::ExtraRemove { target, sources } => {
+            let items = extras_at(alloc, project, target.get())?;
+            with_info(alloc, items.get(), sources.get())
+        }
+        _ => Ok(unexplained(alloc)),
+    }
+}
+
+/// Which of the names none of the items has.
+fn with_info(alloc: Global, items: &[SourceItem], names: &[Text]) -> Result<Explanation, AllocError>
+    ensures { IfOk result (λ e. e ≡ with_info (source_notes items.now names.now)) }
+{
+    let notes = source_notes(alloc, items, names)?;
+    with_help(
+        alloc,
+        notes,
+        "info lists the sources and extra files of a target",
+    )
+}
+
+/// Nothing is said.
+fn unexplained(alloc: Global) -> Explanation
+    ensures { result ≡ record { notes = []; help = [] } }
+{
+    Explanation {
+        notes: Many::new(alloc),
+        help: Many::new(alloc),
+    }
+}
+
+/// Why a command is refused: what the project, as the command finds it, holds that the refusal is about, and what may be done. Of some refusals nothing is
+/// said.
+///
+/// # Errors
+/// Out of memory.
+pub fn explain(
+    alloc: Global,
+    project: &Project,
+    command: &Command,
+    refusal: &Refusal,
+) -> Result<Explanation, AllocError>
+    ensures { IfOk result (λ e. e ≡ explanation project.now command.now refusal.now) }
+{
+    match refusal {
+        Refusal::NotFound => not_found(alloc, project, subject_of(command)),
+        Refusal::Ambiguous => ambiguous(alloc, project, subject_of(command)),
+        Refusal::UnknownKey(key) => unknown_key(alloc, subject_of(command).role, key.get()),
+        Refusal::WrongKind(key) => wrong_kind(alloc, command, key.get()),
+        Refusal::NotLiteral(key) => not_literal(alloc, project, command, key.get()),
+        Refusal::SourceNotFound => not_there(alloc, project, command),
+        _ => Ok(unexplained(alloc)),
+    }
+}

@@ -1,0 +1,14 @@
+//! Laws of explanations. The contract of each function is a law.
+
+ghost use Rattle.meson_explaining.specs.Laws.{NearestAreNear, PrintableHasNoControl};
+
+/// Each of the calls that are told as the nearest is one of the calls, and its name is up to a third of the id's length away from the id. They are three at
+/// most.
+pub fn nearest_are_near()
+    ensures { NearestAreNear }
+{}
+
+/// Nothing of a file or of a word reaches a terminal as a control character: a line has none but its end.
+pub fn printable_has_no_control()
+    ensures { PrintableHasNoControl }
+{}

@@ -1,0 +1,18 @@
+//! Why a command is refused, in words for people: what the project holds that the refusal is about, and what may be done.
+#![tactic(auto)]
+
+mod calls;
+mod explaining;
+mod explanation;
+mod keys;
+pub mod laws;
+mod lines;
+mod nearest;
+mod printable;
+mod sources;
+mod subject;
+mod values;
+
+pub use explaining::explain;
+pub use explanation::{Explanation, Note, Spot};
+pub use lines::explanation_lines;
