@@ -1,5 +1,5 @@
 -- Where texts are named.
-use Rattle.std.proofs.Common.{◌≡◌, ◌∙◌, ◌∷◌, Bool, true, false, List, [], Option, Some, None, Result, Ok, Err, codes, refl, sym, ap, subst}
+use Rattle.std.proofs.Common.{◌≡◌, ◌∷◌, Bool, true, false, List, [], Option, Some, None, Ok, Err, codes, refl, subst}
 use Rattle.std.specs.Prelude.{◌||◌, ◌&&◌, not, if◌then◌else◌, IfOk, IfSome, IsTrue, ok_or}
 use Rattle.std.proofs.lemmas.Bool.{false≢true}
 use Rattle.clap.specs.Kinds.{Kinds}
@@ -15,7 +15,6 @@ use Rattle.meson_command.specs.Program.{program}
 use Rattle.meson_command.specs.declared.asked.Action.{Action}
 use Rattle.meson_command.specs.declared.asked.Action.TheVariants as action
 use Rattle.meson_command.specs.declared.asked.Asked.{Asked}
-use Rattle.meson_command.specs.declared.fault.UsageFault.{UsageFault}
 use Rattle.meson_command.specs.declared.fault.UsageFault.TheVariants.{Usage, BadTitle}
 use Rattle.meson_command.proofs.NoHelp.{Answers, IsPlain, after, either, err, not_help, ok}
 

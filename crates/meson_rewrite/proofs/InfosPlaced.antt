@@ -1,8 +1,8 @@
 -- Listings with positions: none holds a number with a fraction, and where there is none, the command is refused.
-use Rattle.std.proofs.Common.{◌≡◌, ◌∙◌, ℕ, false, List, [], ◌∷◌, codes, map, Some, None, Ok, Err, refl, ap, subst}
+use Rattle.std.proofs.Common.{◌≡◌, ◌∙◌, ℕ, false, List, [], ◌∷◌, codes, Some, refl, ap}
 use Rattle.serde_json.specs.Data.{Data, Members, null, boolean, number, string, array, object, no_members, put}
 use Rattle.serde_json.specs.View.{items_of, view}
-use Rattle.serde_json.specs.Written.{has_float, items_have_float, members_have_float}
+use Rattle.serde_json.specs.Written.{has_float, members_have_float}
 use Rattle.meson_lex.specs.declared.kinds.Span.{Span}
 use Rattle.meson_splice.specs.declared.file_set.File.{File}
 use Rattle.meson_calls.specs.declared.call.Role.{Role}

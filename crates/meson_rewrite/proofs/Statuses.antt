@@ -44,7 +44,7 @@ module _ (exit_code json : Bool) (code : ℕ) (out out' err err' : Heard) (end :
   told-keeps asked before after ends told s =
       let is = told-refusing told s in
       subst (KeepsFiles asked before after) (sym is)
-      (run-status-keeps exit_code asked before after end ends (subst (λ n. (n ≡ 1) ⊎ (n ≡ 2)) is s))
+      (run-status-keeps asked before after end exit_code ends (subst (λ n. (n ≡ 1) ⊎ (n ≡ 2)) is s))
 
   pub told-reads : (P : Type 0) → OnOk end P → Tells exit_code json code out out' err err' end → IsDone code → P
   told-reads P read told is = done-by-status P exit_code end read (told-done told is)

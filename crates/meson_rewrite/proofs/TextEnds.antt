@@ -93,12 +93,13 @@ module _ (asked : Result Asked UsageFault) (before after : Seen) (end : Result S
       same-untold (log_use_of asked) (dir_of asked) before.content after.content end (texts-untouched (plain a) name before after end ends).kept
 
   pub run-leaves-all : RunEnds asked before after end → LeavesLog asked before after
-  run-leaves-all (without_texts _ none ends) = run-leaves asked before after end ends
+  run-leaves-all (without_texts _ none ends) ignored old new is now = run-leaves asked before after end ends ignored old new is now
   run-leaves-all (with_texts a name _ is_asked named ends) ignored old new is now =
       same-at (path_in (dir_of asked) log_name) before.content after.content old new (texts-untouched (plain a) name before after end ends).kept is now
 
   pub run-leaves-files-all : RunEnds asked before after end → status true end ≡ 0 → LeavesFiles (dir_of asked) before after
-  run-leaves-files-all (without_texts _ none ends) is_0 = run-leaves-files asked before after end ends is_0
+  run-leaves-files-all (without_texts _ none ends) is_0 old new is now path other =
+      run-leaves-files asked before after end ends is_0 old new is now path other
   run-leaves-files-all (with_texts a name _ is_asked named ends) is_0 old new is now path other =
       same-at path before.content after.content old new (texts-untouched (plain a) name before after end ends).kept is now
 

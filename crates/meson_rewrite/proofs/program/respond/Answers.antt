@@ -1,4 +1,4 @@
-use Rattle.std.proofs.Common.{Ok, None, refl, subst, sym}
+use Rattle.std.proofs.Common.{Ok, refl, subst, sym}
 use Rattle.meson_command.specs.Asking.{without_text}
 use Rattle.meson_rewrite.proofs.TextEnds.{ok-more}
 use Rattle.meson_rewrite.specs.Runs.{Ends, with_texts, without_texts}

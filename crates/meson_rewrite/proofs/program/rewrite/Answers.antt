@@ -36,13 +36,13 @@ pub returns-clause-reads_all : goal.returns-clause-reads_all
 returns-clause-reads_all g c = λ s. told-reads _ _ _ _ _ _ _ c.run-ending.result.end _ c.run-ending.ensures.reads_all c.ended-status.ensures s
 
 pub returns-clause-no_log : goal.returns-clause-no_log
-returns-clause-no_log g c = run-leaves _ _ _ _ c.run-ending.ensures.ends
+returns-clause-no_log g c = run-leaves-all _ _ _ _ c.run-ending.ensures.ends
 
 pub returns-clause-unchanged : goal.returns-clause-unchanged
 returns-clause-unchanged g c =
     let ending = c.run-ending.result in
     let wanted = wants_exit_code (asked_by (map string_bytes c.args.words.now)) in
-    λ is. run-leaves-files _ _ _ ending.end c.run-ending.ensures.ends
+    λ is. run-leaves-files-all _ _ _ ending.end c.run-ending.ensures.ends
     (subst (λ w. status w ending.end ≡ 0) is.1
     (told-0 wanted ending.json _ _ _ _ _ ending.end
     (told-by-words ending.json ending.exit_code wanted _ _ _ _ _ ending.end c.run-ending.ensures.exit_code c.ended-status.ensures) is.0))
