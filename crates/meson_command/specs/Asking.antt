@@ -133,7 +133,8 @@ without_help_text other = other
 abbrev pub without_text : Asked → Asked
 without_text a = record a { action = without_help_text a.action }
 
--- whether words are answered in JSON, by all faults that clap finds and by what the words say: where it finds one, it refuses them, or shows help or the version
+-- whether words are answered in JSON, by all faults that clap finds and by what the words say: where it finds one, it refuses them, or shows help or the
+-- version
 abbrev pub json_by : Kinds → Bool → Bool
 json_by [] json = json
 json_by (kind ∷ kinds) json = false

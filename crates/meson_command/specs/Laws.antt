@@ -76,7 +76,8 @@ IsUnknown subcommand rows =
 
 -- a file of texts is named for an action that writes, or standard input would be read twice
 abbrev pub TextsAreMisused : List Row → Text → List Row → Type 0
-TextsAreMisused own subcommand rows = (asked : Action) × (action_of subcommand rows ≡ Ok asked) × (texts_fit asked (first_of (codes "FILE") own) (is_dry own) ≡ false)
+TextsAreMisused own subcommand rows =
+    (asked : Action) × (action_of subcommand rows ≡ Ok asked) × (texts_fit asked (first_of (codes "FILE") own) (is_dry own) ≡ false)
 
 -- if clap takes the words and the usage is wrong: the folder is empty, a word is unknown or not a number, two listings are requested or one of a
 -- function without a name, or texts do not fit

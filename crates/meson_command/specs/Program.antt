@@ -57,7 +57,8 @@ kwargs = of_words (new_app (codes "kwargs")) (required_word (codes "OPERATION") 
 
 -- default-options OPERATION [OPTION VALUE]...
 unfoldable pub default_options : App
-default_options = of_words (with_alias (codes "def") (new_app (codes "default-options"))) (required_word (codes "OPERATION") ∷ many (codes "OPTION VALUE") ∷ help ∷ [])
+default_options =
+    of_words (with_alias (codes "def") (new_app (codes "default-options"))) (required_word (codes "OPERATION") ∷ many (codes "OPTION VALUE") ∷ help ∷ [])
 
 -- command [--strict] JSON
 unfoldable pub command : App
@@ -90,7 +91,8 @@ bare_command name = record (new_app name) {
 abbrev pub own_words : App
 own_words =
     fold with_rule (bare_command (codes "meson_rewrite")) (short_option (codes "DIR") (codes "sourcedir") 115 ∷ option (codes "TEXT") (codes "title")
-    ∷ flag (codes "dry-run") (codes "dry-run") ∷ flag (codes "json") (codes "json") ∷ flag (codes "exit-code") (codes "exit-code") ∷ flag (codes "no-log") (codes "no-log")
+    ∷ flag (codes "dry-run") (codes "dry-run") ∷ flag (codes "json") (codes "json") ∷ flag (codes "exit-code") (codes "exit-code")
+    ∷ flag (codes "no-log") (codes "no-log")
     ∷ option (codes "FILE") (codes "texts") ∷ short_flag (codes "verbose") (codes "verbose") 86 ∷ help ∷ version ∷ [])
 
 -- meson_rewrite [OPTION]... SUBCOMMAND

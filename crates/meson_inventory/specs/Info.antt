@@ -34,7 +34,8 @@ use Rattle.meson_inventory.specs.declared.info.KeywordPlace.{KeywordPlace}
 -- an offset of the file of that number, with its position
 abbrev pub offset_data : List File → ℕ → ℕ → Data
 offset_data files file offset =
-    object (member (codes "at") (count offset) (member (codes "character") (character_at files file offset) (member (codes "line") (line_at files file offset) no_members)))
+    object (member (codes "at") (count offset) (member (codes "character") (character_at files file offset)
+    (member (codes "line") (line_at files file offset) no_members)))
 
 -- where a part of the file begins, and where it ends: after its last byte
 abbrev pub range_data : List File → ℕ → Span → Data
@@ -45,7 +46,8 @@ range_data files file span =
 -- members with `character`, `line` and `end` of a part of the file
 abbrev pub with_position : List File → ℕ → Span → Members → Members
 with_position files file span ms =
-    put (codes "line") (line_at files file span.from) (put (codes "end") (offset_data files file span.to) (put (codes "character") (character_at files file span.from) ms))
+    put (codes "line") (line_at files file span.from) (put (codes "end") (offset_data files file span.to)
+    (put (codes "character") (character_at files file span.from) ms))
 
 -- what an expression that is a call spans
 abbrev pub call_span : Option (Expression Span) → Span

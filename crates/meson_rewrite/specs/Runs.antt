@@ -118,7 +118,8 @@ pub data Ends (asked : Result Asked UsageFault) (before after : Seen) : Result S
 -- it ends as the request without texts would on a store in which each text is the file of its name, and nothing is written
 pub data TextsEnd (a : Asked) (name : List ℕ) (before after : Seen) : Result Said Stop → Type 0 where
   -- the file is not read, or does not exist
-  has_no_file : (stop : Stop) → Untouched before after → IsNoFile before.content before.failures after.failures name stop → TextsEnd a name before after (Err stop)
+  has_no_file : (stop : Stop) → Untouched before after → IsNoFile before.content before.failures after.failures name stop
+      → TextsEnd a name before after (Err stop)
   -- it lists no texts of build files
   has_no_texts : (bytes : List ℕ) → Untouched before after → HasBytes before.content name bytes → HasNoTexts bytes
       → TextsEnd a name before after (Err BadTexts)

@@ -1,5 +1,5 @@
-//! Laws of checked undos, of the status of a change, of a read that failed, of answers and refusals as objects, and of texts in place of files. The functions do
-//! nothing; the contract of each is a law.
+//! Laws of checked undos, of the status of a change, of a read that failed, of answers and refusals as objects, and of texts in place of files. The functions
+//! do nothing; the contract of each is a law.
 
 ghost use Rattle.meson_rewrite.specs.Laws.{CheckedUndosRestore, OneUnread, SameSumsUndo, StatusesTellChanges};
 ghost use Rattle.meson_rewrite.specs.ObjectLaws.{EditsOfObjectsMake};
