@@ -16,7 +16,7 @@ call_note more c = record { spot = Some (spot_of c); text = call_words c ++ more
 abbrev pub plain_note : List ℕ → Note
 plain_note text = record { spot = None; text = text }
 
--- how many there are, unless there is none
+-- how many there are, unless there are none
 abbrev pub further : List ℕ → ℕ → List Note
 further what n = if n == 0 then [] else plain_note (what ++ (codes ": " ++ decimal n)) ∷ []
 

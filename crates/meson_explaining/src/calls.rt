@@ -57,7 +57,7 @@ fn add_each(
     Ok(())
 }
 
-/// Adds a note of how many there are, unless there is none.
+/// Adds a note of how many there are, unless there are none.
 pub(crate) fn add_further(
     alloc: Global,
     notes: &mut Vec<Note>,
@@ -73,7 +73,7 @@ pub(crate) fn add_further(
     Ok(())
 }
 
-/// How a list of calls is told: at most so many, what else is said of each, and what the others are called.
+/// How a list of calls is reported: at most so many, what else is said of each, and what the others are called.
 #[derive(Clone, Copy)]
 pub(crate) struct Telling<'t> {
     pub most: usize,

@@ -15,7 +15,7 @@ use strsim::levenshtein;
 pub(crate) const MOST_BYTES: usize = 100;
 /// The most calls whose names are compared.
 const MOST_CALLS: usize = 5000;
-/// The most calls that are told.
+/// The most calls that are reported.
 const MOST_NEAR: usize = 3;
 
 /// How many edits lead from an id to a name; None if the name is too long.

@@ -17,7 +17,7 @@ use meson_variables::SourceItem;
 use std::alloc::{AllocError, Global};
 use strsim::levenshtein;
 
-/// The most names and the most sources that are told.
+/// The most names and the most sources that a note has.
 const MOST_TOLD: usize = 3;
 
 /// The sources of a target; none where they are refused.

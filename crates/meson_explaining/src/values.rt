@@ -19,7 +19,7 @@ use meson_splice::Text;
 use meson_syntax::{Arg, Expr};
 use std::alloc::{AllocError, Global};
 
-/// The most characters of a value that are told.
+/// The most characters of a value that a note has.
 const MOST_CHARACTERS: usize = 60;
 
 /// The first line of a text, cut.

@@ -87,7 +87,7 @@ pub record IsTargetInfo (l : Loaded) (id : List ℕ) (info : Data) : Type 0 wher
   pub are_details : AreDetails (project l) told.place told
   pub is : info ≡ placed_target_data l.files (span_at l told.place) told
 
--- why there is none, except out of memory: the id names no target or more than one, or `sources:` or `extra_files:` is there twice
+-- why it reports nothing, except out of memory: the id names no target or more than one, or `sources:` or `extra_files:` is there twice
 abbrev pub HasNoTargetInfo : Loaded → List ℕ → Refusal → Type 0
 HasNoTargetInfo l id why = NoTarget (project l) id why
 
@@ -133,7 +133,7 @@ pub record IsCallInfo (l : Loaded) (role : Role) (id : List ℕ) (info : Data) :
   pub are_pairs : keywords l role place ≡ Some (Ok pairs)
   pub is : info ≡ placed_kwargs_data l.files place.file (span_at l place) its_head pairs (places_of_call role (expression_at (project l) place))
 
--- why there is none, except out of memory: the id names no call or more than one, or a keyword argument is there twice
+-- why it reports nothing, except out of memory: the id names no call or more than one, or a keyword argument is there twice
 pub data HasNoCallInfo (l : Loaded) (role : Role) (id : List ℕ) : Refusal → Type 0 where
   not_found : (refusal : Refusal) → place_found (the_call (project l) role id) ≡ Err refusal → HasNoCallInfo l role id refusal
   twice : (place : CallRef) (refusal : Refusal) → place_found (the_call (project l) role id) ≡ Ok place → keywords l role place ≡ Some (Err refusal)

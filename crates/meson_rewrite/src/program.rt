@@ -221,7 +221,7 @@ fn respond<S: Store>(alloc: Global, store: &mut S, asked: Asked) -> Result<Said,
     }
 }
 
-/// How a run ends, and how that is told.
+/// How a run ends, and how it reports that.
 #[derive(Drop)]
 struct Ending {
     end: Result<Said, Stop>,
