@@ -15,6 +15,8 @@ pub mod Unread
 pub mod LogName
 pub mod LogLeft
 mod Statuses
+mod CommandSubjects
+pub mod SubjectWords
 pub mod Checking
 pub mod CheckedUndos
 pub mod ChangesTold

@@ -72,7 +72,7 @@ undo-unread files (undo.Load (load.Parse place fault)) = refl
 undo-unread files (undo.Load load.OutOfMemory) = refl
 
 run-unread : (old : Session) (commands : List Command) (why : Stop) → StopsRun old commands why → unread_by why ≡ None
-run-unread old commands (Refused fault) h = refl
+run-unread old commands (Refused fault subject) h = refl
 run-unread old commands _ h = absurd h
 
 step-unread : (old : Session) (step : Result (History × List File) SpliceFault) (why : Stop) → StopsStep old step why → unread_by why ≡ None

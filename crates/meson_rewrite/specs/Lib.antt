@@ -4,6 +4,7 @@ pub mod Telling
 pub mod Lines
 pub mod Codes
 pub mod Refused
+pub mod Subjects
 pub mod Changes
 pub mod Listed
 pub mod Objects

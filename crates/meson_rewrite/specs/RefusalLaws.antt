@@ -1,11 +1,15 @@
 -- What is promised of the object of a refusal, in the words of its line.
-use Rattle.std.specs.Prelude.{◌≡◌, ◌⊎◌, ℕ, false, List, [], ◌∷◌, ◌++◌, ◌==◌, codes, decimal, Option, None, Some}
+use Rattle.std.specs.Prelude.{◌≡◌, ◌<◌, ◌⊎◌, ℕ, false, List, [], ◌∷◌, ◌++◌, ◌==◌, codes, decimal, length, map, slice_index_or, Option, None, Some}
 use Rattle.std.specs.List.{list_any}
 use Rattle.serde_json.specs.Data.{object, string}
 use Rattle.serde_json.specs.Find.{get}
+use Rattle.meson_calls.specs.declared.refusal.Refusal.{Refusal}
+use Rattle.meson_steps.specs.declared.command.Command.{Command}
+use Rattle.meson_steps.specs.declared.command.Command.TheVariants.{SourcesAdd, SourcesRemove, ExtraAdd, ExtraRemove, TargetAdd, TargetRemove, TargetInfo, KwargsSet, KwargsAdd, KwargsRemove, KwargsDelete, KwargsInfo, OptionsSet, OptionsDelete}
 use Rattle.meson_rewrite.specs.Codes.{memory_code, stop_code}
 use Rattle.meson_rewrite.specs.Lines.{stop_text}
 use Rattle.meson_rewrite.specs.Refused.{stop_command, stop_entry, stop_members}
+use Rattle.meson_rewrite.specs.Subjects.{subject_of}
 use Rattle.meson_rewrite.specs.declared.stop.Stop.{Stop}
 use Rattle.meson_rewrite.specs.declared.stop.Stop.TheVariants.{Parse}
 
@@ -32,3 +36,29 @@ CodesAreWords = (stop : Stop) → ((stop_code stop ≡ memory_code) × (stop_tex
 abbrev pub MembersAreWords : Type 0
 MembersAreWords = (stop : Stop) → (get (codes "message") (object (stop_members stop)) ≡ Some (string (stop_text stop)))
     × (get (codes "code") (object (stop_members stop)) ≡ Some (string (stop_code stop)))
+
+-- the words of a command: its id, its folder and its sources, keys or options
+abbrev pub words_of : Command → List (List ℕ)
+words_of (SourcesAdd target sources) = target ∷ sources
+words_of (SourcesRemove target sources) = target ∷ sources
+words_of (ExtraAdd target sources) = target ∷ sources
+words_of (ExtraRemove target sources) = target ∷ sources
+words_of (TargetAdd target kind subdir sources) = target ∷ subdir ∷ sources
+words_of (TargetRemove target) = target ∷ []
+words_of (TargetInfo target) = target ∷ []
+words_of (KwargsSet role id pairs) = id ∷ map (λ p. p.0) pairs
+words_of (KwargsAdd role id pairs) = id ∷ map (λ p. p.0) pairs
+words_of (KwargsRemove role id pairs) = id ∷ map (λ p. p.0) pairs
+words_of (KwargsDelete role id keys) = id ∷ keys
+words_of (KwargsInfo role id) = id ∷ []
+words_of (OptionsSet pairs) = map (λ p. p.0) pairs
+words_of (OptionsDelete names) = names
+
+abbrev pub IsAmong : List (List ℕ) → List ℕ → Type 0
+IsAmong [] word = ⊥
+IsAmong (first ∷ more) word = (first ≡ word) ⊎ IsAmong more word
+
+-- What is told as the subject of a refused command is a word of the command of that number.
+abbrev pub SubjectsAreWords : Type 0
+SubjectsAreWords = (commands : List Command) (index : ℕ) (why : Refusal) (name : List ℕ) → subject_of commands index why ≡ Some name
+    → (index < length commands) × ((other : Command) → IsAmong (words_of (slice_index_or commands index other)) name)

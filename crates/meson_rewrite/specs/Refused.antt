@@ -52,7 +52,7 @@ refused_command index refusal.OutOfMemory = None
 refused_command index _ = Some index
 
 abbrev pub stop_command : Stop → Option ℕ
-stop_command (Refused fault) = refused_command fault.index fault.refusal
+stop_command (Refused fault subject) = refused_command fault.index fault.refusal
 stop_command _ = None
 
 abbrev pub script_entry : ScriptFault → Option ℕ
@@ -103,15 +103,16 @@ abbrev pub stop_left : Stop → Option (List (List ℕ))
 stop_left (Store fault) = store_left fault
 stop_left _ = None
 
--- ---- the name of the key, the member or the variable that is meant
+-- ---- the name that is meant
 
-abbrev pub refusal_subject : Refusal → Option (List ℕ)
-refusal_subject (refusal.UnknownKey name) = Some name
-refusal_subject (refusal.WrongKind name) = Some name
-refusal_subject (refusal.DuplicateKeyword name) = Some name
-refusal_subject (refusal.NotLiteral name) = Some name
-refusal_subject (refusal.InUse name) = Some name
-refusal_subject _ = None
+-- the key or the variable of the refusal; else the subject, if the command alone names it
+abbrev pub refusal_subject : Refusal → Option (List ℕ) → Option (List ℕ)
+refusal_subject (refusal.UnknownKey name) subject = Some name
+refusal_subject (refusal.WrongKind name) subject = Some name
+refusal_subject (refusal.DuplicateKeyword name) subject = Some name
+refusal_subject (refusal.NotLiteral name) subject = Some name
+refusal_subject (refusal.InUse name) subject = Some name
+refusal_subject _ subject = subject
 
 abbrev pub script_subject : ScriptFault → Option (List ℕ)
 script_subject (script.BadField index member_) = Some member_
@@ -120,7 +121,7 @@ script_subject _ = None
 
 abbrev pub stop_name : Stop → Option (List ℕ)
 stop_name (Script fault) = script_subject fault
-stop_name (Refused fault) = refusal_subject fault.refusal
+stop_name (Refused fault subject) = refusal_subject fault.refusal subject
 stop_name _ = None
 
 -- ---- the object

@@ -22,6 +22,7 @@ use Rattle.meson_sums.specs.Sums.{sums}
 use Rattle.meson_rewrite.specs.Lines.{done_line, forgot_line, title_line}
 use Rattle.meson_rewrite.specs.Objects.{SaysObject, changes_files}
 use Rattle.meson_rewrite.specs.Stops.{undo_stop}
+use Rattle.meson_rewrite.specs.Subjects.{subject_of}
 use Rattle.meson_rewrite.specs.declared.request.NamedFile.{NamedFile}
 use Rattle.meson_rewrite.specs.declared.request.Step.{Step}
 use Rattle.meson_rewrite.specs.declared.request.Step.TheVariants.{Run, Tell, Undo, UndoTo, UndoChecked, Redo, ForgetOldest, ForgetAll}
@@ -50,9 +51,10 @@ Does (ForgetOldest count) old report new = Forgets count old.history new.history
 Does ForgetAll old report new = (new.history ≡ record { past = []; future = [] }) × Stays old report new
 Does Redo old report new = Steps old old.history.future (redone old.history old.project.files) report new
 
--- a script is refused at a command
+-- a script is refused at a command, which gives the subject
 abbrev pub StopsRun : Session → List Command → Stop → Type 0
-StopsRun old commands (Refused fault) = fault.refusal ≢ OutOfMemory → MayStop old.project commands fault.index fault.refusal
+StopsRun old commands (Refused fault subject) =
+    (fault.refusal ≢ OutOfMemory → MayStop old.project commands fault.index fault.refusal) × (subject ≡ subject_of commands fault.index fault.refusal)
 StopsRun old commands _ = ⊥
 
 -- a change is not taken back or done again

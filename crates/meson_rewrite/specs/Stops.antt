@@ -39,7 +39,7 @@ undo_stop files (undo.Load load.OutOfMemory) = Store store.OutOfMemory
 abbrev pub WantsMemory : Stop → Type 0
 WantsMemory (Usage fault) = fault ≡ usage.OutOfMemory
 WantsMemory (Script fault) = fault ≡ script.OutOfMemory
-WantsMemory (Refused fault) = fault.refusal ≡ refusal.OutOfMemory
+WantsMemory (Refused fault subject) = fault.refusal ≡ refusal.OutOfMemory
 WantsMemory (Splice fault) = fault ≡ splice.OutOfMemory
 WantsMemory (Store fault) = fault ≡ store.OutOfMemory
 WantsMemory _ = ⊥

@@ -132,7 +132,7 @@ pub(crate) fn code_of(stop: &Stop) -> &'static str
         Stop::Parse { fault, .. } => file_fault_code(*fault),
         Stop::TooManyFiles => "M1",
         Stop::BadFileName(_) => "M2",
-        Stop::Refused(fault) => refusal_code(&fault.refusal),
+        Stop::Refused { fault, .. } => refusal_code(&fault.refusal),
         Stop::Splice(fault) => splice_code(fault),
         Stop::OtherFiles(_) => "P6",
         Stop::BadTexts => "J11",

@@ -3,7 +3,7 @@
 
 ghost use Rattle.meson_rewrite.specs.Laws.{CheckedUndosRestore, OneUnread, SameSumsUndo, StatusesTellChanges};
 ghost use Rattle.meson_rewrite.specs.ObjectLaws.{EditsOfObjectsMake};
-ghost use Rattle.meson_rewrite.specs.RefusalLaws.{CodesAreWords, MembersAreWords};
+ghost use Rattle.meson_rewrite.specs.RefusalLaws.{CodesAreWords, MembersAreWords, SubjectsAreWords};
 ghost use Rattle.meson_rewrite.specs.TextLaws.{AnswersAsFiles, TextsAreFiles};
 
 use meson_sums::laws::sums_tell;
@@ -43,6 +43,11 @@ pub fn codes_are_words()
 /// What the object of a refusal has: as `message` what its line has after `error: `, and as `code` its code.
 pub fn members_are_words()
     ensures { MembersAreWords }
+{}
+
+/// What the subject of a refused command is: a word of the command of that number.
+pub fn subjects_are_words()
+    ensures { SubjectsAreWords }
 {}
 
 /// What the edits in an answer promise: done on the files as they were before the step, they make the files as they are after it, to every byte. A file that

@@ -16,6 +16,7 @@ mod request;
 mod said;
 mod steps;
 mod stop;
+mod subjects;
 mod texts;
 
 pub use meson_command::{Action, Asked, UsageFault, command_of};

@@ -44,9 +44,9 @@ fn file_fault_offset(fault: ParseFault) -> Option<usize>
     }
 }
 
-/// The name of the key or of the variable, if one is meant.
-fn refusal_subject(refusal: &Refusal) -> Option<&str>
-    ensures { option_map (λ name. name.now) result ≡ refusal_subject refusal.now }
+/// The name of the key or of the variable that is meant; else that of the subject, if the refused command alone names it.
+fn refusal_subject<'s>(refusal: &'s Refusal, subject: &'s Option<Text>) -> Option<&'s str>
+    ensures { option_map (λ name. name.now) result ≡ refusal_subject refusal.entry.now subject.entry.now }
 {
     match refusal {
         Refusal::UnknownKey(name)
@@ -54,7 +54,10 @@ fn refusal_subject(refusal: &Refusal) -> Option<&str>
         | Refusal::DuplicateKeyword(name)
         | Refusal::NotLiteral(name)
         | Refusal::InUse(name) => Some(name.get()),
-        _ => None,
+        _ => match subject {
+            Some(name) => Some(name.get()),
+            None => None,
+        },
     }
 }
 
@@ -75,7 +78,7 @@ impl Stop {
         ensures { result ≡ stop_command self.now }
     {
         match self {
-            Stop::Refused(fault) => match fault.refusal {
+            Stop::Refused { fault, .. } => match fault.refusal {
                 Refusal::OutOfMemory => None,
                 _ => Some(fault.index),
             },
@@ -134,12 +137,12 @@ impl Stop {
         }
     }
 
-    /// The name of the key, of the member or of the variable that is meant.
+    /// The name of the key, of the member, of the variable, of the call, of the source or of the folder that is meant.
     fn name(&self) -> Option<&str>
         ensures { option_map (λ name. name.now) result ≡ stop_name self.now }
     {
         match self {
-            Stop::Refused(fault) => refusal_subject(&fault.refusal),
+            Stop::Refused { fault, subject } => refusal_subject(&fault.refusal, subject),
             Stop::Script(
                 ScriptFault::BadField(_, member) | ScriptFault::UnknownMember(_, member),
             ) => Some(member.get()),

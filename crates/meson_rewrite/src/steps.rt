@@ -17,6 +17,7 @@ use crate::opening::{LOG, LogUse, StoredSession, leave};
 use crate::request::{NamedFile, Step};
 use crate::said::Said;
 use crate::stop::Stop;
+use crate::subjects::refused;
 use meson_command::Flags;
 use meson_diff::diff;
 use meson_plan::{LoadFault, Project};
@@ -138,11 +139,11 @@ pub(crate) fn act(alloc: Global, session: &mut Session, step: &Step) -> Result<R
     match step {
         Step::Run { script, title } => match session.run_titled(alloc, script, title.get()) {
             Ok(report) => Ok(report),
-            Err(fault) => Err(Stop::Refused(fault)),
+            Err(fault) => Err(refused(alloc, script, fault)),
         },
         Step::Tell(script) => match session.run(alloc, script) {
             Ok(report) => Ok(report),
-            Err(fault) => Err(Stop::Refused(fault)),
+            Err(fault) => Err(refused(alloc, script, fault)),
         },
         Step::Undo => match session.undo(alloc) {
             Ok(report) => Ok(report),

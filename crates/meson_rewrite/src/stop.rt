@@ -19,13 +19,19 @@ pub(crate) enum Stop {
     /// The script or the log is not valid.
     Script(ScriptFault),
     /// The file of this name is not a valid build file, or would not be one.
-    Parse { name: Text, fault: ParseFault },
+    Parse {
+        name: Text,
+        fault: ParseFault,
+    },
     /// The project has more files than it may have.
     TooManyFiles,
     /// The file of this number would not have the name of a build file.
     BadFileName(usize),
-    /// A command of the script is refused.
-    Refused(RunFault),
+    /// A command of the script is refused; the subject is the name that is meant, if the command alone names it.
+    Refused {
+        fault: RunFault,
+        subject: Option<Text>,
+    },
     /// The change is not taken back, or not done again.
     Splice(SpliceFault),
     /// The files of the project have other digests than the file of this name holds.
@@ -52,7 +58,7 @@ impl fmt::Display for Stop {
             },
             Stop::TooManyFiles => write!(f, "{}", LoadFault::TooManyFiles),
             Stop::BadFileName(index) => write!(f, "{}", LoadFault::BadFileName(*index)),
-            Stop::Refused(fault) => write!(f, "{fault}"),
+            Stop::Refused { fault, .. } => write!(f, "{fault}"),
             Stop::Splice(fault) => write!(f, "{fault}"),
             Stop::OtherFiles(name) => write!(f, "P6 files are not as {name} has them"),
             Stop::BadTexts => f.write_str("J11 bad texts"),
