@@ -58,7 +58,7 @@ abbrev pub IsAmong : List (List ℕ) → List ℕ → Type 0
 IsAmong [] word = ⊥
 IsAmong (first ∷ more) word = (first ≡ word) ⊎ IsAmong more word
 
--- What is told as the subject of a refused command is a word of the command of that number.
+-- The subject of a refused command is a word of the command of that number.
 abbrev pub SubjectsAreWords : Type 0
 SubjectsAreWords = (commands : List Command) (index : ℕ) (why : Refusal) (name : List ℕ) → subject_of commands index why ≡ Some name
     → (index < length commands) × ((other : Command) → IsAmong (words_of (slice_index_or commands index other)) name)
