@@ -36,12 +36,13 @@ abbrev pub flags_in : List Row → Flags
 flags_in rows = record {
   dry_run = is_dry rows;
   json = is_json_answer rows;
+  explain = has_flag (codes "explain") rows;
   exit_code = has_flag (codes "exit-code") rows;
   no_log = has_flag (codes "no-log") rows;
 }
 
 abbrev pub no_flags : Flags
-no_flags = record { dry_run = false; json = false; exit_code = false; no_log = false }
+no_flags = record { dry_run = false; json = false; explain = false; exit_code = false; no_log = false }
 
 -- ---- texts of files, for what writes nothing
 

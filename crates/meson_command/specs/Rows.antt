@@ -165,10 +165,13 @@ abbrev pub Flagged : Type 0
 Flagged =
     asks (codes "--exit-code undo") (flagged (record no_flags { exit_code = true }) Undo)
     × asks (codes "--no-log undo") (flagged (record no_flags { no_log = true }) Undo)
-    × asks (codes "--no-log --exit-code --json --dry-run redo") (flagged (record { dry_run = true; json = true; exit_code = true; no_log = true }) Redo)
+    × asks (codes "--explain undo") (flagged (record no_flags { explain = true }) Undo)
+    × asks (codes "--no-log --exit-code --explain --json --dry-run redo")
+        (flagged (record { dry_run = true; json = true; explain = true; exit_code = true; no_log = true }) Redo)
     × asks (codes "--exit-code list") (flagged (record no_flags { exit_code = true }) (action.List false))
     × asks (codes "undo --exit-code") (Err Usage)
     × asks (codes "undo --no-log") (Err Usage)
+    × asks (codes "undo --explain") (Err Usage)
     × asks (codes "--exit-code --exit-code undo") (Err Usage)
     × asks (codes "--no-log=true undo") (Err Usage)
 

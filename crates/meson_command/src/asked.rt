@@ -70,6 +70,8 @@ pub struct Flags {
     pub dry_run: bool,
     /// Whether it is answered in JSON.
     pub json: bool,
+    /// Whether a refusal is explained.
+    pub explain: bool,
     /// Whether the status says that a build file was changed.
     pub exit_code: bool,
     /// Whether the undo log is left alone.
@@ -203,6 +205,7 @@ fn flags_in(matches: &ArgMatches<'_>) -> Flags
     Flags {
         dry_run: is_set(matches, "dry-run"),
         json: is_set(matches, "json"),
+        explain: is_set(matches, "explain"),
         exit_code: is_set(matches, "exit-code"),
         no_log: is_set(matches, "no-log"),
     }
@@ -257,6 +260,7 @@ fn shown(alloc: Global, action: Action) -> Asked
         flags: Flags {
             dry_run: false,
             json: false,
+            explain: false,
             exit_code: false,
             no_log: false,
         },
@@ -266,8 +270,8 @@ fn shown(alloc: Global, action: Action) -> Asked
 }
 
 /// The request of the words of a command line, of which the first is the program's name. They are those of the Rewriter page of the Meson manual; `undo`,
-/// `redo`, `history`, `list`, `unset`, `--title`, `--dry-run`, `--json`, `--exit-code`, `--no-log`, `--texts`, `--strict`, `--subdir` and `--type` are this
-/// program's own. Values, ids and names are passed on as given.
+/// `redo`, `history`, `list`, `unset`, `--title`, `--dry-run`, `--json`, `--explain`, `--exit-code`, `--no-log`, `--texts`, `--strict`, `--subdir` and
+/// `--type` are this program's own. Values, ids and names are passed on as given.
 ///
 /// # Errors
 /// The first of these faults, in this order. A word is missing, unknown or one too many, a number is not valid, two listings are requested or one of a function

@@ -265,6 +265,7 @@ fn own_words<'h>(alloc: Global) -> Result<Command<'h>, AllocError>
     let program = with_option(alloc, program, "TEXT", "title", help::TITLE);
     let program = with_flag(alloc, program, "dry-run", "dry-run", help::DRY_RUN);
     let program = with_flag(alloc, program, "json", "json", help::ANSWER_JSON);
+    let program = with_flag(alloc, program, "explain", "explain", help::EXPLAIN);
     let program = with_flag(alloc, program, "exit-code", "exit-code", help::EXIT_CODE);
     let program = with_flag(alloc, program, "no-log", "no-log", help::NO_LOG);
     let program = with_option(alloc, program, "FILE", "texts", help::TEXTS);

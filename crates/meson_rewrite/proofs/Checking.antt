@@ -4,6 +4,7 @@ use Rattle.std.specs.Prelude.{IfErr}
 use Rattle.std.proofs.lemmas.Bool.Decides.{not_from_Decides}
 use Rattle.std.proofs.lemmas.Result.{IfErr-weaker}
 use Rattle.std.proofs.lemmas.Slice.Eq.{bytes_eq-Decides}
+use Rattle.meson_command.specs.declared.asked.Flags.{Flags}
 use Rattle.meson_script.specs.declared.session.Report.{Report}
 use Rattle.meson_script.specs.declared.session.Session.{Session}
 use Rattle.meson_splice.specs.declared.file_set.File.{File}
@@ -22,5 +23,5 @@ module _ (kept : NamedFile) (old : Session) (files : List File) (bytes : List �
   other-sums is has = not_from_Decides _ (bytes_eq-Decides (sums files) bytes) is (ap sums are_files ∙ sym has ∙ sym are_bytes)
 
 -- a refusal of a step, want of memory aside
-pub may-refuse : (step : Step) (old : Session) (r : Result Report Stop) → IfErr r (MayRefuseStep step old) → IfErr r (λ why. WantsMemory why ⊎ MayRefuseStep step old why)
-may-refuse step old r refused = IfErr-weaker r (MayRefuseStep step old) (λ why. WantsMemory why ⊎ MayRefuseStep step old why) (λ why may. inr may) refused
+pub may-refuse : (flags : Flags) (step : Step) (old : Session) (r : Result Report Stop) → IfErr r (MayRefuseStep flags step old) → IfErr r (λ why. WantsMemory why ⊎ MayRefuseStep flags step old why)
+may-refuse flags step old r refused = IfErr-weaker r (MayRefuseStep flags step old) (λ why. WantsMemory why ⊎ MayRefuseStep flags step old why) (λ why may. inr may) refused

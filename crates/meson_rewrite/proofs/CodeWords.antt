@@ -17,6 +17,7 @@ use Rattle.meson_store.specs.declared.store_fault.StoreFault.TheVariants as stor
 use Rattle.meson_rewrite.specs.Codes.{memory_code, stop_code}
 use Rattle.meson_rewrite.specs.Lines.{stop_text}
 use Rattle.meson_rewrite.specs.RefusalLaws.{CodesAreWords, HasCode, numbered_place}
+use Rattle.meson_rewrite.specs.declared.advice.Advice.{Advice}
 use Rattle.meson_rewrite.specs.declared.stop.Stop.{Stop}
 use Rattle.meson_rewrite.specs.declared.stop.Stop.TheVariants.{Usage, Script, Parse, TooManyFiles, BadFileName, Refused, Splice, OtherFiles, BadTexts, Store}
 
@@ -74,26 +75,26 @@ in_command n meaning = ap (λ (l : List ℕ). codes "command " ++ l) (sym (appen
 bare : (n : ℕ) (meaning : List ℕ) → codes "command " ++ (decimal n ++ (codes ": " ++ (meaning ++ []))) ≡ (numbered_place (codes "command ") (Some n) ++ []) ++ meaning
 bare n meaning = ap (λ (l : List ℕ). codes "command " ++ (decimal n ++ (codes ": " ++ l))) (append-nil meaning) ∙ in_command n meaning
 
-of_refusal : (n : ℕ) (why : Refusal) (subject : Option (List ℕ)) → Known (Refused (record { index = n; refusal = why }) subject)
-of_refusal n refusal.NoProject subject = inr (record { meaning = codes "no project"; words = bare n _; one_word = refl })
-of_refusal n refusal.NotFound subject = inr (record { meaning = codes "not found"; words = bare n _; one_word = refl })
-of_refusal n refusal.Ambiguous subject = inr (record { meaning = codes "ambiguous"; words = bare n _; one_word = refl })
-of_refusal n (refusal.UnknownKey name) subject = inr (record { meaning = codes "unknown key"; words = bare n _; one_word = refl })
-of_refusal n (refusal.WrongKind name) subject = inr (record { meaning = codes "wrong kind"; words = bare n _; one_word = refl })
-of_refusal n refusal.BadName subject = inr (record { meaning = codes "bad name"; words = bare n _; one_word = refl })
-of_refusal n refusal.HiddenKeywords subject = inr (record { meaning = codes "hidden keywords"; words = bare n _; one_word = refl })
-of_refusal n (refusal.DuplicateKeyword name) subject = inr (record { meaning = codes "duplicate keyword: " ++ name; words = in_command n _; one_word = refl })
-of_refusal n (refusal.NotLiteral name) subject = inr (record { meaning = codes "not literal: " ++ name; words = in_command n _; one_word = refl })
-of_refusal n refusal.SourceNotFound subject = inr (record { meaning = codes "source not found"; words = bare n _; one_word = refl })
-of_refusal n refusal.Unresolved subject = inr (record { meaning = codes "unresolved"; words = bare n _; one_word = refl })
-of_refusal n refusal.NotRemovable subject = inr (record { meaning = codes "not removable"; words = bare n _; one_word = refl })
-of_refusal n refusal.NameTaken subject = inr (record { meaning = codes "name taken"; words = bare n _; one_word = refl })
-of_refusal n refusal.NoFile subject = inr (record { meaning = codes "no file"; words = bare n _; one_word = refl })
-of_refusal n refusal.NotStatement subject = inr (record { meaning = codes "not a statement"; words = bare n _; one_word = refl })
-of_refusal n (refusal.InUse name) subject = inr (record { meaning = codes "in use: " ++ name; words = in_command n _; one_word = refl })
-of_refusal n refusal.TooDeep subject = inr (record { meaning = codes "too deep"; words = bare n _; one_word = refl })
-of_refusal n refusal.TooLarge subject = inr (record { meaning = codes "too large"; words = bare n _; one_word = refl })
-of_refusal n refusal.OutOfMemory subject = inl (refl, refl)
+of_refusal : (n : ℕ) (why : Refusal) (subject : Option (List ℕ)) (advice : Advice) → Known (Refused (record { index = n; refusal = why }) subject advice)
+of_refusal n refusal.NoProject subject advice = inr (record { meaning = codes "no project"; words = bare n _; one_word = refl })
+of_refusal n refusal.NotFound subject advice = inr (record { meaning = codes "not found"; words = bare n _; one_word = refl })
+of_refusal n refusal.Ambiguous subject advice = inr (record { meaning = codes "ambiguous"; words = bare n _; one_word = refl })
+of_refusal n (refusal.UnknownKey name) subject advice = inr (record { meaning = codes "unknown key"; words = bare n _; one_word = refl })
+of_refusal n (refusal.WrongKind name) subject advice = inr (record { meaning = codes "wrong kind"; words = bare n _; one_word = refl })
+of_refusal n refusal.BadName subject advice = inr (record { meaning = codes "bad name"; words = bare n _; one_word = refl })
+of_refusal n refusal.HiddenKeywords subject advice = inr (record { meaning = codes "hidden keywords"; words = bare n _; one_word = refl })
+of_refusal n (refusal.DuplicateKeyword name) subject advice = inr (record { meaning = codes "duplicate keyword: " ++ name; words = in_command n _; one_word = refl })
+of_refusal n (refusal.NotLiteral name) subject advice = inr (record { meaning = codes "not literal: " ++ name; words = in_command n _; one_word = refl })
+of_refusal n refusal.SourceNotFound subject advice = inr (record { meaning = codes "source not found"; words = bare n _; one_word = refl })
+of_refusal n refusal.Unresolved subject advice = inr (record { meaning = codes "unresolved"; words = bare n _; one_word = refl })
+of_refusal n refusal.NotRemovable subject advice = inr (record { meaning = codes "not removable"; words = bare n _; one_word = refl })
+of_refusal n refusal.NameTaken subject advice = inr (record { meaning = codes "name taken"; words = bare n _; one_word = refl })
+of_refusal n refusal.NoFile subject advice = inr (record { meaning = codes "no file"; words = bare n _; one_word = refl })
+of_refusal n refusal.NotStatement subject advice = inr (record { meaning = codes "not a statement"; words = bare n _; one_word = refl })
+of_refusal n (refusal.InUse name) subject advice = inr (record { meaning = codes "in use: " ++ name; words = in_command n _; one_word = refl })
+of_refusal n refusal.TooDeep subject advice = inr (record { meaning = codes "too deep"; words = bare n _; one_word = refl })
+of_refusal n refusal.TooLarge subject advice = inr (record { meaning = codes "too large"; words = bare n _; one_word = refl })
+of_refusal n refusal.OutOfMemory subject advice = inl (refl, refl)
 
 of_splice : (fault : SpliceFault) → Known (Splice fault)
 of_splice (splice.NoFile file) = inr (record { meaning = codes "no file " ++ file; words = refl; one_word = refl })
@@ -116,7 +117,7 @@ codes_are_words (Script fault) = of_script fault
 codes_are_words (Parse name fault) = of_parse name fault
 codes_are_words TooManyFiles = inr (record { meaning = codes "too many files"; words = refl; one_word = refl })
 codes_are_words (BadFileName place) = inr (record { meaning = codes "bad file name " ++ decimal place; words = refl; one_word = refl })
-codes_are_words (Refused fault subject) = of_refusal fault.index fault.refusal subject
+codes_are_words (Refused fault subject advice) = of_refusal fault.index fault.refusal subject advice
 codes_are_words (Splice fault) = of_splice fault
 codes_are_words (OtherFiles name) = inr (record { meaning = codes "files are not as " ++ (name ++ codes " has them"); words = refl; one_word = refl })
 codes_are_words BadTexts = inr (record { meaning = codes "bad texts"; words = refl; one_word = refl })

@@ -122,7 +122,7 @@ module _ (dir : Option (List ℕ)) (step : Step) (flags : Flags) where
     stopped-opening stop (inr none) = not_opened stop u none
 
     module _ (old : Session) (log : List ℕ) (opens : Opens (log_use flags.no_log) b.content dir old log) where
-      pub stopped-acting : (stop : Stop) → WantsMemory stop ⊎ MayRefuseStep step old stop → StepEnds dir step flags b a (Err stop)
+      pub stopped-acting : (stop : Stop) → WantsMemory stop ⊎ MayRefuseStep flags step old stop → StepEnds dir step flags b a (Err stop)
       stopped-acting stop (inl m) = no_memory stop u m
       stopped-acting stop (inr may) = refused old log stop u opens may
 

@@ -27,8 +27,10 @@ pub mod Escapes
 pub mod Insides
 pub mod TextArrays
 pub mod RefusalObjects
+pub mod NoteTexts
 pub mod CodeWords
 pub mod RefusalMembers
+pub mod PlainEnds
 pub mod ObjectEdits
 pub mod InfosPlaced
 pub mod PlacedTexts

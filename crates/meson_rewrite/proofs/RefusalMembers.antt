@@ -2,7 +2,7 @@
 use Rattle.std.proofs.Common.{◌≡◌, ℕ, List, Option, None, Some, codes, refl, ◌∙◌}
 use Rattle.serde_json.specs.Data.{Data, Members, member}
 use Rattle.serde_json.specs.Find.{get_member}
-use Rattle.meson_rewrite.specs.Refused.{stop_command, stop_entry, stop_file, stop_left, stop_offset, with_number, with_text, with_texts}
+use Rattle.meson_rewrite.specs.Refused.{stop_command, stop_entry, stop_file, stop_help, stop_left, stop_offset, with_number, with_text, with_texts}
 use Rattle.meson_rewrite.specs.RefusalLaws.{MembersAreWords}
 
 -- a member with the one key is passed in search of the other
@@ -27,6 +27,7 @@ members_are_words stop = (
       ∙ past_number (codes "message") (codes "command") (stop_command stop) _ (λ d more. refl)
       ∙ past_number (codes "message") (codes "entry") (stop_entry stop) _ (λ d more. refl)
       ∙ past_text (codes "message") (codes "file") (stop_file stop) _ (λ d more. refl)
+      ∙ past_texts (codes "message") (codes "help") (stop_help stop) _ (λ d more. refl)
       ∙ past_texts (codes "message") (codes "left") (stop_left stop) _ (λ d more. refl),
   past_number (codes "code") (codes "at") (stop_offset stop) _ (λ d more. refl),
 )

@@ -3,6 +3,7 @@ use Rattle.std.proofs.Common.{◌≡◌, ◌⊎◌, ◌∙◌, ℕ, List, [], �
 use Rattle.std.specs.Prelude.{IfErr}
 use Rattle.meson_command.specs.declared.asked.Action.{Action}
 use Rattle.meson_command.specs.declared.asked.Action.TheVariants as action
+use Rattle.meson_command.specs.declared.asked.Flags.{Flags}
 use Rattle.meson_calls.specs.declared.load_fault.LoadFault.TheVariants as load
 use Rattle.meson_script.specs.declared.fault.UndoFault.{UndoFault}
 use Rattle.meson_script.specs.declared.fault.UndoFault.TheVariants as undo
@@ -71,9 +72,9 @@ undo-unread files (undo.Load (load.BadFileName place)) = refl
 undo-unread files (undo.Load (load.Parse place fault)) = refl
 undo-unread files (undo.Load load.OutOfMemory) = refl
 
-run-unread : (old : Session) (commands : List Command) (why : Stop) → StopsRun old commands why → unread_by why ≡ None
-run-unread old commands (Refused fault subject) h = refl
-run-unread old commands _ h = absurd h
+run-unread : (flags : Flags) (old : Session) (commands : List Command) (why : Stop) → StopsRun flags old commands why → unread_by why ≡ None
+run-unread flags old commands (Refused fault subject advice) h = refl
+run-unread flags old commands _ h = absurd h
 
 step-unread : (old : Session) (step : Result (History × List File) SpliceFault) (why : Stop) → StopsStep old step why → unread_by why ≡ None
 step-unread old step why h = ap unread_by h.2 ∙ undo-unread old.project.files h.0
@@ -81,26 +82,26 @@ step-unread old step why h = ap unread_by h.2 ∙ undo-unread old.project.files 
 back-unread : (count : ℕ) (old : Session) (why : Stop) → StopsStepsBack count old why → unread_by why ≡ None
 back-unread count old why h = ap unread_by h.3 ∙ undo-unread old.project.files h.0
 
-refused-unread : (step : Step) (old : Session) (why : Stop) → MayRefuseStep step old why → unread_by why ≡ None
-refused-unread (Run script title) old why h = run-unread old script.commands why h
-refused-unread (Tell script) old why h = run-unread old script.commands why h
-refused-unread Undo old why h = step-unread old (undone old.history old.project.files) why h
-refused-unread (UndoTo count) old why h = back-unread count old why h
-refused-unread (UndoChecked count kept) old why (inl other) = ap unread_by other.1
-refused-unread (UndoChecked count kept) old why (inr (has, back)) = back-unread count old why back
-refused-unread (ForgetOldest count) old why h = ap unread_by h.1
-refused-unread ForgetAll old why h = absurd h
-refused-unread Redo old why h = step-unread old (redone old.history old.project.files) why h
+refused-unread : (flags : Flags) (step : Step) (old : Session) (why : Stop) → MayRefuseStep flags step old why → unread_by why ≡ None
+refused-unread flags (Run script title) old why h = run-unread flags old script.commands why h
+refused-unread flags (Tell script) old why h = run-unread flags old script.commands why h
+refused-unread flags Undo old why h = step-unread old (undone old.history old.project.files) why h
+refused-unread flags (UndoTo count) old why h = back-unread count old why h
+refused-unread flags (UndoChecked count kept) old why (inl other) = ap unread_by other.1
+refused-unread flags (UndoChecked count kept) old why (inr (has, back)) = back-unread count old why back
+refused-unread flags (ForgetOldest count) old why h = ap unread_by h.1
+refused-unread flags ForgetAll old why h = absurd h
+refused-unread flags Redo old why h = step-unread old (redone old.history old.project.files) why h
 
-pub stop-unread : (step : Step) (old : Session) (why : Stop) → WantsMemory why ⊎ MayRefuseStep step old why → unread_by why ≡ None
-stop-unread step old why (inl m) = memory-unread why m
-stop-unread step old why (inr refused) = refused-unread step old why refused
+pub stop-unread : (flags : Flags) (step : Step) (old : Session) (why : Stop) → WantsMemory why ⊎ MayRefuseStep flags step old why → unread_by why ≡ None
+stop-unread flags step old why (inl m) = memory-unread why m
+stop-unread flags step old why (inr refused) = refused-unread flags step old why refused
 
 -- ---- by the whole ending
 
-pub acting-unread : (step : Step) (old : Session) (end : Result Said Stop) → IfErr end (λ why. WantsMemory why ⊎ MayRefuseStep step old why) → unread_in end ≡ None
-acting-unread step old (Ok said) h = refl
-acting-unread step old (Err why) h = stop-unread step old why h
+pub acting-unread : (flags : Flags) (step : Step) (old : Session) (end : Result Said Stop) → IfErr end (λ why. WantsMemory why ⊎ MayRefuseStep flags step old why) → unread_in end ≡ None
+acting-unread flags step old (Ok said) h = refl
+acting-unread flags step old (Err why) h = stop-unread flags step old why h
 
 pub listing-unread : (end : Result Said Stop) → IfErr end WantsMemory → unread_in end ≡ None
 listing-unread (Ok said) h = refl

@@ -3,11 +3,13 @@ pub mod Stops
 pub mod Telling
 pub mod Lines
 pub mod Codes
-pub mod Refused
 pub mod Subjects
 pub mod Changes
 pub mod Listed
 pub mod Objects
+pub mod Notes
+pub mod Refused
+pub mod Advising
 pub mod Steps
 pub mod Requests
 pub mod Opening
@@ -16,6 +18,7 @@ pub mod Runs
 pub mod StoreReads
 pub mod Laws
 pub mod RefusalLaws
+pub mod AdviceLaws
 pub mod TextLaws
 pub mod ObjectLaws
 pub mod inside

@@ -15,6 +15,8 @@ use Rattle.meson_store.specs.Commit.{still_new}
 use Rattle.meson_store.specs.declared.store_fault.StoreFault.{StoreFault}
 use Rattle.meson_store.specs.declared.store_fault.StoreFault.TheVariants as store
 use Rattle.meson_store.specs.Messages.{store_fault_text}
+use Rattle.meson_rewrite.specs.declared.advice.Advice.{Advice}
+use Rattle.meson_rewrite.specs.declared.advice.Advice.TheVariants as advice
 use Rattle.meson_rewrite.specs.declared.stop.Stop.{Stop}
 use Rattle.meson_rewrite.specs.declared.stop.Stop.TheVariants.{Usage, Script, Parse, TooManyFiles, BadFileName, Refused, Splice, OtherFiles, BadTexts, Store}
 use Rattle.meson_rewrite.specs.declared.said.Said.{Said}
@@ -35,7 +37,7 @@ stop_text (Script fault) = script_fault_text fault
 stop_text (Parse name fault) = file_text name fault
 stop_text TooManyFiles = load_fault_text load.TooManyFiles
 stop_text (BadFileName place) = load_fault_text (load.BadFileName place)
-stop_text (Refused fault subject) = refused_text fault.index fault.refusal
+stop_text (Refused fault subject advice) = refused_text fault.index fault.refusal
 stop_text (Splice fault) = splice_fault_text fault
 stop_text (OtherFiles name) = codes "P6 files are not as " ++ (name ++ codes " has them")
 stop_text BadTexts = codes "J11 bad texts"
@@ -51,9 +53,20 @@ abbrev pub left_by : Stop → List (List ℕ)
 left_by (Store fault) = still_new fault
 left_by _ = []
 
+-- the lines of what explains a refused command
+abbrev pub advice_lines : Advice → List ℕ
+advice_lines (advice.Lines text) = text
+advice_lines _ = []
+
+-- what is below the line of a fault: the files that may have their new bytes, or what explains a refused command
+abbrev pub lines_below : Stop → List ℕ
+lines_below (Refused fault subject advice) = advice_lines advice
+lines_below (Store fault) = left_lines (still_new fault)
+lines_below _ = []
+
 -- what a run that was stopped writes as errors
 abbrev pub stop_lines : Stop → List ℕ
-stop_lines stop = line (codes "error: " ++ stop_text stop) ++ left_lines (left_by stop)
+stop_lines stop = line (codes "error: " ++ stop_text stop) ++ lines_below stop
 
 -- what a completed run writes as output: how many files differ, and how many splices were made
 abbrev pub done_line : ℕ → ℕ → List ℕ

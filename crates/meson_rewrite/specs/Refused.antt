@@ -18,6 +18,10 @@ use Rattle.meson_store.specs.declared.store_fault.StoreFault.{StoreFault}
 use Rattle.meson_store.specs.declared.store_fault.StoreFault.TheVariants as store
 use Rattle.meson_rewrite.specs.Codes.{stop_code}
 use Rattle.meson_rewrite.specs.Lines.{stop_text}
+use Rattle.meson_rewrite.specs.Notes.{note_data}
+use Rattle.meson_rewrite.specs.declared.advice.Advice.{Advice}
+use Rattle.meson_rewrite.specs.declared.advice.Advice.TheVariants as advice
+use Rattle.meson_rewrite.specs.declared.notes.PlacedNote.{PlacedNote}
 use Rattle.meson_rewrite.specs.declared.stop.Stop.{Stop}
 use Rattle.meson_rewrite.specs.declared.stop.Stop.TheVariants.{Script, Parse, Refused, Splice, OtherFiles, Store}
 
@@ -52,7 +56,7 @@ refused_command index refusal.OutOfMemory = None
 refused_command index _ = Some index
 
 abbrev pub stop_command : Stop → Option ℕ
-stop_command (Refused fault subject) = refused_command fault.index fault.refusal
+stop_command (Refused fault subject advice) = refused_command fault.index fault.refusal
 stop_command _ = None
 
 abbrev pub script_entry : ScriptFault → Option ℕ
@@ -121,8 +125,26 @@ script_subject _ = None
 
 abbrev pub stop_name : Stop → Option (List ℕ)
 stop_name (Script fault) = script_subject fault
-stop_name (Refused fault subject) = refusal_subject fault.refusal subject
+stop_name (Refused fault subject advice) = refusal_subject fault.refusal subject
 stop_name _ = None
+
+-- ---- what explains a refused command
+
+abbrev pub advice_help : Advice → Option (List (List ℕ))
+advice_help (advice.Members notes help) = Some help
+advice_help _ = None
+
+abbrev pub stop_help : Stop → Option (List (List ℕ))
+stop_help (Refused fault subject advice_) = advice_help advice_
+stop_help _ = None
+
+abbrev pub advice_notes : Advice → Option (List PlacedNote)
+advice_notes (advice.Members notes help) = Some notes
+advice_notes _ = None
+
+abbrev pub stop_notes : Stop → Option (List PlacedNote)
+stop_notes (Refused fault subject advice_) = advice_notes advice_
+stop_notes _ = None
 
 -- ---- the object
 
@@ -138,13 +160,17 @@ abbrev pub with_texts : List ℕ → Option (List (List ℕ)) → Members → Me
 with_texts key None more = more
 with_texts key (Some texts) more = member key (array (items_of (map string texts))) more
 
+abbrev pub with_notes : Option (List PlacedNote) → Members → Members
+with_notes None more = more
+with_notes (Some notes) more = member (codes "notes") (array (items_of (map note_data notes))) more
+
 -- the members that it has, in the order of their names
 abbrev pub stop_members : Stop → Members
 stop_members stop =
     with_number (codes "at") (stop_offset stop) (member (codes "code") (string (stop_code stop))
     (with_number (codes "command") (stop_command stop) (with_number (codes "entry") (stop_entry stop)
-    (with_text (codes "file") (stop_file stop) (with_texts (codes "left") (stop_left stop)
-    (member (codes "message") (string (stop_text stop)) (with_text (codes "name") (stop_name stop) no_members)))))))
+    (with_text (codes "file") (stop_file stop) (with_texts (codes "help") (stop_help stop) (with_texts (codes "left") (stop_left stop)
+    (member (codes "message") (string (stop_text stop)) (with_text (codes "name") (stop_name stop) (with_notes (stop_notes stop) no_members)))))))))
 
 abbrev pub stop_data : Stop → Data
 stop_data stop = object (member (codes "error") (object (stop_members stop)) no_members)
@@ -167,6 +193,10 @@ abbrev pub text_part : List ℕ → Option (List ℕ) → List ℕ
 text_part key None = []
 text_part key (Some text) = 44 ∷ (quoted key ++ 58 ∷ quoted text)
 
-abbrev pub left_part : Option (List (List ℕ)) → List ℕ
-left_part None = []
-left_part (Some names) = codes ",\"left\":" ++ compact_text (array (items_of (map string names)))
+abbrev pub texts_part : List ℕ → Option (List (List ℕ)) → List ℕ
+texts_part key None = []
+texts_part key (Some texts) = 44 ∷ (quoted key ++ 58 ∷ compact_text (array (items_of (map string texts))))
+
+abbrev pub notes_part : Option (List PlacedNote) → List ℕ
+notes_part None = []
+notes_part (Some notes) = codes ",\"notes\":" ++ compact_text (array (items_of (map note_data notes)))

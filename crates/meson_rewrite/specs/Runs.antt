@@ -66,7 +66,7 @@ module _ (dir : Option (List ℕ)) (step : Step) (flags : Flags) (before after :
         → StepEnds (Err stop)
     -- the step is refused on it
     refused : (old : Session) (log : List ℕ) (stop : Stop) → Untouched before after → Opens (log_use flags.no_log) before.content dir old log
-        → MayRefuseStep step old stop → StepEnds (Err stop)
+        → MayRefuseStep flags step old stop → StepEnds (Err stop)
     -- its listings are reported, and nothing is written
     told : (old new : Session) (log : List ℕ) (report : Report) (said : Said) → Untouched before after
         → Opens (log_use flags.no_log) before.content dir old log → Does step old report new

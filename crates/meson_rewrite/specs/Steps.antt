@@ -19,6 +19,8 @@ use Rattle.meson_script.specs.declared.session.Session.{Session}
 use Rattle.meson_script.specs.Running.{KeepsChange, MayStop}
 use Rattle.meson_script.specs.Undoing.{MayNotStep, Steps, StepsBack, StopsBack}
 use Rattle.meson_sums.specs.Sums.{sums}
+use Rattle.meson_command.specs.declared.asked.Flags.{Flags}
+use Rattle.meson_rewrite.specs.Advising.{IsAdvised}
 use Rattle.meson_rewrite.specs.Lines.{done_line, forgot_line, title_line}
 use Rattle.meson_rewrite.specs.Objects.{SaysObject, changes_files}
 use Rattle.meson_rewrite.specs.Stops.{undo_stop}
@@ -51,11 +53,12 @@ Does (ForgetOldest count) old report new = Forgets count old.history new.history
 Does ForgetAll old report new = (new.history ≡ record { past = []; future = [] }) × Stays old report new
 Does Redo old report new = Steps old old.history.future (redone old.history old.project.files) report new
 
--- a script is refused at a command, which gives the subject
-abbrev pub StopsRun : Session → List Command → Stop → Type 0
-StopsRun old commands (Refused fault subject) =
+-- a script is refused at a command, which gives the subject; it is explained where the words ask for that
+abbrev pub StopsRun : Flags → Session → List Command → Stop → Type 0
+StopsRun flags old commands (Refused fault subject advice) =
     (fault.refusal ≢ OutOfMemory → MayStop old.project commands fault.index fault.refusal) × (subject ≡ subject_of commands fault.index fault.refusal)
-StopsRun old commands _ = ⊥
+    × IsAdvised flags old.project commands fault advice
+StopsRun flags old commands _ = ⊥
 
 -- a change is not taken back or done again
 abbrev pub StopsStep : Session → Result (History × List File) SpliceFault → Stop → Type 0
@@ -69,15 +72,19 @@ StopsStepsBack count old why = (fault : UndoFault) × (between : Session) × Sto
 abbrev pub StopsChecked : ℕ → NamedFile → Session → Stop → Type 0
 StopsChecked count kept old why = ((HasSums old kept → ⊥) × (why ≡ OtherFiles kept.name)) ⊎ (HasSums old kept × StopsStepsBack count old why)
 
-abbrev pub MayRefuseStep : Step → Session → Stop → Type 0
-MayRefuseStep (Run script title) old why = StopsRun old script.commands why
-MayRefuseStep (Tell script) old why = StopsRun old script.commands why
-MayRefuseStep Undo old why = StopsStep old (undone old.history old.project.files) why
-MayRefuseStep (UndoTo count) old why = StopsStepsBack count old why
-MayRefuseStep (UndoChecked count kept) old why = StopsChecked count kept old why
-MayRefuseStep (ForgetOldest count) old why = (length old.history.past < count) × (why ≡ Splice NothingToUndo)
-MayRefuseStep ForgetAll old why = ⊥
-MayRefuseStep Redo old why = StopsStep old (redone old.history old.project.files) why
+-- there are not so many changes to drop
+abbrev pub StopsForgetting : ℕ → Session → Stop → Type 0
+StopsForgetting count old why = (length old.history.past < count) × (why ≡ Splice NothingToUndo)
+
+abbrev pub MayRefuseStep : Flags → Step → Session → Stop → Type 0
+MayRefuseStep flags (Run script title) old why = StopsRun flags old script.commands why
+MayRefuseStep flags (Tell script) old why = StopsRun flags old script.commands why
+MayRefuseStep flags Undo old why = StopsStep old (undone old.history old.project.files) why
+MayRefuseStep flags (UndoTo count) old why = StopsStepsBack count old why
+MayRefuseStep flags (UndoChecked count kept) old why = StopsChecked count kept old why
+MayRefuseStep flags (ForgetOldest count) old why = StopsForgetting count old why
+MayRefuseStep flags ForgetAll old why = ⊥
+MayRefuseStep flags Redo old why = StopsStep old (redone old.history old.project.files) why
 
 -- what is kept gets a title
 abbrev pub IsTitled : Step → Type 0

@@ -13,6 +13,7 @@ use Rattle.meson_store.specs.declared.store_fault.StoreFault.TheVariants as stor
 use Rattle.meson_gathering.specs.declared.fault.GatherFault.{GatherFault}
 use Rattle.meson_gathering.specs.declared.fault.GatherFault.TheVariants as gather
 use Rattle.meson_gathering.specs.ReadCounts.{unread_name}
+use Rattle.meson_rewrite.specs.declared.advice.Advice.TheVariants.{Nothing}
 use Rattle.meson_rewrite.specs.declared.stop.Stop.{Stop}
 use Rattle.meson_rewrite.specs.declared.stop.Stop.TheVariants.{Usage, Script, Parse, TooManyFiles, BadFileName, Refused, Splice, Store}
 
@@ -39,7 +40,7 @@ undo_stop files (undo.Load load.OutOfMemory) = Store store.OutOfMemory
 abbrev pub WantsMemory : Stop → Type 0
 WantsMemory (Usage fault) = fault ≡ usage.OutOfMemory
 WantsMemory (Script fault) = fault ≡ script.OutOfMemory
-WantsMemory (Refused fault subject) = fault.refusal ≡ refusal.OutOfMemory
+WantsMemory (Refused fault subject advice) = (fault.refusal ≡ refusal.OutOfMemory) × (advice ≡ Nothing)
 WantsMemory (Splice fault) = fault ≡ splice.OutOfMemory
 WantsMemory (Store fault) = fault ≡ store.OutOfMemory
 WantsMemory _ = ⊥

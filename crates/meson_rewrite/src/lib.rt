@@ -1,11 +1,13 @@
 //! Edits `meson.build` files in place: the program over any store of named files and any two writers.
 #![tactic(auto)]
 
+mod advice;
 mod changes;
 mod codes;
 pub mod laws;
 mod lines;
 mod listed;
+mod notes;
 mod objects;
 mod opening;
 mod program;

@@ -1,12 +1,13 @@
 //! The lines that the program writes.
 
 ghost use Rattle.std.specs.Prelude.{◌≡◌, IfOk, MatchResult, codes, decimal, if◌then◌else◌};
-ghost use Rattle.meson_rewrite.specs.Lines.{done_line, forgot_line, left_by, left_lines, line, stop_lines, title_line, version_line};
+ghost use Rattle.meson_rewrite.specs.Lines.{done_line, forgot_line, left_lines, line, lines_below, stop_lines, title_line, version_line};
 ghost use Rattle.meson_rewrite.specs.Refused.{stop_object};
 ghost use Rattle.meson_rewrite.specs.Runs.{knows_json, stopped_text};
 ghost use Rattle.meson_rewrite.specs.Steps.{step_lines};
 ghost use Rattle.meson_store.specs.Output.{Gets, Fails};
 
+use crate::advice::Advice;
 use crate::refused::tell_refused;
 use crate::stop::Stop;
 use meson_command::UsageFault;
@@ -19,16 +20,6 @@ use std::io;
 /// What `--version` writes.
 const VERSION: &str = "meson_rewrite 1.0.0\n";
 
-/// The files that may have their new bytes.
-fn left_by(stop: &Stop) -> &[Text]
-    ensures { result.now ≡ left_by stop.now }
-{
-    match stop {
-        Stop::Store(StoreFault::WriteFailed { still_new, .. }) => still_new.get(),
-        _ => &[],
-    }
-}
-
 /// Writes a line for each file that may have its new bytes.
 fn tell_left<O: Output>(alloc: Global, to: &mut O, names: &[Text]) -> io::Result<()>
     ensures { MatchResult result (λ _. Gets (O.heard to.old) (O.heard to.new) (left_lines names.now))
@@ -40,13 +31,31 @@ fn tell_left<O: Output>(alloc: Global, to: &mut O, names: &[Text]) -> io::Result
     Ok(())
 }
 
+/// Writes what is below the line of a fault.
+#[tactic(auto, using(crate::proofs::Telling::gets_nothing))]
+fn tell_below<O: Output>(alloc: Global, to: &mut O, stop: &Stop) -> io::Result<()>
+    ensures { MatchResult result (λ _. Gets (O.heard to.old) (O.heard to.new) (lines_below stop.now))
+        (λ _. Fails (O.heard to.old) (O.heard to.new)) }
+{
+    match stop {
+        Stop::Refused {
+            advice: Advice::Lines(lines),
+            ..
+        } => to.tell(lines.get().as_bytes()),
+        Stop::Store(StoreFault::WriteFailed { still_new, .. }) => {
+            tell_left(alloc, to, still_new.get())
+        }
+        _ => Ok(()),
+    }
+}
+
 /// Writes why a run was stopped, as lines.
 fn tell_lines<O: Output>(alloc: Global, to: &mut O, stop: &Stop) -> io::Result<()>
     ensures { MatchResult result (λ _. Gets (O.heard to.old) (O.heard to.new) (stop_lines stop.now))
         (λ _. Fails (O.heard to.old) (O.heard to.new)) }
 {
     to.tell_line(alloc, &format_args!("error: {stop}"))?;
-    tell_left(alloc, to, left_by(stop))
+    tell_below(alloc, to, stop)
 }
 
 /// Writes why a run was stopped, as an object of JSON or as lines.

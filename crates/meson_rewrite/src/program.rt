@@ -60,10 +60,10 @@ fn do_step<S: Store>(
 {
     let opened = open(alloc, store, dir, flags.no_log)?;
     if only_tells(step) {
-        return told(alloc, opened, step, flags.json);
+        return told(alloc, opened, step, flags);
     }
     if flags.dry_run {
-        return shown(alloc, opened, step, flags.json);
+        return shown(alloc, opened, step, flags);
     }
     let edit = edited(alloc, opened, step, flags)?;
     match commit(alloc, store, dir, &edit.before, &edit.after) {

@@ -5,10 +5,12 @@ ghost use Rattle.serde_json.specs.Data.{array, string};
 ghost use Rattle.serde_json.specs.View.{items_of};
 ghost use Rattle.serde_json.specs.Written.{compact_text};
 ghost use Rattle.meson_rewrite.specs.Lines.{line};
-ghost use Rattle.meson_rewrite.specs.Refused.{lex_offset, file_fault_offset, refusal_subject, stop_command, stop_entry, stop_file, stop_left, stop_name, stop_object, stop_offset};
+ghost use Rattle.meson_rewrite.specs.Refused.{lex_offset, file_fault_offset, refusal_subject, stop_command, stop_entry, stop_file, stop_help, stop_left, stop_name, stop_notes, stop_object, stop_offset};
 ghost use Rattle.meson_store.specs.Output.{Fails, Gets};
 
+use crate::advice::Advice;
 use crate::codes::code_of;
+use crate::notes::{Notes, PlacedNote};
 use crate::quoted::Quoted;
 use crate::stop::Stop;
 use meson_json::ScriptFault;
@@ -137,12 +139,38 @@ impl Stop {
         }
     }
 
+    /// What may be done about a command that is refused.
+    fn help(&self) -> Option<&[Text]>
+        ensures { option_map (λ help. help.now) result ≡ stop_help self.now }
+    {
+        match self {
+            Stop::Refused {
+                advice: Advice::Members { help, .. },
+                ..
+            } => Some(help.get()),
+            _ => None,
+        }
+    }
+
+    /// What was seen of a command that is refused.
+    fn notes(&self) -> Option<&[PlacedNote]>
+        ensures { option_map (λ notes. notes.now) result ≡ stop_notes self.now }
+    {
+        match self {
+            Stop::Refused {
+                advice: Advice::Members { notes, .. },
+                ..
+            } => Some(notes.get()),
+            _ => None,
+        }
+    }
+
     /// The name of the key, of the member, of the variable, of the call, of the source or of the folder that is meant.
     fn name(&self) -> Option<&str>
         ensures { option_map (λ name. name.now) result ≡ stop_name self.now }
     {
         match self {
-            Stop::Refused { fault, subject } => refusal_subject(&fault.refusal, subject),
+            Stop::Refused { fault, subject, .. } => refusal_subject(&fault.refusal, subject),
             Stop::Script(
                 ScriptFault::BadField(_, member) | ScriptFault::UnknownMember(_, member),
             ) => Some(member.get()),
@@ -227,18 +255,38 @@ impl Display for Texts<'_> {
     }
 }
 
-/// A comma and the member `left`, if a file could not be written.
+/// A comma and a member that is an array of texts, if there is one.
 #[derive(Drop)]
-struct Left<'a>(Option<&'a [Text]>);
+struct Names<'a> {
+    key: &'static str,
+    value: Option<&'a [Text]>,
+}
 
-impl Display for Left<'_> {
-    ghost use Rattle.meson_rewrite.specs.Refused.{left_part};
+impl Display for Names<'_> {
+    ghost use Rattle.meson_rewrite.specs.Refused.{texts_part};
 
-    ghost output = { λ left. Some (left_part (option_map (λ names. names.now) left.0)) };
+    ghost output = { λ member. Some (texts_part member.key.now (option_map (λ texts. texts.now) member.value)) };
+
+    fn fmt<W: Write>(&self, f: &mut Formatter<W>) -> fmt::Result {
+        match self.value {
+            Some(texts) => write!(f, ",{}:{}", Quoted(self.key), Texts(texts)),
+            None => Ok(()),
+        }
+    }
+}
+
+/// A comma and the member `notes`, if there is one.
+#[derive(Drop)]
+struct NotesMember<'a>(Option<&'a [PlacedNote]>);
+
+impl Display for NotesMember<'_> {
+    ghost use Rattle.meson_rewrite.specs.Refused.{notes_part};
+
+    ghost output = { λ member. Some (notes_part (option_map (λ notes. notes.now) member.0)) };
 
     fn fmt<W: Write>(&self, f: &mut Formatter<W>) -> fmt::Result {
         match self.0 {
-            Some(names) => write!(f, ",\"left\":{}", Texts(names)),
+            Some(notes) => write!(f, ",\"notes\":{}", Notes(notes)),
             None => Ok(()),
         }
     }
@@ -255,7 +303,7 @@ impl Display for Refused<'_> {
         let stop = self.0;
         write!(
             f,
-            "{{\"error\":{{{}\"code\":{}{}{}{}{},\"message\":{}{}}}}}",
+            "{{\"error\":{{{}\"code\":{}{}{}{}{}{},\"message\":{}{}{}}}}}",
             Offset(stop.offset()),
             Quoted(code_of(stop)),
             Number {
@@ -270,12 +318,20 @@ impl Display for Refused<'_> {
                 key: "file",
                 value: stop.file()
             },
-            Left(stop.left()),
+            Names {
+                key: "help",
+                value: stop.help()
+            },
+            Names {
+                key: "left",
+                value: stop.left()
+            },
             Quoted(stop),
             Name {
                 key: "name",
                 value: stop.name()
             },
+            NotesMember(stop.notes()),
         )
     }
 }

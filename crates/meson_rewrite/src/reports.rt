@@ -13,6 +13,7 @@ use crate::request::Step;
 use crate::said::Said;
 use crate::steps::act;
 use crate::stop::Stop;
+use meson_command::Flags;
 use meson_inventory::placed_info;
 use meson_json::Script;
 use meson_plan::{Project, Refusal};
@@ -80,29 +81,39 @@ fn reported(
 }
 
 /// What is to be said in JSON for a step on a borrowed session that only reports.
-fn told_object(alloc: Global, session: &mut Session, step: &Step) -> Result<Said, Stop>
+fn told_object(
+    alloc: Global,
+    session: &mut Session,
+    step: &Step,
+    flags: Flags,
+) -> Result<Said, Stop>
     requires { IsTitled step.now }
     ensures told { IfOk result (IsToldObject session.old step.now) }
-    ensures refused { IfErr result (λ why. WantsMemory why ⊎ MayRefuseStep step.now session.old why) }
+    ensures refused { IfErr result (λ why. WantsMemory why ⊎ MayRefuseStep flags step.now session.old why) }
 {
     session.project.reads();
     let old = session.files().clone()?;
-    let report = act(alloc, session, step)?;
+    let report = act(alloc, session, step, flags)?;
     session.project.reads();
     let shown = reported(alloc, session.project(), step, report)?;
     Ok(Said::object(alloc, step, &old, session.files(), shown)?)
 }
 
 /// What is to be said for a step on a borrowed session that only reports.
-fn told_of(alloc: Global, session: &mut Session, step: &Step, json: bool) -> Result<Said, Stop>
+fn told_of(
+    alloc: Global,
+    session: &mut Session,
+    step: &Step,
+    flags: Flags,
+) -> Result<Said, Stop>
     requires { IsTitled step.now }
-    ensures told { IfOk result (OnlyTells session.old step.now json) }
-    ensures refused { IfErr result (λ why. WantsMemory why ⊎ MayRefuseStep step.now session.old why) }
+    ensures told { IfOk result (OnlyTells session.old step.now flags.json) }
+    ensures refused { IfErr result (λ why. WantsMemory why ⊎ MayRefuseStep flags step.now session.old why) }
 {
-    if json {
-        return told_object(alloc, session, step);
+    if flags.json {
+        return told_object(alloc, session, step, flags);
     }
-    let report = act(alloc, session, step)?;
+    let report = act(alloc, session, step, flags)?;
     Ok(Said::of(alloc, step, &report)?)
 }
 
@@ -111,17 +122,17 @@ pub(crate) fn told(
     alloc: Global,
     opened: StoredSession,
     step: &Step,
-    json: bool,
+    flags: Flags,
 ) -> Result<Said, Stop>
     requires { IsTitled step.now }
-    ensures told { IfOk result (OnlyTells opened.session step.now json) }
-    ensures refused { IfErr result (λ why. WantsMemory why ⊎ MayRefuseStep step.now opened.session why) }
+    ensures told { IfOk result (OnlyTells opened.session step.now flags.json) }
+    ensures refused { IfErr result (λ why. WantsMemory why ⊎ MayRefuseStep flags step.now opened.session why) }
 {
     let StoredSession {
         mut session,
         log: _,
     } = opened;
-    let said = told_of(alloc, &mut session, step, json);
+    let said = told_of(alloc, &mut session, step, flags);
     leave(session);
     said
 }

@@ -10,14 +10,14 @@ ghost use Rattle.meson_calls.specs.Loading.{HasFileName, IsProject, name_of_file
 ghost use Rattle.meson_json.specs.Log.{is_text_history, log_of};
 ghost use Rattle.meson_rewrite.specs.inside.Edited.{IsEdited, IsObject, IsShown, IsWithin};
 ghost use Rattle.meson_rewrite.specs.Logs.{log_use, with_log};
-ghost use Rattle.meson_rewrite.specs.Steps.{Does, IsTitled, MayRefuseStep, SaysStep};
+ghost use Rattle.meson_rewrite.specs.Steps.{Does, IsTitled, MayRefuseStep, SaysStep, StopsChecked, StopsForgetting, StopsStepsBack};
 ghost use Rattle.meson_rewrite.specs.Stops.{WantsMemory, undo_stop};
 
+use crate::advice::refused;
 use crate::opening::{LOG, LogUse, StoredSession, leave};
 use crate::request::{NamedFile, Step};
 use crate::said::Said;
 use crate::stop::Stop;
-use crate::subjects::refused;
 use meson_command::Flags;
 use meson_diff::diff;
 use meson_plan::{LoadFault, Project};
@@ -60,7 +60,7 @@ fn undo_stop(alloc: Global, files: &FileSet, fault: UndoFault) -> Stop
 /// Takes back this number of the newest changes of a session.
 fn back_to(alloc: Global, session: &mut Session, count: usize) -> Result<Report, Stop>
     ensures does { IfOk result (λ report. Does (Step.UndoTo count) session.old report session.new) }
-    ensures refused { IfErr result (MayRefuseStep (Step.UndoTo count) session.old) }
+    ensures refused { IfErr result (StopsStepsBack count session.old) }
     ensures text { OnOk result (is_text_history session.old.history ≡ true → is_text_history session.new.history ≡ true) }
     ensures project { OnOk result (IsProject session.new.project) }
 {
@@ -78,7 +78,7 @@ fn checked_back(
     kept: &NamedFile,
 ) -> Result<Report, Stop>
     ensures does { IfOk result (λ report. Does (Step.UndoChecked count kept.now) session.old report session.new) }
-    ensures refused { IfErr result (λ why. WantsMemory why ⊎ MayRefuseStep (Step.UndoChecked count kept.now) session.old why) }
+    ensures refused { IfErr result (λ why. WantsMemory why ⊎ StopsChecked count kept.now session.old why) }
     ensures text { OnOk result (is_text_history session.old.history ≡ true → is_text_history session.new.history ≡ true) }
     ensures project { OnOk result (IsProject session.new.project) }
 {
@@ -106,7 +106,7 @@ fn nothing_done(alloc: Global) -> Report
 /// Drops this number of the oldest changes of a session.
 fn oldest_forgotten(alloc: Global, session: &mut Session, count: usize) -> Result<Report, Stop>
     ensures does { IfOk result (λ report. Does (Step.ForgetOldest count) session.old report session.new) }
-    ensures refused { IfErr result (MayRefuseStep (Step.ForgetOldest count) session.old) }
+    ensures refused { IfErr result (StopsForgetting count session.old) }
     ensures text { OnOk result (is_text_history session.old.history ≡ true → is_text_history session.new.history ≡ true) }
     ensures project { IsProject session.new.project }
 {
@@ -128,22 +128,27 @@ fn all_forgotten(alloc: Global, session: &mut Session) -> Report
     nothing_done(alloc)
 }
 
-/// Does a step on a session, or nothing.
-pub(crate) fn act(alloc: Global, session: &mut Session, step: &Step) -> Result<Report, Stop>
+/// Does a step on a session, or nothing. A refused command is explained if the flags ask for it.
+pub(crate) fn act(
+    alloc: Global,
+    session: &mut Session,
+    step: &Step,
+    flags: Flags,
+) -> Result<Report, Stop>
     requires { IsTitled step.now }
     ensures does { IfOk result (λ report. Does step.now session.old report session.new) }
-    ensures refused { IfErr result (λ why. WantsMemory why ⊎ MayRefuseStep step.now session.old why) }
+    ensures refused { IfErr result (λ why. WantsMemory why ⊎ MayRefuseStep flags step.now session.old why) }
     ensures text { OnOk result (is_text_history session.old.history ≡ true → is_text_history session.new.history ≡ true) }
     ensures project { OnOk result (IsProject session.new.project) }
 {
     match step {
         Step::Run { script, title } => match session.run_titled(alloc, script, title.get()) {
             Ok(report) => Ok(report),
-            Err(fault) => Err(refused(alloc, script, fault)),
+            Err(fault) => Err(refused(alloc, session, script, fault, flags)),
         },
         Step::Tell(script) => match session.run(alloc, script) {
             Ok(report) => Ok(report),
-            Err(fault) => Err(refused(alloc, script, fault)),
+            Err(fault) => Err(refused(alloc, session, script, fault, flags)),
         },
         Step::Undo => match session.undo(alloc) {
             Ok(report) => Ok(report),
@@ -255,11 +260,11 @@ fn edit_of(
     requires title { IsTitled step.now }
     ensures edited { IfOk result (IsEdited (log_use flags.no_log) session.old log.items step.now flags.json) }
     ensures same_names { IfOk result (λ edit. map (λ f. f.name) edit.before ≡ map (λ f. f.name) edit.after) }
-    ensures refused { IfErr result (λ why. WantsMemory why ⊎ MayRefuseStep step.now session.old why) }
+    ensures refused { IfErr result (λ why. WantsMemory why ⊎ MayRefuseStep flags step.now session.old why) }
 {
     session.project.reads();
     let old = session.files().clone()?;
-    let report = act(alloc, session, step)?;
+    let report = act(alloc, session, step, flags)?;
     let said = said_of(alloc, step, flags.json, &old, session, report)?;
     let log_use = LogUse::of(flags.no_log);
     let before = with_log(alloc, old, log, log_use)?;
@@ -282,7 +287,7 @@ pub(crate) fn edited(
     requires title { IsTitled step.now }
     ensures edited { IfOk result (IsEdited (log_use flags.no_log) opened.session opened.log.items step.now flags.json) }
     ensures same_names { IfOk result (λ edit. map (λ f. f.name) edit.before ≡ map (λ f. f.name) edit.after) }
-    ensures refused { IfErr result (λ why. WantsMemory why ⊎ MayRefuseStep step.now opened.session why) }
+    ensures refused { IfErr result (λ why. WantsMemory why ⊎ MayRefuseStep flags step.now opened.session why) }
 {
     let StoredSession { mut session, log } = opened;
     let edit = edit_of(alloc, &mut session, log, step, flags);
@@ -291,29 +296,39 @@ pub(crate) fn edited(
 }
 
 /// What is to be said in JSON for a step on a borrowed session.
-fn object_of(alloc: Global, session: &mut Session, step: &Step) -> Result<Said, Stop>
+fn object_of(
+    alloc: Global,
+    session: &mut Session,
+    step: &Step,
+    flags: Flags,
+) -> Result<Said, Stop>
     requires { IsTitled step.now }
     ensures object { IfOk result (IsObject session.old step.now) }
-    ensures refused { IfErr result (λ why. WantsMemory why ⊎ MayRefuseStep step.now session.old why) }
+    ensures refused { IfErr result (λ why. WantsMemory why ⊎ MayRefuseStep flags step.now session.old why) }
 {
     session.project.reads();
     let old = session.files().clone()?;
-    let report = act(alloc, session, step)?;
+    let report = act(alloc, session, step, flags)?;
     session.project.reads();
     Ok(Said::object(alloc, step, &old, session.files(), report)?)
 }
 
 /// What is to be said for a step on a borrowed session, if it is shown and not done.
-fn shown_of(alloc: Global, session: &mut Session, step: &Step, json: bool) -> Result<Said, Stop>
+fn shown_of(
+    alloc: Global,
+    session: &mut Session,
+    step: &Step,
+    flags: Flags,
+) -> Result<Said, Stop>
     requires { IsTitled step.now }
-    ensures shown { IfOk result (IsShown session.old step.now json) }
-    ensures refused { IfErr result (λ why. WantsMemory why ⊎ MayRefuseStep step.now session.old why) }
+    ensures shown { IfOk result (IsShown session.old step.now flags.json) }
+    ensures refused { IfErr result (λ why. WantsMemory why ⊎ MayRefuseStep flags step.now session.old why) }
 {
-    if json {
-        return object_of(alloc, session, step);
+    if flags.json {
+        return object_of(alloc, session, step, flags);
     }
     let before = session.files().clone()?;
-    let report = act(alloc, session, step)?;
+    let report = act(alloc, session, step, flags)?;
     let changes = diff(alloc, &before, session.files())?;
     Ok(Said::shown(alloc, step, changes, &report)?)
 }
@@ -323,17 +338,17 @@ pub(crate) fn shown(
     alloc: Global,
     opened: StoredSession,
     step: &Step,
-    json: bool,
+    flags: Flags,
 ) -> Result<Said, Stop>
     requires { IsTitled step.now }
-    ensures shown { IfOk result (IsShown opened.session step.now json) }
-    ensures refused { IfErr result (λ why. WantsMemory why ⊎ MayRefuseStep step.now opened.session why) }
+    ensures shown { IfOk result (IsShown opened.session step.now flags.json) }
+    ensures refused { IfErr result (λ why. WantsMemory why ⊎ MayRefuseStep flags step.now opened.session why) }
 {
     let StoredSession {
         mut session,
         log: _,
     } = opened;
-    let said = shown_of(alloc, &mut session, step, json);
+    let said = shown_of(alloc, &mut session, step, flags);
     leave(session);
     said
 }

@@ -1,5 +1,6 @@
 //! Why a run of the program is stopped.
 
+use crate::advice::Advice;
 use meson_command::UsageFault;
 use meson_gathering::GatherFault;
 use meson_json::ScriptFault;
@@ -27,10 +28,11 @@ pub(crate) enum Stop {
     TooManyFiles,
     /// The file of this number would not have the name of a build file.
     BadFileName(usize),
-    /// A command of the script is refused; the subject is the name that is meant, if the command alone names it.
+    /// A command of the script is refused; the subject is the name that is meant, if the command alone names it. The advice explains it.
     Refused {
         fault: RunFault,
         subject: Option<Text>,
+        advice: Advice,
     },
     /// The change is not taken back, or not done again.
     Splice(SpliceFault),

@@ -1,11 +1,8 @@
 //! The names that refusals of commands mean.
 
-ghost use Rattle.std.specs.Prelude.{◌≡◌, ◌⊎◌, IfOk, option_map};
-ghost use Rattle.meson_rewrite.specs.Stops.{WantsMemory};
+ghost use Rattle.std.specs.Prelude.{◌≡◌, IfOk, option_map};
 ghost use Rattle.meson_rewrite.specs.Subjects.{folder_of, id_of, only, only_key, only_name, subject_in, subject_of};
-ghost use Rattle.meson_rewrite.specs.declared.stop.Stop.TheVariants as stop;
 
-use crate::stop::Stop;
 use meson_json::{Script, owned};
 use meson_plan::Refusal;
 use meson_script::RunFault;
@@ -105,7 +102,11 @@ fn subject_in<'c>(command: &'c Command, refusal: &Refusal) -> Option<&'c Text>
 }
 
 /// The name that is meant where a command of a script is refused, if the command alone names it.
-fn subject_of(alloc: Global, script: &Script, fault: &RunFault) -> Result<Option<Text>, AllocError>
+pub(crate) fn subject_of(
+    alloc: Global,
+    script: &Script,
+    fault: &RunFault,
+) -> Result<Option<Text>, AllocError>
     ensures { IfOk result (λ name. name ≡ subject_of script.now.commands fault.now.index fault.now.refusal) }
 {
     let commands = script.commands.get();
@@ -115,15 +116,5 @@ fn subject_of(alloc: Global, script: &Script, fault: &RunFault) -> Result<Option
     match subject_in(&commands[fault.index], &fault.refusal) {
         Some(name) => Ok(Some(owned(alloc, name.get())?)),
         None => Ok(None),
-    }
-}
-
-/// Why a run stops where a command of its script is refused.
-pub(crate) fn refused(alloc: Global, script: &Script, fault: RunFault) -> Stop
-    ensures { WantsMemory result ⊎ (result ≡ stop.Refused fault (subject_of script.now.commands fault.index fault.refusal)) }
-{
-    match subject_of(alloc, script, &fault) {
-        Ok(subject) => Stop::Refused { fault, subject },
-        Err(none) => Stop::from(none),
     }
 }

@@ -2,13 +2,24 @@
 #![tactic(auto)]
 
 use meson_rewrite::{Counted, Folder, Output, rewrite};
-use std::io::ErrorKind;
+use std::io::{ErrorKind, IsTerminal};
 use std::process::ExitCode;
 use std::{env, io};
 
+/// The option for lines below a refusal.
+const EXPLAIN: &str = "--explain";
+
+/// Whether a refusal is to be explained though the words do not say so: where standard error is a terminal.
+fn is_read_by_a_person(rt: &HostRuntime, words: &[String]) -> bool {
+    rt.stderr().is_terminal() && !words.iter().any(|word| word.as_str() == EXPLAIN)
+}
+
 /// The words of the command line, of which the first is the program's name.
 fn words(rt: &HostRuntime) -> io::Result<Vec<String>> {
-    let words = env::args(rt)?.collect(rt.alloc())?;
+    let mut words: Vec<String> = env::args(rt)?.collect(rt.alloc())?;
+    if is_read_by_a_person(rt, words.as_slice()) && !words.is_empty() {
+        words.insert(1, String::from_str(rt.alloc(), EXPLAIN)?)?;
+    }
     Ok(words)
 }
 

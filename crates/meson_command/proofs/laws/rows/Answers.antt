@@ -25,7 +25,7 @@ returns-clause-json c = (refl, refl, refl, refl, refl, refl, refl, refl, refl, r
 
 pub returns-clause-flagged : goal.returns-clause-flagged
 unfolding clap_on_literals program target kwargs default_options command undo redo history list asked_from action_of other_action target_action kwargs_action kwargs_by options_action options_by script_action lone_names pairs_of count_of
-returns-clause-flagged c = (refl, refl, refl, refl, refl, refl, refl, refl)
+returns-clause-flagged c = (refl, refl, refl, refl, refl, refl, refl, refl, refl, refl)
 
 pub returns-clause-texts : goal.returns-clause-texts
 unfolding clap_on_literals program target kwargs default_options command undo redo history list asked_from action_of other_action target_action kwargs_action kwargs_by options_action options_by script_action lone_names pairs_of count_of

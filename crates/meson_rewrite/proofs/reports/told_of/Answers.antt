@@ -5,15 +5,15 @@ use Rattle.meson_rewrite.proofs.reports.told_of.Goals as goal
 pub of-requires : goal.of-requires
 of-requires c = does-plain c.args.step.now c.args.session.now c.act.new.session c.in_ok-report.report c.in_ok-report.ensures.does
 
-pub returns-then-json-clause-told : goal.returns-then-json-clause-told
-returns-then-json-clause-told c =
+pub returns-then-flags-clause-told : goal.returns-then-flags-clause-told
+returns-then-flags-clause-told c =
     IfOk-weaker c.told_object.result _ _
-    (λ said o. record { new = o.new; report = o.report; does = o.does; says = rw (c.if-json.true) (o.shown, o.reports, o.says) }) c.told_object.ensures.told
+    (λ said o. record { new = o.new; report = o.report; does = o.does; says = rw (c.if-flags.true) (o.shown, o.reports, o.says) }) c.told_object.ensures.told
 
 pub returns-clause-told : goal.returns-clause-told
 returns-clause-told c = record {
   new = c.act.new.session;
   report = c.in_ok-report.report;
   does = c.in_ok-report.ensures.does;
-  says = rw (c.if-json.false) c.in_ok-of.ensures;
+  says = rw (c.if-flags.false) c.in_ok-of.ensures;
 }

@@ -17,7 +17,7 @@ undo_stop-requires c =
 pub returns-in-Err-undo-clause-refused : goal.returns-in-Err-undo-clause-refused
 returns-in-Err-undo-clause-refused c =
     let old = c.args.session.now in
-    inr (subst (λ s. MayRefuseStep s old c.undo_stop.result) (sym c.in-Undo.is)
+    inr (subst (λ s. MayRefuseStep c.args.flags s old c.undo_stop.result) (sym c.in-Undo.is)
     (stops-step old (undone old.history old.project.files) c.files.result.now (c.files.ensures ∙ ap (λ s. s.project.files) c.in-Err-undo.ensures.kept) c.in-Err-undo.fault c.undo_stop.result c.in-Err-undo.ensures.refused c.undo_stop.ensures))
 
 pub undo_stop-requires-in-Err-redo : goal.undo_stop-requires-in-Err-redo
@@ -28,16 +28,16 @@ undo_stop-requires-in-Err-redo c =
 pub returns-in-Err-redo-clause-refused : goal.returns-in-Err-redo-clause-refused
 returns-in-Err-redo-clause-refused c =
     let old = c.args.session.now in
-    inr (subst (λ s. MayRefuseStep s old c.undo_stop-in-Err-redo.result) (sym c.in-Redo.is)
+    inr (subst (λ s. MayRefuseStep c.args.flags s old c.undo_stop-in-Err-redo.result) (sym c.in-Redo.is)
     (stops-step old (redone old.history old.project.files) c.files-in-Err-redo.result.now (c.files-in-Err-redo.ensures ∙ ap (λ s. s.project.files) c.in-Err-redo.ensures.kept) c.in-Err-redo.fault c.undo_stop-in-Err-redo.result c.in-Err-redo.ensures.refused c.undo_stop-in-Err-redo.ensures))
 
 pub returns-in-UndoTo-clause-refused : goal.returns-in-UndoTo-clause-refused
 returns-in-UndoTo-clause-refused c =
     let old = c.args.session.now in
-    subst (λ s. IfErr c.back_to.result (λ why. WantsMemory why ⊎ MayRefuseStep s old why)) (sym c.in-UndoTo.is) (may-refuse (UndoTo c.in-UndoTo.count) old c.back_to.result c.back_to.ensures.refused)
+    subst (λ s. IfErr c.back_to.result (λ why. WantsMemory why ⊎ MayRefuseStep c.args.flags s old why)) (sym c.in-UndoTo.is) (may-refuse c.args.flags (UndoTo c.in-UndoTo.count) old c.back_to.result c.back_to.ensures.refused)
 
 pub returns-in-ForgetOldest-clause-refused : goal.returns-in-ForgetOldest-clause-refused
 returns-in-ForgetOldest-clause-refused c =
     let old = c.args.session.now in
-    subst (λ s. IfErr c.oldest_forgotten.result (λ why. WantsMemory why ⊎ MayRefuseStep s old why)) (sym c.in-ForgetOldest.is)
-    (may-refuse (ForgetOldest c.in-ForgetOldest.count) old c.oldest_forgotten.result c.oldest_forgotten.ensures.refused)
+    subst (λ s. IfErr c.oldest_forgotten.result (λ why. WantsMemory why ⊎ MayRefuseStep c.args.flags s old why)) (sym c.in-ForgetOldest.is)
+    (may-refuse c.args.flags (ForgetOldest c.in-ForgetOldest.count) old c.oldest_forgotten.result c.oldest_forgotten.ensures.refused)

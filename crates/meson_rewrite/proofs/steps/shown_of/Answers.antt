@@ -29,13 +29,13 @@ returns-clause-shown c =
       new = new;
       report = c.in_ok-report.report;
       does = c.in_ok-report.ensures.does;
-      shows = rw (c.if-json.false) (record {
+      shows = rw (c.if-flags.false) (record {
         is_diff = subst (IsDiff c.args.session.now.project.files new.project.files) (sym (ap (λ (said : Said). said.out) c.in_ok-shown.ensures)) read;
         is_listing = ap (λ (said : Said). said.err) c.in_ok-shown.ensures;
         is_changed = ap (λ (said : Said). said.changed) c.in_ok-shown.ensures;
       });
     }
 
-pub returns-then-json-clause-shown : goal.returns-then-json-clause-shown
-returns-then-json-clause-shown c =
-    IfOk-weaker c.object_of.result _ _ (λ said o. record { new = o.new; report = o.report; does = o.does; shows = rw (c.if-json.true) o.says }) c.object_of.ensures.object
+pub returns-then-flags-clause-shown : goal.returns-then-flags-clause-shown
+returns-then-flags-clause-shown c =
+    IfOk-weaker c.object_of.result _ _ (λ said o. record { new = o.new; report = o.report; does = o.does; shows = rw (c.if-flags.true) o.says }) c.object_of.ensures.object

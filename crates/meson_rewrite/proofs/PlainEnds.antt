@@ -1,0 +1,160 @@
+-- What explains a refusal changes nothing else.
+use Rattle.std.proofs.Common.{Ordering, Less, Equal, Greater, bytes_eq, false, is_eq, true, ◌≡◌, ◌≢◌, ◌⊎◌, ◌∙◌, ℕ, Bool, List, [], ◌∷◌, ◌++◌, codes, Option, None, Some, Result, Ok, Err, inl, inr, map, refl, sym, ap, subst}
+use Rattle.std.proofs.lemmas.List.{append-nil}
+use Rattle.std.proofs.lemmas.Map.Text.{is_eq-slice_cmp}
+use Rattle.std.proofs.lemmas.Slice.Eq.{bytes_eq-Decides}
+use Rattle.std.specs.Cmp.Lexicographic.{slice_cmp}
+use Rattle.std.specs.Ordering.{match_ordering, nat_cmp}
+use Rattle.serde_json.specs.Data.{Data, Members, array, member, no_members, string}
+use Rattle.serde_json.specs.View.{items_of}
+use Rattle.serde_json.specs.Find.{get_member}
+use Rattle.meson_command.specs.declared.asked.Flags.{Flags}
+use Rattle.meson_gathering.specs.declared.fault.GatherFault.{GatherFault}
+use Rattle.meson_gathering.specs.declared.fault.GatherFault.TheVariants as gather
+use Rattle.meson_calls.specs.declared.load_fault.LoadFault.TheVariants as load
+use Rattle.meson_script.specs.declared.fault.UndoFault.{UndoFault}
+use Rattle.meson_script.specs.declared.fault.UndoFault.TheVariants as undo
+use Rattle.meson_script.specs.declared.session.Session.{Session}
+use Rattle.meson_splice.specs.declared.fault.SpliceFault.{SpliceFault}
+use Rattle.meson_splice.specs.declared.file_set.File.{File}
+use Rattle.meson_splice.specs.declared.history.History.{History}
+use Rattle.meson_splice.specs.Past.{redone, undone}
+use Rattle.meson_steps.specs.declared.command.Command.{Command}
+use Rattle.meson_store.specs.Seen.{Seen}
+use Rattle.meson_rewrite.specs.Advising.{not_asked}
+use Rattle.meson_rewrite.specs.AdviceLaws.{ExplainedEndsAsPlain, LinesArePlain, MembersArePlain, StatusIsPlain, end_unexplained, plain_flags, unexplained}
+use Rattle.meson_rewrite.specs.Codes.{refusal_code}
+use Rattle.meson_rewrite.specs.Lines.{line, stop_lines, stop_text}
+use Rattle.meson_rewrite.specs.Notes.{note_data}
+use Rattle.meson_script.specs.Messages.{refused_text}
+use Rattle.meson_rewrite.specs.Logs.{log_use}
+use Rattle.meson_rewrite.specs.Opening.{OpensNone, bad_log, log_unread, no_log, no_project}
+use Rattle.meson_rewrite.specs.Refused.{refusal_subject, refused_command, with_notes, with_number, with_text, with_texts}
+use Rattle.meson_rewrite.specs.Runs.{StepEnds, done, no_memory, not_opened, refused, shown, told, unwritten}
+use Rattle.meson_rewrite.specs.Steps.{MayRefuseStep, StopsRun, StopsStep, StopsStepsBack}
+use Rattle.meson_rewrite.specs.Stops.{WantsMemory, gathering_stop, undo_stop}
+use Rattle.meson_rewrite.specs.declared.advice.Advice.{Advice}
+use Rattle.meson_rewrite.specs.declared.advice.Advice.TheVariants as advice
+use Rattle.meson_rewrite.specs.declared.notes.PlacedNote.{PlacedNote}
+use Rattle.meson_rewrite.specs.declared.request.Step.{Step}
+use Rattle.meson_rewrite.specs.declared.request.Step.TheVariants.{Run, Tell, Undo, UndoTo, UndoChecked, Redo, ForgetOldest, ForgetAll}
+use Rattle.meson_rewrite.specs.declared.said.Said.{Said}
+use Rattle.meson_rewrite.specs.declared.stop.Stop.{Stop}
+use Rattle.meson_rewrite.specs.declared.stop.Stop.TheVariants.{Refused}
+
+-- ---- stops that nothing explains
+
+gathering-plain : (fault : GatherFault) → unexplained (gathering_stop fault) ≡ gathering_stop fault
+gathering-plain (gather.Parse name fault) = refl
+gathering-plain gather.TooManyFiles = refl
+gathering-plain (gather.Store fault) = refl
+
+opening-plain : (dir : Option (List ℕ)) (flags : Flags) (before after : Seen) (stop : Stop)
+    → OpensNone (log_use flags.no_log) before.content dir before.failures after.failures stop → unexplained stop ≡ stop
+opening-plain dir flags before after _ (no_project fault stops) = gathering-plain fault
+opening-plain dir flags before after _ (no_log files _ found (log_unread kept rose)) = refl
+opening-plain dir flags before after _ (no_log files _ found (bad_log kept bad)) = refl
+
+undo-plain : (files : List File) (fault : UndoFault) → unexplained (undo_stop files fault) ≡ undo_stop files fault
+undo-plain files (undo.Splice fault) = refl
+undo-plain files (undo.Load load.TooManyFiles) = refl
+undo-plain files (undo.Load (load.BadFileName place)) = refl
+undo-plain files (undo.Load (load.Parse place fault)) = refl
+undo-plain files (undo.Load load.OutOfMemory) = refl
+
+memory-plain : (stop : Stop) → WantsMemory stop → WantsMemory (unexplained stop)
+memory-plain (Refused fault subject advice_) (wants, none) = (wants, refl)
+memory-plain _ m = m
+
+-- ---- a step that is refused
+
+run-plain : (flags : Flags) (old : Session) (commands : List Command) (stop : Stop) → StopsRun flags old commands stop
+    → StopsRun (plain_flags flags) old commands (unexplained stop)
+run-plain flags old commands (Refused fault subject advice_) (may, is, advised) = (may, is, not_asked refl)
+run-plain flags old commands _ h = absurd h
+
+step-plain : (old : Session) (step : Result (History × List File) SpliceFault) (stop : Stop) → StopsStep old step stop → StopsStep old step (unexplained stop)
+step-plain old step stop (fault, may, is) = (fault, may, ap unexplained is ∙ undo-plain old.project.files fault)
+
+back-plain : (count : ℕ) (old : Session) (stop : Stop) → StopsStepsBack count old stop → StopsStepsBack count old (unexplained stop)
+back-plain count old stop (fault, between, stops, is) = (fault, between, stops, ap unexplained is ∙ undo-plain old.project.files fault)
+
+refused-plain : (flags : Flags) (step : Step) (old : Session) (stop : Stop) → MayRefuseStep flags step old stop
+    → MayRefuseStep (plain_flags flags) step old (unexplained stop)
+refused-plain flags (Run script title) old stop h = run-plain flags old script.commands stop h
+refused-plain flags (Tell script) old stop h = run-plain flags old script.commands stop h
+refused-plain flags Undo old stop h = step-plain old (undone old.history old.project.files) stop h
+refused-plain flags (UndoTo count) old stop h = back-plain count old stop h
+refused-plain flags (UndoChecked count kept) old stop (inl (other, is)) = inl (other, ap unexplained is)
+refused-plain flags (UndoChecked count kept) old stop (inr (has, back)) = inr (has, back-plain count old stop back)
+refused-plain flags (ForgetOldest count) old stop (few, is) = (few, ap unexplained is)
+refused-plain flags ForgetAll old stop h = absurd h
+refused-plain flags Redo old stop h = step-plain old (redone old.history old.project.files) stop h
+
+pub explained_ends_as_plain : ExplainedEndsAsPlain
+explained_ends_as_plain dir step flags before after _ (not_opened stop u opens) =
+    not_opened (unexplained stop) u (subst (OpensNone (log_use flags.no_log) before.content dir before.failures after.failures) (sym (opening-plain dir flags before after stop opens)) opens)
+explained_ends_as_plain dir step flags before after _ (refused old log stop u opens may) = refused old log (unexplained stop) u opens (refused-plain flags step old stop may)
+explained_ends_as_plain dir step flags before after _ (told old new log report said u opens does only says) = told old new log report said u opens does only says
+explained_ends_as_plain dir step flags before after _ (shown old new log report said u opens does writes dry shows) = shown old new log report said u opens does writes dry shows
+explained_ends_as_plain dir step flags before after _ (done edits said writes wet are says) = done edits said writes wet are says
+explained_ends_as_plain dir step flags before after _ (unwritten edits fault writes wet taken) = unwritten edits fault writes wet taken
+explained_ends_as_plain dir step flags before after _ (no_memory stop u wants) = no_memory (unexplained stop) u (memory-plain stop wants)
+
+-- ---- what is written
+
+pub status_is_plain : StatusIsPlain
+status_is_plain exit_code (Ok said) = refl
+status_is_plain exit_code (Err (Refused fault subject advice_)) = refl
+status_is_plain exit_code (Err _) = refl
+
+pub lines_are_plain : LinesArePlain
+lines_are_plain (Refused fault subject (advice.Lines text)) =
+    (text, ap (λ (l : List ℕ). l ++ text) (sym (append-nil (line (codes "error: " ++ stop_text (Refused fault subject (advice.Lines text)))))))
+lines_are_plain (Refused fault subject advice_) = ([], sym (append-nil _))
+lines_are_plain _ = ([], sym (append-nil _))
+
+either : (o : Ordering) (found other : Option Data) → is_eq o ≡ false → match_ordering o found other found ≡ found
+either Less found other e = refl
+either Equal found other e = absurd (let no : ⊥ = cc in no)
+either Greater found other e = refl
+
+not_true : (b : Bool) → (b ≡ true → ⊥) → b ≡ false
+not_true true h = absurd (h refl)
+not_true false h = refl
+
+module _ (key : List ℕ) where
+  -- a member of another key is passed
+  passes : (other : List ℕ) (d : Data) (more : Members) → key ≢ other → get_member key (member other d more) ≡ get_member key more
+  passes other d more differ =
+      either (slice_cmp nat_cmp key other) (get_member key more) (Some d)
+      (is_eq-slice_cmp key other ∙ not_true (bytes_eq key other) (λ same. differ ((bytes_eq-Decides key other).0 same)))
+
+  -- a member before what is the same
+  after : (k : List ℕ) (d : Data) (more others : Members) → get_member key more ≡ get_member key others → get_member key (member k d more) ≡ get_member key (member k d others)
+  after k d more others same = ap (λ found. match_ordering (slice_cmp nat_cmp key k) found (Some d) found) same
+
+  after-number : (k : List ℕ) (o : Option ℕ) (more others : Members) → get_member key more ≡ get_member key others
+      → get_member key (with_number k o more) ≡ get_member key (with_number k o others)
+  after-number k None more others same = same
+  after-number k (Some n) more others same = after k _ more others same
+
+  after-text : (k : List ℕ) (o : Option (List ℕ)) (more others : Members) → get_member key more ≡ get_member key others
+      → get_member key (with_text k o more) ≡ get_member key (with_text k o others)
+  after-text k None more others same = same
+  after-text k (Some text) more others same = after k _ more others same
+
+pub members_are_plain : MembersArePlain
+members_are_plain (Refused fault subject (advice.Members notes help)) key h n =
+    let told = array (items_of (map note_data notes)) in
+    let helps = array (items_of (map string help)) in
+    let message = string (refused_text fault.index fault.refusal) in
+    let name = refusal_subject fault.refusal subject in
+    let named = after-text key (codes "name") name (member (codes "notes") told no_members) no_members (passes key (codes "notes") told no_members n) in
+    let rest = member (codes "message") message (with_text (codes "name") name (member (codes "notes") told no_members)) in
+    let plain = member (codes "message") message (with_text (codes "name") name no_members) in
+    let same = after key (codes "message") message _ _ named in
+    after key (codes "code") (string (refusal_code fault.refusal)) _ _
+    (after-number key (codes "command") (refused_command fault.index fault.refusal) (member (codes "help") helps rest) plain (passes key (codes "help") helps rest h ∙ same))
+members_are_plain (Refused fault subject advice_) key h n = refl
+members_are_plain _ key h n = refl

@@ -1,0 +1,6 @@
+use Rattle.std.proofs.Output.{has_written_of_eq}
+use Rattle.meson_rewrite.proofs.NoteTexts.{range-text}
+use Rattle.meson_rewrite.proofs.notes.RangeObjectDisplay.fmt.Goals as goal
+
+pub returns-clause-writes : goal.returns-clause-writes
+returns-clause-writes g c = λ plain ok. has_written_of_eq _ _ _ _ _ (range-text c.args.self.now.0) (c.write.ensures.writes plain ok)
