@@ -5,4 +5,6 @@ pub mod Lines
 pub mod Keys
 pub mod Values
 pub mod Sources
+pub mod Names
 pub mod Laws
+pub mod NameLaws

@@ -167,7 +167,7 @@ fn all_missing(alloc: Global, items: &[SourceItem], names: &[Text]) -> Result<Ve
 }
 
 /// The first name that no item has.
-fn first_missing<'n>(items: &[SourceItem], names: &'n [Text]) -> Option<&'n str>
+pub(crate) fn first_missing<'n>(items: &[SourceItem], names: &'n [Text]) -> Option<&'n str>
     ensures { option_map (λ name. name.now) result ≡ find (is_missing items.now) names.entry.now }
 {
     for i in 0..names.len() {
