@@ -14,3 +14,5 @@ mod BadNames
 mod LostNames
 mod GoneNames
 mod MeantNames
+mod ReadPlaces
+mod UnknownArguments

@@ -6,5 +6,9 @@ pub mod Keys
 pub mod Values
 pub mod Sources
 pub mod Names
+pub mod BadNames
+pub mod Removals
+pub mod Targets
+pub mod Unknown
 pub mod Laws
 pub mod NameLaws

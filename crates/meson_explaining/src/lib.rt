@@ -1,6 +1,7 @@
 //! Why a command is refused, in words for people: what the project holds that the refusal is about, and what may be done.
 #![tactic(auto)]
 
+mod bad_names;
 mod calls;
 mod explaining;
 mod explanation;
@@ -10,8 +11,12 @@ mod lines;
 mod names;
 mod nearest;
 mod printable;
+mod reasons;
+mod removals;
 mod sources;
 mod subject;
+mod targets;
+mod unknown;
 mod values;
 
 pub use explaining::explain;

@@ -50,7 +50,7 @@ fn is_bad_option(name: &str) -> bool
 }
 
 /// The first text that cannot be the name of an option.
-fn first_bad_option(names: &[Text]) -> Option<&str>
+pub(crate) fn first_bad_option(names: &[Text]) -> Option<&str>
     ensures { option_map (λ name. name.now) result ≡ find is_bad_option names.now }
 {
     for i in 0..names.len() {
@@ -62,7 +62,7 @@ fn first_bad_option(names: &[Text]) -> Option<&str>
 }
 
 /// The first key that cannot be the name of an option.
-fn first_bad_entry(pairs: &[(Text, Text)]) -> Option<&str>
+pub(crate) fn first_bad_entry(pairs: &[(Text, Text)]) -> Option<&str>
     ensures { option_map (λ name. name.now) result ≡ find_key (λ p. is_bad_option p.0) pairs.now }
 {
     for i in 0..pairs.len() {
@@ -94,7 +94,7 @@ fn first_bad_variable(texts: &[Text]) -> Option<&str>
 }
 
 /// The first of the values that cannot be the name of a variable.
-fn bad_value(setting: &Setting) -> Option<&str>
+pub(crate) fn bad_value(setting: &Setting) -> Option<&str>
     ensures { option_map (λ name. name.now) result ≡ bad_value setting.now }
 {
     match setting {
@@ -119,7 +119,7 @@ fn is_bad_pair(role: Role, pair: &(Text, Setting)) -> bool
 }
 
 /// The first pair whose key takes variables and whose values are not all names of variables.
-fn first_bad_pair(role: Role, pairs: &[(Text, Setting)]) -> Option<&(Text, Setting)>
+pub(crate) fn first_bad_pair(role: Role, pairs: &[(Text, Setting)]) -> Option<&(Text, Setting)>
     ensures { option_map (λ pair. pair.now) result ≡ find (is_bad_pair role) pairs.now }
 {
     for i in 0..pairs.len() {
@@ -141,7 +141,7 @@ fn first_bad_key(role: Role, pairs: &[(Text, Setting)]) -> Option<&str>
 }
 
 /// The first name of a command that is not valid.
-fn bad_name(command: &Command) -> Option<&str>
+pub(crate) fn bad_name(command: &Command) -> Option<&str>
     ensures { option_map (λ name. name.now) result ≡ bad_name command.now }
 {
     match command {
