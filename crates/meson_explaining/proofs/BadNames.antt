@@ -1,18 +1,14 @@
 -- A command that is refused for a name that is not valid is refused for the first of its names that is not.
-use Rattle.std.proofs.Common.{◌≡◌, ◌≢◌, ℕ, zero, suc, true, false, List, [], ◌∷◌, map, Option, Some, None, refl, sym, ap, ◌∙◌}
-use Rattle.std.specs.Prelude.{Bool, cond, ◌==◌, Result, Ok, Err, codes, find, length, ok_or, option_map}
-use Rattle.std.specs.List.{AllByRecursion}
+use Rattle.std.proofs.Common.{◌≡◌, ℕ, zero, suc, true, false, List, [], ◌∷◌, map, Option, Some, None, refl, sym, ap, ◌∙◌}
+use Rattle.std.specs.Prelude.{Bool, Result, Ok, Err, codes, find, option_map}
 use Rattle.std.proofs.lemmas.List.Elements.{All-cons, All-nil}
 use Rattle.meson_lex.specs.declared.kinds.Span.{Span}
 use Rattle.meson_splice.specs.Patch.{then_ok}
-use Rattle.meson_syntax.specs.Tree.{Expression}
-use Rattle.meson_calls.specs.Calls.{Call, Numbered, keyword}
-use Rattle.meson_calls.specs.Calls as calls
+use Rattle.meson_calls.specs.Calls.{Call, keyword}
 use Rattle.meson_calls.specs.Finding.{the_call}
 use Rattle.meson_calls.specs.Loading.{Loaded, project}
 use Rattle.meson_calls.specs.NamedArguments.{kwargs_key, not_hidden, once, sources_key}
 use Rattle.meson_calls.specs.Project.{Placed, Project}
-use Rattle.meson_calls.specs.declared.call.CallRef.{CallRef}
 use Rattle.meson_calls.specs.declared.call.Role.{Role}
 use Rattle.meson_calls.specs.declared.call.Role.TheVariants as role
 use Rattle.meson_calls.specs.declared.refusal.Refusal.{Refusal}
@@ -20,17 +16,16 @@ use Rattle.meson_calls.specs.declared.refusal.Refusal.TheVariants as refusal
 use Rattle.meson_keywords.specs.Tasks.{Task, add_entry, checked_option, delete_entry, delete_option, delete_option_entry, each_made, remove_entry, set_entry, set_option, set_option_entry}
 use Rattle.meson_keywords.specs.TaskSteps.{call_changed, tasks_steps, trees_of}
 use Rattle.meson_plan.specs.Planning.{call_asked, planned, target_told}
-use Rattle.meson_sources.specs.SourceEdits.{behind_value, checked_extra, extra_added, extra_inserted, extra_key, extra_marks, extra_removed, none_found, removed_at, sources_added, sources_removed, spots_by, spots_named, spots_of, items_of, without_home}
+use Rattle.meson_sources.specs.SourceEdits.{checked_extra, extra_added, extra_key, extra_marks, extra_removed, none_found, removed_at, sources_added, sources_removed, spots_by, spots_named, spots_of, items_of}
 use Rattle.meson_steps.specs.Names.{checked_names, distinct}
 use Rattle.meson_steps.specs.Steps.{Step}
 use Rattle.meson_steps.specs.declared.command.Command.{Command}
 use Rattle.meson_steps.specs.declared.command.Command.TheVariants as command
-use Rattle.meson_steps.specs.declared.command.Setting.{Setting}
-use Rattle.meson_targets.specs.TargetEdits.{append_steps, checked_kind, is_target_kind, kind_key, not_taken, number_in, target_added, target_removed, targets_named}
+use Rattle.meson_targets.specs.TargetEdits.{append_steps, checked_kind, not_taken, number_in, target_removed, targets_named}
 use Rattle.meson_variables.specs.Expansion.{Item, Mark}
 use Rattle.meson_variables.specs.TargetSources.{opaque_count, source_marks}
 use Rattle.meson_explaining.specs.NameLaws.{HasMeantName, NotRefused, alone}
-use Rattle.meson_explaining.specs.Names.{bad_name, is_bad_option, is_bad_pair, is_empty_name, meant_name}
+use Rattle.meson_explaining.specs.Names.{is_bad_option, is_bad_pair, is_empty_name, meant_name}
 use Rattle.meson_explaining.proofs.EntryReasons.{add_bad, add_free, delete_free, each_free, each_good, good_values, one_bad, option_bad, option_good, remove_bad, remove_free, set_bad, set_free}
 use Rattle.meson_explaining.proofs.Firsts.{all_of, first_refused, meant_of_call, none_of_one}
 use Rattle.meson_explaining.proofs.NameReasons.{Free, after, bad_of_names, call_free, checked_kind_free, is_bad, kwargs_free, not_refused, once_free, or_free, placed_free, reached, removed_free, shown_free, target_free}

@@ -1,7 +1,7 @@
 -- Which entries of a command are refused for a name.
-use Rattle.std.proofs.Common.{◌≡◌, ℕ, true, false, List, [], ◌∷◌, ◌++◌, map, Option, Some, None, refl, sym, ap, ◌∙◌, subst}
-use Rattle.std.specs.Prelude.{Bool, cond, not, ◌==◌, ◌&&◌, ◌||◌, Result, Ok, Err, if◌then◌else◌, bytes_eq, codes, find, is_some, length, ok_or, option_map}
-use Rattle.std.specs.List.{list_all, list_any}
+use Rattle.std.proofs.Common.{◌≡◌, ℕ, true, false, List, [], ◌∷◌, ◌++◌, Option, Some, None, refl, sym, ap, ◌∙◌, subst}
+use Rattle.std.specs.Prelude.{Bool, cond, not, ◌==◌, ◌&&◌, ◌||◌, Result, Ok, Err, if◌then◌else◌, bytes_eq, codes, find, is_some, ok_or, option_map}
+use Rattle.std.specs.List.{list_all}
 use Rattle.std.proofs.lemmas.Bool.{and_parts}
 use Rattle.std.proofs.lemmas.Slice.Eq.{bytes_eq-Decides}
 use Rattle.meson_splice.specs.Patch.{then_ok}
@@ -12,13 +12,13 @@ use Rattle.meson_calls.specs.declared.call.Role.{Role}
 use Rattle.meson_calls.specs.declared.call.Role.TheVariants as role
 use Rattle.meson_calls.specs.declared.refusal.Refusal.{Refusal}
 use Rattle.meson_calls.specs.declared.refusal.Refusal.TheVariants as refusal
-use Rattle.meson_keywords.specs.Tasks.{Task, add, add_entry, before_equals, checked_option, delete, delete_entry, each_made, once, remove, remove_entry, set, set_entry}
+use Rattle.meson_keywords.specs.Tasks.{Task, add_entry, before_equals, checked_option, delete, delete_entry, each_made, remove_entry, set, set_entry}
 use Rattle.meson_keywords.specs.ValueKinds.{is_identifier, key_kind, list_kind, setting_text, setting_texts, truth_of, written_switch, written_value}
 use Rattle.meson_steps.specs.WrittenTexts.{written_text}
 use Rattle.meson_steps.specs.declared.command.Setting.{Setting}
 use Rattle.meson_steps.specs.declared.command.Setting.TheVariants as setting
 use Rattle.meson_explaining.specs.Names.{bad_value, has_equals, is_bad_option, is_bad_pair, is_bad_variable}
-use Rattle.meson_explaining.proofs.NameReasons.{Free, OfNames, after, bad_of_names, is_bad, or_free}
+use Rattle.meson_explaining.proofs.NameReasons.{Free, OfNames, after, is_bad, or_free}
 
 -- ---- values
 

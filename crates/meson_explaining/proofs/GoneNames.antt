@@ -1,7 +1,7 @@
 -- A command that is refused since a source is not found is refused for the first of its names that the target does not have.
-use Rattle.std.proofs.Common.{◌≡◌, ℕ, zero, suc, true, false, List, [], ◌∷◌, map, Option, Some, None, refl, sym, ap, ◌∙◌, subst}
+use Rattle.std.proofs.Common.{◌≡◌, ℕ, true, List, [], ◌∷◌, map, Some, None, refl, sym, ap, ◌∙◌, subst}
 use Rattle.std.specs.Prelude.{Bool, Result, Ok, Err, cond, not, codes, find, option_map, option_and_then}
-use Rattle.std.specs.List.{AllByRecursion, list_any}
+use Rattle.std.specs.List.{AllByRecursion}
 use Rattle.meson_lex.specs.declared.kinds.Span.{Span}
 use Rattle.meson_splice.specs.Patch.{then_ok}
 use Rattle.meson_calls.specs.CallPlaces.{call_at}
@@ -9,23 +9,21 @@ use Rattle.meson_calls.specs.Calls.{Call, call_of, keyword}
 use Rattle.meson_calls.specs.Finding.{the_call}
 use Rattle.meson_calls.specs.Loading.{Loaded, project}
 use Rattle.meson_calls.specs.NamedArguments.{kwargs_key, not_hidden, once, sources_key}
-use Rattle.meson_calls.specs.Project.{Placed, Project, placed}
-use Rattle.meson_calls.specs.declared.call.CallRef.{CallRef}
+use Rattle.meson_calls.specs.Project.{Placed, placed}
 use Rattle.meson_calls.specs.declared.call.Role.{Role}
 use Rattle.meson_calls.specs.declared.call.Role.TheVariants as role
 use Rattle.meson_calls.specs.declared.refusal.Refusal.{Refusal}
-use Rattle.meson_calls.specs.declared.refusal.Refusal.TheVariants as refusal
 use Rattle.meson_calls.proofs.CallsFound.{role_found}
-use Rattle.meson_keywords.specs.Tasks.{Task, add_entry, checked_option, delete_entry, delete_option, delete_option_entry, each_made, remove_entry, set_entry, set_option, set_option_entry}
+use Rattle.meson_keywords.specs.Tasks.{Task, add_entry, checked_option, delete_entry, delete_option_entry, each_made, remove_entry, set_entry, set_option_entry}
 use Rattle.meson_keywords.specs.TaskSteps.{call_changed, tasks_steps, trees_of}
 use Rattle.meson_plan.specs.Planning.{call_asked, planned, target_told}
 use Rattle.meson_sources.specs.Extras.{extra_files, extra_of_call}
-use Rattle.meson_sources.specs.SourceEdits.{checked_extra, extra_added, extra_key, extra_marks, extra_removed, has_text, none_found, removed_at, sources_added, sources_removed, spots_named}
+use Rattle.meson_sources.specs.SourceEdits.{checked_extra, extra_added, extra_key, extra_marks, extra_removed, none_found, removed_at, sources_added, spots_named}
 use Rattle.meson_steps.specs.Names.{checked_names, distinct}
 use Rattle.meson_steps.specs.Steps.{Step}
 use Rattle.meson_steps.specs.declared.command.Command.{Command}
 use Rattle.meson_steps.specs.declared.command.Command.TheVariants as command
-use Rattle.meson_targets.specs.TargetEdits.{append_steps, checked_kind, not_taken, number_in, target_removed, targets_named}
+use Rattle.meson_targets.specs.TargetEdits.{checked_kind, target_removed}
 use Rattle.meson_variables.specs.Expansion.{Mark}
 use Rattle.meson_variables.specs.TargetSources.{items, opaque_count, source_item, source_marks, sources, sources_of_call, sources_of_marks}
 use Rattle.meson_variables.specs.declared.source.SourceItem.{SourceItem}
@@ -33,8 +31,8 @@ use Rattle.meson_explaining.specs.NameLaws.{HasMeantName, alone}
 use Rattle.meson_explaining.specs.Names.{meant_name}
 use Rattle.meson_explaining.specs.Sources.{extras_at, has, is_missing, items_at, items_of, sources_at}
 use Rattle.meson_explaining.proofs.EntryReasons.{add_free, delete_free, each_free, option_free, remove_free, set_free, values_free}
-use Rattle.meson_explaining.proofs.Firsts.{all_of, all_to, meant_of_call}
-use Rattle.meson_explaining.proofs.LostNames.{is_lost, removal_reason, same_names_had, split, spots_found, spots_lost}
+use Rattle.meson_explaining.proofs.Firsts.{all_to, meant_of_call}
+use Rattle.meson_explaining.proofs.LostNames.{is_lost, removal_reason, same_names_had, spots_found, spots_lost}
 use Rattle.meson_explaining.proofs.BadNames.{same_names}
 use Rattle.meson_explaining.proofs.NameReasons.{Free, after, after_ok, call_free, checked_kind_free, gone_of_names, is_gone, kwargs_free, not_refused, once_free, placed_free, reached, removed_free, shown_free, target_free}
 use Rattle.meson_explaining.proofs.SourceReasons.{inserted_free, names_valid}

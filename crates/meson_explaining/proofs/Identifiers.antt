@@ -1,5 +1,5 @@
 -- Whether a text is the name of a variable, as a test.
-use Rattle.std.proofs.Common.{◌≡◌, ◌≢◌, ℕ, true, false, List, [], ◌∷◌, map, refl, sym}
+use Rattle.std.proofs.Common.{◌≡◌, ℕ, true, false, List, [], ◌∷◌, map, refl, sym}
 use Rattle.std.specs.Prelude.{Bool, not, ◌&&◌, ◌||◌, ◌↔◌, IsTrue, bytes_eq}
 use Rattle.std.specs.Bool.{Decides}
 use Rattle.std.proofs.lemmas.Bool.Decides.{Decides-and, Decides-at, Decides-like, Decides-not, same_from_decides}

@@ -1,5 +1,5 @@
 -- Names that are sought among the marks of a target: found, or refused since no mark has them.
-use Rattle.std.proofs.Common.{◌≡◌, ℕ, zero, suc, true, false, List, [], ◌∷◌, ◌++◌, map, Option, Some, None, refl, sym, ap, ◌∙◌}
+use Rattle.std.proofs.Common.{◌≡◌, ℕ, true, false, List, [], ◌∷◌, ◌++◌, map, Option, Some, None, refl, sym, ap, ◌∙◌}
 use Rattle.std.specs.Prelude.{Bool, Result, Ok, Err, cond, not, ◌||◌, ◌⊎◌, bytes_eq, find, if◌then◌else◌, ok_or}
 use Rattle.std.specs.List.{filter, list_any}
 use Rattle.std.proofs.Common.{inl, inr}
@@ -12,7 +12,6 @@ use Rattle.meson_sources.specs.SourceEdits.{Spot, has_text, is_known, items_of, 
 use Rattle.meson_steps.specs.Names.{distinct_by}
 use Rattle.meson_variables.specs.Expansion.{Item, Mark}
 use Rattle.meson_variables.specs.TargetSources.{items, opaque_count, source_item}
-use Rattle.meson_variables.specs.declared.source.SourceItem.{SourceItem}
 use Rattle.meson_explaining.specs.Sources.{has}
 use Rattle.meson_explaining.proofs.NameReasons.{Free, Reached, after, is_gone, or_free}
 

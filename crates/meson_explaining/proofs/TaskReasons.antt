@@ -1,13 +1,12 @@
 -- Changes of a call are not refused for a name: their words were checked before.
-use Rattle.std.proofs.Common.{◌≡◌, ℕ, zero, suc, true, false, List, [], ◌∷◌, ◌++◌, length, Option, Some, None, refl}
+use Rattle.std.proofs.Common.{ℕ, true, false, List, [], ◌∷◌, ◌++◌, length, Option, Some, None}
 use Rattle.std.specs.Prelude.{Bool, Ok}
-use Rattle.meson_syntax.specs.Tree.{Argument, Expression, Nowhere, Plain}
-use Rattle.meson_edit.specs.Edits.{Written}
+use Rattle.meson_syntax.specs.Tree.{Argument, Expression, Plain}
 use Rattle.meson_calls.specs.Calls.{Numbered}
 use Rattle.meson_calls.specs.declared.call.CallRef.{CallRef}
 use Rattle.meson_calls.specs.declared.refusal.Refusal.{Refusal}
-use Rattle.meson_keywords.specs.KeywordEdits.{ValueShape, add_by_shape, add_there, an_array, delete_there, keyword_in, no_array, one_at_most, remove_by_shape, remove_equal, remove_lone, remove_there, set_there, text_in, the_value, value_shape}
-use Rattle.meson_keywords.specs.Options.{delete_by_shape, delete_by_value, delete_option_there, entries, of_list, of_lone, option_text, options_key, set_by_shape, set_by_value, set_option_there}
+use Rattle.meson_keywords.specs.KeywordEdits.{ValueShape, add_by_shape, add_there, an_array, delete_there, keyword_in, no_array, one_at_most, remove_by_shape, remove_equal, remove_there, set_there, text_in, the_value, value_shape}
+use Rattle.meson_keywords.specs.Options.{delete_by_shape, delete_by_value, delete_option_there, entries, of_list, of_lone, options_key, set_by_shape, set_by_value, set_option_there}
 use Rattle.meson_keywords.specs.Tasks.{Task, add, delete, delete_option, once, remove, set, set_option}
 use Rattle.meson_keywords.specs.TaskSteps.{elements_in, task_steps, tasks_steps, trees_after}
 use Rattle.meson_steps.specs.Steps.{Step}

@@ -1,5 +1,5 @@
 -- The name that a refusal means where its command has several.
-use Rattle.std.specs.Prelude.{ℕ, ◌==◌, Bool, true, false, not, ◌&&◌, ◌||◌, List, [], ◌∷◌, find, is_some, Option, Some, None, option_map}
+use Rattle.std.specs.Prelude.{ℕ, ◌==◌, Bool, true, false, not, ◌&&◌, ◌||◌, List, [], ◌∷◌, find, is_some, Option, None, option_map}
 use Rattle.std.specs.List.{list_any}
 use Rattle.meson_calls.specs.Keys.{identifier_list_keys}
 use Rattle.meson_calls.specs.Loading.{Loaded}

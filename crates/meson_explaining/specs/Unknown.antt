@@ -1,5 +1,5 @@
 -- Notes of arguments of a target of which it is not known what they hold.
-use Rattle.std.specs.Prelude.{ℕ, ◌&&◌, List, [], if◌then◌else◌, bytes_eq, codes, drop, is_none, Option, Some, None, option_map, Result, Ok, Err, take}
+use Rattle.std.specs.Prelude.{ℕ, List, [], if◌then◌else◌, bytes_eq, codes, drop, is_none, Option, Some, None, option_map, Result, Ok, Err, take}
 use Rattle.std.specs.List.{filter_map}
 use Rattle.meson_lex.specs.declared.kinds.Span.{Span}
 use Rattle.meson_syntax.specs.Tree.{Expression, identifier, string, array, call, row, Argument, plain, named}

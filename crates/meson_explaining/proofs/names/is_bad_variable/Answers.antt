@@ -1,4 +1,4 @@
-use Rattle.std.proofs.Common.{ap, ◌∙◌}
+use Rattle.std.proofs.Common.{ap}
 use Rattle.std.specs.Prelude.{not}
 use Rattle.meson_explaining.proofs.Identifiers.{identifier_is}
 use Rattle.meson_explaining.proofs.names.is_bad_variable.Goals as goal

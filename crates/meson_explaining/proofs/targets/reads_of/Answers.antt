@@ -1,4 +1,4 @@
-use Rattle.std.proofs.Common.{◌≡◌, [], None, Some, ap, ap₂, ◌∙◌}
+use Rattle.std.proofs.Common.{◌≡◌, [], None, Some, ap₂, ◌∙◌}
 use Rattle.meson_syntax.proofs.parsing.Steps.{some-injective}
 use Rattle.meson_calls.specs.Loading.{named_trees, project, views}
 use Rattle.meson_calls.specs.Parts.{parts}

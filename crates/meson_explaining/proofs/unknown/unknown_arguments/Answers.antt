@@ -1,4 +1,4 @@
-use Rattle.std.proofs.Common.{◌≡◌, Some, drop, take, sym, ap, ap₂, ◌∙◌, subst₂}
+use Rattle.std.proofs.Common.{◌≡◌, Some, take, sym, ap, ap₂, ◌∙◌, subst₂}
 use Rattle.std.specs.Prelude.{IsTrue}
 use Rattle.std.specs.List.{filter_map}
 use Rattle.meson_calls.specs.Loading.{named_trees, project, views}
