@@ -4,3 +4,15 @@ mod NearCalls
 mod Printed
 mod ArgumentNotes
 mod CallValues
+mod Identifiers
+mod NameReasons
+mod TaskReasons
+mod EntryReasons
+mod SourceReasons
+mod Firsts
+mod BadNames
+mod LostNames
+mod GoneNames
+mod MeantNames
+mod ReadPlaces
+mod UnknownArguments

@@ -11,10 +11,13 @@ use Rattle.meson_inventory.specs.Holdings.{calls_held, calls_named, subdirs_held
 use Rattle.meson_inventory.specs.declared.holdings.HeldCall.{HeldCall}
 use Rattle.meson_explaining.specs.declared.explanation.Explanation.{Explanation}
 use Rattle.meson_explaining.specs.declared.explanation.Note.{Note}
+use Rattle.meson_explaining.specs.BadNames.{bad_help, bad_notes}
 use Rattle.meson_explaining.specs.Keys.{keys, nearest_key, unknown_notes, wrong_notes}
 use Rattle.meson_explaining.specs.Nearest.{near_notes}
-use Rattle.meson_explaining.specs.Notes.{few_notes, further}
+use Rattle.meson_explaining.specs.Notes.{few_notes, further, plain_note}
+use Rattle.meson_explaining.specs.Removals.{not_removable, unresolved}
 use Rattle.meson_explaining.specs.Sources.{extras_at, sources_at, source_notes}
+use Rattle.meson_explaining.specs.Targets.{in_use, no_file}
 use Rattle.meson_explaining.specs.Values.{value_notes}
 
 -- the kind of the call that a command is about, and the id that is to name it
@@ -106,13 +109,72 @@ not_there l (command.SourcesRemove target names) = with_info (source_notes (sour
 not_there l (command.ExtraRemove target names) = with_info (source_notes (extras_at l target) names)
 not_there l _ = record { notes = []; help = [] }
 
+-- ---- a name is not valid
+
+abbrev pub not_valid : Command → Explanation
+not_valid c = record { notes = bad_notes c; help = bad_help c }
+
+-- ---- the call has a keyword twice, or `kwargs:`
+
+abbrev pub keyword_there : Loaded → Command → List ℕ → List ℕ → Explanation
+keyword_there l c key help = record { notes = value_notes l (subject c).0 (subject c).1 key; help = help ∷ [] }
+
+abbrev pub hidden : Loaded → Command → Explanation
+hidden l c = keyword_there l c (codes "kwargs") (codes "kwargs: may hold any keyword; change its dictionary by hand")
+
+abbrev pub duplicate : Loaded → Command → List ℕ → Explanation
+duplicate l c key = keyword_there l c key (codes "remove one of them by hand")
+
+-- ---- no file calls `project`
+
+abbrev pub no_project : Loaded → Explanation
+no_project l = record {
+  notes = further (codes "build files, none of which calls project") (length l.files);
+  help = codes "use --sourcedir with the folder of the build file that calls project" ∷ [];
+}
+
+-- ---- what is said of the calls that the command names
+
+abbrev pub calls_there : Loaded → Command → ℕ → List ℕ → List ℕ → List ℕ → Explanation
+calls_there l c most more others help = record { notes = few_notes most more others (calls_named l (subject c).0 (subject c).1); help = help ∷ [] }
+
+abbrev pub name_taken : Loaded → Command → Explanation
+name_taken l c = calls_there l c 5 [] (codes "further targets of that name") (codes "use another name, or remove that target first with rm_target")
+
+abbrev pub not_statement : Loaded → Command → Explanation
+not_statement l c =
+    calls_there l c 1 (codes ", inside a larger expression") (codes "further calls that the id names") (codes "set a variable to it alone, or remove it by hand")
+
+-- ---- a limit
+
+abbrev pub limit : List ℕ → List ℕ → Explanation
+limit note help = record { notes = plain_note note ∷ []; help = help ∷ [] }
+
+abbrev pub too_deep : Explanation
+too_deep = limit (codes "at most 64 constructs may be inside one another") (codes "use a variable for what is inside")
+
+abbrev pub too_large : Explanation
+too_large = limit (codes "a build file has at most 1048576 bytes") (codes "split the file by subdir")
+
 -- ---- each refusal
 
 abbrev pub explanation : Loaded → Command → Refusal → Explanation
+explanation l c refusal.NoProject = no_project l
 explanation l c refusal.NotFound = not_found l (subject c).0 (subject c).1
 explanation l c refusal.Ambiguous = ambiguous l (subject c).0 (subject c).1
 explanation l c (refusal.UnknownKey key) = unknown_key (subject c).0 key
 explanation l c (refusal.WrongKind key) = wrong_kind c key
+explanation l c refusal.BadName = not_valid c
+explanation l c refusal.HiddenKeywords = hidden l c
+explanation l c (refusal.DuplicateKeyword key) = duplicate l c key
 explanation l c (refusal.NotLiteral key) = not_literal l c key
 explanation l c refusal.SourceNotFound = not_there l c
-explanation l c _ = record { notes = []; help = [] }
+explanation l c refusal.Unresolved = unresolved l c
+explanation l c refusal.NotRemovable = not_removable l c
+explanation l c refusal.NameTaken = name_taken l c
+explanation l c refusal.NoFile = no_file l c
+explanation l c refusal.NotStatement = not_statement l c
+explanation l c (refusal.InUse name) = in_use l c name
+explanation l c refusal.TooDeep = too_deep
+explanation l c refusal.TooLarge = too_large
+explanation l c refusal.OutOfMemory = record { notes = []; help = [] }

@@ -5,4 +5,10 @@ pub mod Lines
 pub mod Keys
 pub mod Values
 pub mod Sources
+pub mod Names
+pub mod BadNames
+pub mod Removals
+pub mod Targets
+pub mod Unknown
 pub mod Laws
+pub mod NameLaws

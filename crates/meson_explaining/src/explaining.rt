@@ -9,6 +9,10 @@ use crate::calls::{Telling, add_few, add_further};
 use crate::explanation::{Explanation, Note};
 use crate::keys::{keys, nearest_key, unknown_notes, wrong_notes};
 use crate::nearest::near_notes;
+use crate::reasons::{
+    duplicate, hidden, in_use, name_taken, no_file, no_project, not_removable, not_statement,
+    not_valid, too_deep, too_large, unresolved,
+};
 use crate::sources::{extras_at, source_notes, sources_at};
 use crate::subject::{Subject, subject_of};
 use crate::values::value_notes;
@@ -21,7 +25,11 @@ use meson_variables::SourceItem;
 use std::alloc::{AllocError, Global};
 
 /// Notes with one line of help.
-fn with_help(alloc: Global, notes: Vec<Note>, help: &str) -> Result<Explanation, AllocError>
+pub(crate) fn with_help(
+    alloc: Global,
+    notes: Vec<Note>,
+    help: &str,
+) -> Result<Explanation, AllocError>
     ensures { IfOk result (λ e. e ≡ record { notes = notes.items; help = help.now ∷ [] }) }
 {
     let mut lines = Vec::new(alloc);
@@ -247,7 +255,7 @@ fn with_info(alloc: Global, items: &[SourceItem], names: &[Text]) -> Result<Expl
 }
 
 /// Nothing is said.
-fn unexplained(alloc: Global) -> Explanation
+pub(crate) fn unexplained(alloc: Global) -> Explanation
     ensures { result ≡ record { notes = []; help = [] } }
 {
     Explanation {
@@ -256,8 +264,7 @@ fn unexplained(alloc: Global) -> Explanation
     }
 }
 
-/// Why a command is refused: what the project, as the command finds it, holds that the refusal is about, and what may be done. Of some refusals nothing is
-/// said.
+/// Why a command is refused: what the project, as the command finds it, holds that the refusal is about, and what may be done.
 ///
 /// # Errors
 /// Out of memory.
@@ -270,12 +277,24 @@ pub fn explain(
     ensures { IfOk result (λ e. e ≡ explanation project.now command.now refusal.now) }
 {
     match refusal {
+        Refusal::NoProject => no_project(alloc, project),
         Refusal::NotFound => not_found(alloc, project, subject_of(command)),
         Refusal::Ambiguous => ambiguous(alloc, project, subject_of(command)),
         Refusal::UnknownKey(key) => unknown_key(alloc, subject_of(command).role, key.get()),
         Refusal::WrongKind(key) => wrong_kind(alloc, command, key.get()),
+        Refusal::BadName => not_valid(alloc, command),
+        Refusal::HiddenKeywords => hidden(alloc, project, command),
+        Refusal::DuplicateKeyword(key) => duplicate(alloc, project, command, key.get()),
         Refusal::NotLiteral(key) => not_literal(alloc, project, command, key.get()),
         Refusal::SourceNotFound => not_there(alloc, project, command),
-        _ => Ok(unexplained(alloc)),
+        Refusal::Unresolved => unresolved(alloc, project, command),
+        Refusal::NotRemovable => not_removable(alloc, project, command),
+        Refusal::NameTaken => name_taken(alloc, project, command),
+        Refusal::NoFile => no_file(alloc, project, command),
+        Refusal::NotStatement => not_statement(alloc, project, command),
+        Refusal::InUse(name) => in_use(alloc, project, command, name.get()),
+        Refusal::TooDeep => too_deep(alloc),
+        Refusal::TooLarge => too_large(alloc),
+        Refusal::OutOfMemory => Ok(unexplained(alloc)),
     }
 }

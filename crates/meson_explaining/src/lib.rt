@@ -1,18 +1,25 @@
 //! Why a command is refused, in words for people: what the project holds that the refusal is about, and what may be done.
 #![tactic(auto)]
 
+mod bad_names;
 mod calls;
 mod explaining;
 mod explanation;
 mod keys;
 pub mod laws;
 mod lines;
+mod names;
 mod nearest;
 mod printable;
+mod reasons;
+mod removals;
 mod sources;
 mod subject;
+mod targets;
+mod unknown;
 mod values;
 
 pub use explaining::explain;
 pub use explanation::{Explanation, Note, Spot};
 pub use lines::explanation_lines;
+pub use names::meant_name;

@@ -5,7 +5,7 @@ ghost use Rattle.meson_calls.specs.Loading.{project as trees_of};
 ghost use Rattle.meson_calls.specs.Roles.{is_target};
 ghost use Rattle.meson_sources.specs.Extras.{extra_files};
 ghost use Rattle.meson_variables.specs.TargetSources.{sources};
-ghost use Rattle.meson_explaining.specs.Sources.{extras_at, has, is_close, is_missing, item_note, items_of, missing_note, source_notes, sources_at};
+ghost use Rattle.meson_explaining.specs.Sources.{close_notes, extras_at, has, is_close, is_missing, item_note, items_of, missing_note, source_notes, sources_at};
 
 use crate::calls::{add_further, plain_note};
 use crate::explanation::{Note, Spot};
@@ -167,7 +167,7 @@ fn all_missing(alloc: Global, items: &[SourceItem], names: &[Text]) -> Result<Ve
 }
 
 /// The first name that no item has.
-fn first_missing<'n>(items: &[SourceItem], names: &'n [Text]) -> Option<&'n str>
+pub(crate) fn first_missing<'n>(items: &[SourceItem], names: &'n [Text]) -> Option<&'n str>
     ensures { option_map (λ name. name.now) result ≡ find (is_missing items.now) names.entry.now }
 {
     for i in 0..names.len() {
@@ -176,6 +176,24 @@ fn first_missing<'n>(items: &[SourceItem], names: &'n [Text]) -> Option<&'n str>
         }
     }
     None
+}
+
+/// The notes of the first items whose names are close to a name, if there is one.
+pub(crate) fn few_close_notes(
+    alloc: Global,
+    name: Option<&str>,
+    items: &[SourceItem],
+) -> Result<Vec<Note>, AllocError>
+    ensures { IfOk result (λ notes. notes.items ≡ close_notes items.now (option_map (λ name. name.now) name.entry)) }
+{
+    match name {
+        Some(name) => {
+            let mut close = close_notes(alloc, name, items)?;
+            close.truncate(MOST_TOLD);
+            Ok(close)
+        }
+        None => Ok(Vec::new(alloc)),
+    }
 }
 
 /// The notes of the first names that no item has, and of items that are close to the first of them.
@@ -195,10 +213,7 @@ pub(crate) fn source_notes(
         "further names that it does not have",
         others,
     )?;
-    if let Some(name) = first_missing(items, names) {
-        let mut close = close_notes(alloc, name, items)?;
-        close.truncate(MOST_TOLD);
-        notes.append(&mut close)?;
-    }
+    let mut close = few_close_notes(alloc, first_missing(items, names), items)?;
+    notes.append(&mut close)?;
     Ok(notes)
 }

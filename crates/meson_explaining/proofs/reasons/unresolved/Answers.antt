@@ -1,0 +1,28 @@
+use Rattle.std.proofs.Common.{ap, ap₂, sym, ◌∙◌}
+use Rattle.std.specs.Prelude.{codes}
+use Rattle.std.proofs.lemmas.Result.{IfOk-weaker}
+use Rattle.meson_explaining.specs.Removals.{not_known, unresolved}
+use Rattle.meson_explaining.specs.Sources.{extras_at, sources_at}
+use Rattle.meson_explaining.proofs.reasons.unresolved.Goals as goal
+
+pub returns-in_ok-items-in-SourcesRemove : goal.returns-in_ok-items-in-SourcesRemove
+returns-in_ok-items-in-SourcesRemove c =
+    let l = c.args.project.now in
+    let target = c.in-SourcesRemove.target in
+    let items = c.get-in-SourcesRemove-2.ensures ∙ c.in_ok-items-in-SourcesRemove.ensures ∙ ap (sources_at l) c.get.ensures in
+    IfOk-weaker c.not_known.result _ _
+    (λ e is. is
+    ∙ ap (λ t. not_known l t (codes "sources") c.get-in-SourcesRemove-2.result.now c.get-in-SourcesRemove-3.result.now) c.get-in-SourcesRemove.ensures
+    ∙ ap₂ (not_known l target (codes "sources")) items c.get-in-SourcesRemove-3.ensures
+    ∙ sym (ap (unresolved l) c.in-SourcesRemove.is)) c.not_known.ensures
+
+pub returns-in_ok-items-in-ExtraRemove : goal.returns-in_ok-items-in-ExtraRemove
+returns-in_ok-items-in-ExtraRemove c =
+    let l = c.args.project.now in
+    let target = c.in-ExtraRemove.target in
+    let items = c.get-in-ExtraRemove-3.ensures ∙ c.in_ok-items-in-ExtraRemove.ensures ∙ ap (extras_at l) c.get-in-ExtraRemove.ensures in
+    IfOk-weaker c.not_known-in-ExtraRemove.result _ _
+    (λ e is. is
+    ∙ ap (λ t. not_known l t (codes "extra_files") c.get-in-ExtraRemove-3.result.now c.get-in-ExtraRemove-4.result.now) c.get-in-ExtraRemove-2.ensures
+    ∙ ap₂ (not_known l target (codes "extra_files")) items c.get-in-ExtraRemove-4.ensures
+    ∙ sym (ap (unresolved l) c.in-ExtraRemove.is)) c.not_known-in-ExtraRemove.ensures

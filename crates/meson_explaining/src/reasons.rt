@@ -1,0 +1,286 @@
+//! Why a command is refused, where that is not about the id or about the key.
+
+ghost use Rattle.std.specs.Prelude.{◌≡◌, IfOk};
+ghost use Rattle.meson_explaining.specs.Explaining.{calls_there, keyword_there, limit, no_project, not_valid};
+ghost use Rattle.meson_explaining.specs.Explaining.{duplicate, hidden, name_taken, not_statement, too_deep, too_large};
+ghost use Rattle.meson_explaining.specs.Removals.{not_removable, unresolved};
+ghost use Rattle.meson_explaining.specs.Targets.{in_use, no_file};
+
+use crate::bad_names::{bad_help, bad_notes, one_note};
+use crate::calls::{Telling, add_few, add_further};
+use crate::explaining::{unexplained, with_help};
+use crate::explanation::Explanation;
+use crate::removals::{Lost, fixed_notes, not_known};
+use crate::sources::{extras_at, sources_at};
+use crate::subject::subject_of;
+use crate::targets::{folder_notes, used_notes};
+use crate::values::value_notes;
+use meson_inventory::holdings::calls_named;
+use meson_plan::Project;
+use meson_splice::Many;
+use meson_steps::command::Command;
+use std::alloc::{AllocError, Global};
+
+/// Why there is no call of the project.
+pub(crate) fn no_project(alloc: Global, project: &Project) -> Result<Explanation, AllocError>
+    ensures { IfOk result (λ e. e ≡ no_project project.now) }
+{
+    let mut notes = Vec::new(alloc);
+    add_further(
+        alloc,
+        &mut notes,
+        "build files, none of which calls project",
+        project.files().len(),
+    )?;
+    with_help(
+        alloc,
+        notes,
+        "use --sourcedir with the folder of the build file that calls project",
+    )
+}
+
+/// Which name is not valid.
+pub(crate) fn not_valid(alloc: Global, command: &Command) -> Result<Explanation, AllocError>
+    ensures { IfOk result (λ e. e ≡ not_valid command.now) }
+{
+    let notes = bad_notes(alloc, command)?;
+    let help = bad_help(alloc, command)?;
+    Ok(Explanation {
+        notes: Many::of(notes),
+        help: Many::of(help),
+    })
+}
+
+/// Where a keyword is in the call.
+fn keyword_there(
+    alloc: Global,
+    project: &Project,
+    command: &Command,
+    key: &str,
+    help: &str,
+) -> Result<Explanation, AllocError>
+    ensures { IfOk result (λ e. e ≡ keyword_there project.now command.now key.now help.now) }
+{
+    let notes = value_notes(alloc, project, subject_of(command), key)?;
+    with_help(alloc, notes, help)
+}
+
+/// Where the call has `kwargs:`.
+pub(crate) fn hidden(
+    alloc: Global,
+    project: &Project,
+    command: &Command,
+) -> Result<Explanation, AllocError>
+    ensures { IfOk result (λ e. e ≡ hidden project.now command.now) }
+{
+    keyword_there(
+        alloc,
+        project,
+        command,
+        "kwargs",
+        "kwargs: may hold any keyword; change its dictionary by hand",
+    )
+}
+
+/// Where the call has a keyword more than once.
+pub(crate) fn duplicate(
+    alloc: Global,
+    project: &Project,
+    command: &Command,
+    key: &str,
+) -> Result<Explanation, AllocError>
+    ensures { IfOk result (λ e. e ≡ duplicate project.now command.now key.now) }
+{
+    keyword_there(alloc, project, command, key, "remove one of them by hand")
+}
+
+/// Which calls the command names.
+fn calls_there(
+    alloc: Global,
+    project: &Project,
+    command: &Command,
+    telling: Telling<'_>,
+    help: &str,
+) -> Result<Explanation, AllocError>
+    ensures { IfOk result (λ e. e ≡ calls_there project.now command.now telling.entry.most telling.entry.more.now telling.entry.others.now help.now) }
+{
+    let subject = subject_of(command);
+    let calls = calls_named(alloc, project, subject.role, subject.id)?;
+    let mut notes = Vec::new(alloc);
+    add_few(alloc, &mut notes, telling, calls.get())?;
+    with_help(alloc, notes, help)
+}
+
+/// Which targets have the name.
+pub(crate) fn name_taken(
+    alloc: Global,
+    project: &Project,
+    command: &Command,
+) -> Result<Explanation, AllocError>
+    ensures { IfOk result (λ e. e ≡ name_taken project.now command.now) }
+{
+    let telling = Telling {
+        most: 5,
+        more: "",
+        others: "further targets of that name",
+    };
+    calls_there(
+        alloc,
+        project,
+        command,
+        telling,
+        "use another name, or remove that target first with rm_target",
+    )
+}
+
+/// Where the target is part of a larger expression.
+pub(crate) fn not_statement(
+    alloc: Global,
+    project: &Project,
+    command: &Command,
+) -> Result<Explanation, AllocError>
+    ensures { IfOk result (λ e. e ≡ not_statement project.now command.now) }
+{
+    let telling = Telling {
+        most: 1,
+        more: ", inside a larger expression",
+        others: "further calls that the id names",
+    };
+    calls_there(
+        alloc,
+        project,
+        command,
+        telling,
+        "set a variable to it alone, or remove it by hand",
+    )
+}
+
+/// Which build files there are.
+pub(crate) fn no_file(
+    alloc: Global,
+    project: &Project,
+    command: &Command,
+) -> Result<Explanation, AllocError>
+    ensures { IfOk result (λ e. e ≡ no_file project.now command.now) }
+{
+    match command {
+        Command::TargetAdd { subdir, .. } => {
+            let notes = folder_notes(alloc, project.files().len(), subdir.get())?;
+            with_help(
+                alloc,
+                notes,
+                "make its build file and enter it by subdir; a folder is written as src, not as src/ or ./src",
+            )
+        }
+        _ => Ok(unexplained(alloc)),
+    }
+}
+
+/// Where the variable of the target is used.
+pub(crate) fn in_use(
+    alloc: Global,
+    project: &Project,
+    command: &Command,
+    name: &str,
+) -> Result<Explanation, AllocError>
+    ensures { IfOk result (λ e. e ≡ in_use project.now command.now name.now) }
+{
+    match command {
+        Command::TargetRemove { target } => {
+            let notes = used_notes(alloc, project, target.get(), name)?;
+            with_help(
+                alloc,
+                notes,
+                "remove the uses of the variable first; get_variable, set_variable, a second assignment and foreach count too",
+            )
+        }
+        _ => Ok(unexplained(alloc)),
+    }
+}
+
+/// Which names are in no list.
+pub(crate) fn not_removable(
+    alloc: Global,
+    project: &Project,
+    command: &Command,
+) -> Result<Explanation, AllocError>
+    ensures { IfOk result (λ e. e ≡ not_removable project.now command.now) }
+{
+    let help = "write it in a list, as in ['a.c']";
+    match command {
+        Command::SourcesRemove { target, sources } => {
+            let items = sources_at(alloc, project, target.get())?;
+            let notes = fixed_notes(alloc, items.get(), sources.get())?;
+            with_help(alloc, notes, help)
+        }
+        Command::ExtraRemove { target, sources } => {
+            let items = extras_at(alloc, project, target.get())?;
+            let notes = fixed_notes(alloc, items.get(), sources.get())?;
+            with_help(alloc, notes, help)
+        }
+        _ => Ok(unexplained(alloc)),
+    }
+}
+
+/// Which name is not among what is known of the target, and what is not known.
+pub(crate) fn unresolved(
+    alloc: Global,
+    project: &Project,
+    command: &Command,
+) -> Result<Explanation, AllocError>
+    ensures { IfOk result (λ e. e ≡ unresolved project.now command.now) }
+{
+    match command {
+        Command::SourcesRemove { target, sources } => {
+            let items = sources_at(alloc, project, target.get())?;
+            let lost = Lost {
+                target: target.get(),
+                key: "sources",
+                items: items.get(),
+                names: sources.get(),
+            };
+            not_known(alloc, project, lost)
+        }
+        Command::ExtraRemove { target, sources } => {
+            let items = extras_at(alloc, project, target.get())?;
+            let lost = Lost {
+                target: target.get(),
+                key: "extra_files",
+                items: items.get(),
+                names: sources.get(),
+            };
+            not_known(alloc, project, lost)
+        }
+        _ => Ok(unexplained(alloc)),
+    }
+}
+
+/// A limit, and how to keep it.
+fn limit(alloc: Global, note: &str, help: &str) -> Result<Explanation, AllocError>
+    ensures { IfOk result (λ e. e ≡ limit note.now help.now) }
+{
+    let notes = one_note(alloc, String::from_str(alloc, note)?)?;
+    with_help(alloc, notes, help)
+}
+
+/// How deep a file may nest.
+pub(crate) fn too_deep(alloc: Global) -> Result<Explanation, AllocError>
+    ensures { IfOk result (λ e. e ≡ too_deep) }
+{
+    limit(
+        alloc,
+        "at most 64 constructs may be inside one another",
+        "use a variable for what is inside",
+    )
+}
+
+/// How large a file may be.
+pub(crate) fn too_large(alloc: Global) -> Result<Explanation, AllocError>
+    ensures { IfOk result (λ e. e ≡ too_large) }
+{
+    limit(
+        alloc,
+        "a build file has at most 1048576 bytes",
+        "split the file by subdir",
+    )
+}
