@@ -4,7 +4,7 @@ use crate::rows::{Row, TITLE};
 use crate::trial::{Call, Fault, Wrong, each_growth_refused};
 use meson_plan::{LoadFault, Refusal};
 use meson_script::{
-    Report, RunFault, Script, ScriptFault, Session, UndoFault, UnknownMembers, Unstarted, log_text,
+    ListingForm, Report, RunFault, Script, ScriptFault, Session, UndoFault, UnknownMembers, Unstarted, log_text,
     read_log,
 };
 use meson_splice::{FileSet, History, SpliceFault};
@@ -138,6 +138,26 @@ impl Call for RunTitled {
     }
 }
 
+enum RunWithPositions {}
+
+impl Call for RunWithPositions {
+    type Given = Running;
+
+    type Value = Report;
+
+    type Fault = RunFault;
+
+    fn given(alloc: Global, row: Row<'_>) -> Option<Running> {
+        Run::given(alloc, row)
+    }
+
+    fn make(alloc: Global, given: &mut Running) -> Result<Report, RunFault> {
+        given
+            .session
+            .run_listed(alloc, &given.script, TITLE, ListingForm::Placed)
+    }
+}
+
 enum Undo {}
 
 impl Call for Undo {
@@ -230,6 +250,11 @@ fn runs(rt: HostRuntime) -> Result<(), Wrong> {
 #[test]
 fn runs_with_a_title(rt: HostRuntime) -> Result<(), Wrong> {
     each_growth_refused::<RunTitled>(rt.alloc())
+}
+
+#[test]
+fn runs_with_positions(rt: HostRuntime) -> Result<(), Wrong> {
+    each_growth_refused::<RunWithPositions>(rt.alloc())
 }
 
 #[test]

@@ -52,28 +52,28 @@ counted-by old new zero named is = inl (sym (all-same old new named (sym is)), r
 counted-by old new (suc n) named is =
     inr ((λ same. let none : suc n ≡ 0 = is ∙ ap (differing old) same ∙ differing-same old in absurd (omega (arith, none))), not-zero n (suc n == 0) refl)
 
-pub by-step : (step : Step) (old new : Session) (report : Report) → only_tells step ≡ false → Does step old report new
+pub by-step : (json : Bool) (step : Step) (old new : Session) (report : Report) → only_tells step ≡ false → Does json step old report new
     → Tells old.project.files new.project.files (changes_files step report)
-by-step (Run script title) old new report writes does = counted-by _ _ report.files (step-names (Run script title) old new report does) does.files
-by-step (Tell script) old new report writes does = absurd (let no : ⊥ = cc in no)
-by-step Undo old new report writes does = counted-by _ _ report.files (step-names Undo old new report does) does.files
-by-step (UndoTo count) old new report writes does = counted-by _ _ report.files (step-names (UndoTo count) old new report does) does.files
-by-step (UndoChecked count kept) old new report writes does = counted-by _ _ report.files (step-names (UndoChecked count kept) old new report does) does.1.files
-by-step Redo old new report writes does = counted-by _ _ report.files (step-names Redo old new report does) does.files
-by-step (ForgetOldest count) old new report writes does = inl (ap (λ p. p.files) does.1.project, refl)
-by-step ForgetAll old new report writes does = inl (ap (λ p. p.files) does.1.project, refl)
+by-step json (Run script title) old new report writes does = counted-by _ _ report.files (step-names json (Run script title) old new report does) does.files
+by-step json (Tell script) old new report writes does = absurd (let no : ⊥ = cc in no)
+by-step json Undo old new report writes does = counted-by _ _ report.files (step-names json Undo old new report does) does.files
+by-step json (UndoTo count) old new report writes does = counted-by _ _ report.files (step-names json (UndoTo count) old new report does) does.files
+by-step json (UndoChecked count kept) old new report writes does = counted-by _ _ report.files (step-names json (UndoChecked count kept) old new report does) does.1.files
+by-step json Redo old new report writes does = counted-by _ _ report.files (step-names json Redo old new report does) does.files
+by-step json (ForgetOldest count) old new report writes does = inl (ap (λ p. p.files) does.1.project, refl)
+by-step json ForgetAll old new report writes does = inl (ap (λ p. p.files) does.1.project, refl)
 
 -- ---- what is said of it
 
 says-object : (step : Step) (old new : List File) (report : Report) (said : Said) → SaysStep true step old new report said → said.changed ≡ changes_files step report
 says-object (ForgetOldest count) old new report said is = ap (λ (s : Said). s.changed) is
 says-object ForgetAll old new report said is = ap (λ (s : Said). s.changed) is
-says-object (Run script title) old new report said (changes, are, is) = ap (λ (s : Said). s.changed) is
-says-object (Tell script) old new report said (changes, are, is) = ap (λ (s : Said). s.changed) is
-says-object Undo old new report said (changes, are, is) = ap (λ (s : Said). s.changed) is
-says-object (UndoTo count) old new report said (changes, are, is) = ap (λ (s : Said). s.changed) is
-says-object (UndoChecked count kept) old new report said (changes, are, is) = ap (λ (s : Said). s.changed) is
-says-object Redo old new report said (changes, are, is) = ap (λ (s : Said). s.changed) is
+says-object (Run script title) old new report said (changes, are, listings, text, is) = ap (λ (s : Said). s.changed) is
+says-object (Tell script) old new report said (changes, are, listings, text, is) = ap (λ (s : Said). s.changed) is
+says-object Undo old new report said (changes, are, listings, text, is) = ap (λ (s : Said). s.changed) is
+says-object (UndoTo count) old new report said (changes, are, listings, text, is) = ap (λ (s : Said). s.changed) is
+says-object (UndoChecked count kept) old new report said (changes, are, listings, text, is) = ap (λ (s : Said). s.changed) is
+says-object Redo old new report said (changes, are, listings, text, is) = ap (λ (s : Said). s.changed) is
 
 pub says-changed : (json : Bool) (step : Step) (old new : Session) (report : Report) (said : Said)
     → SaysStep json step old.project.files new.project.files report said ⊎ ShowsStep json step old report new said → said.changed ≡ changes_files step report
@@ -89,4 +89,4 @@ told-so old new said (inr t) = inr (t.0, ap (λ b. cond b 4 0) t.1)
 pub statuses-tell-changes : StatusesTellChanges
 statuses-tell-changes json step old new report said writes does says =
     told-so old.project.files new.project.files said
-    (subst (Tells old.project.files new.project.files) (sym (says-changed json step old new report said says)) (by-step step old new report writes does))
+    (subst (Tells old.project.files new.project.files) (sym (says-changed json step old new report said says)) (by-step json step old new report writes does))

@@ -116,7 +116,7 @@ are-undos count h k files after s stands done = go (undos count s) refl
         (t, is, ap files-of both, subst (λ one. Stands one t.present t) (sym (ap history-of both)) all.2)
 
 pub checked-undos-restore : SumsTell → CheckedUndosRestore
-checked-undos-restore tell count kept left s old new report stands are_left project (has, back) =
+checked-undos-restore tell json count kept left s old new report stands are_left project (has, back) =
     elim (still-stands tell old.history left old.project.files s stands project.named (sym has ∙ are_left)) [
       | inl still ↦ inl (are-undos count old.history new.history old.project.files new.project.files s still back.are_steps)
       | inr collision ↦ inr collision

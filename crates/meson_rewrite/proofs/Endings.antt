@@ -88,7 +88,7 @@ taken-then a b c u files fault t = record {
 -- ---- a step
 
 module _ (dir : Option (List ℕ)) (step : Step) (flags : Flags) where
-  abbrev edits-before : (before middle : Option Content) → middle ≡ before → Edits (log_use flags.no_log) middle dir step → Edits (log_use flags.no_log) before dir step
+  abbrev edits-before : (before middle : Option Content) → middle ≡ before → Edits (log_use flags.no_log) middle dir step flags.json → Edits (log_use flags.no_log) before dir step flags.json
   edits-before before middle same e = record {
     old = e.old;
     log = e.log;
@@ -133,7 +133,7 @@ module _ (dir : Option (List ℕ)) (step : Step) (flags : Flags) where
       dry-ends writes dry said s = shown old s.new log s.report said u opens s.does writes dry s.shows
 
   module _ (b m a : Seen) (u : Untouched b m) (writes : only_tells step ≡ false) (wet : flags.dry_run ≡ false) (old : Session) (log : List ℕ) (opens : Opens (log_use flags.no_log) b.content dir old log) (edit : Edit) (e : IsEdited (log_use flags.no_log) old log step flags.json edit) where
-    abbrev edits : Edits (log_use flags.no_log) b.content dir step
+    abbrev edits : Edits (log_use flags.no_log) b.content dir step flags.json
     edits = record {
       old = old;
       log = log;
@@ -191,7 +191,7 @@ untouched-same : (before after : Seen) → Untouched before after → IsUnchange
 untouched-same before after u = (u.kept, u.no_replace)
 
 -- each file that is written holds what it held, but perhaps for the last one, the log
-cut-old : (how : LogUse) {before : Option Content} (dir : Option (List ℕ)) (step : Step) (e : Edits how before dir step) (m : Content) → before ≡ Some m → CutLast (HasOld m) (written e)
+cut-old : (how : LogUse) {before : Option Content} (dir : Option (List ℕ)) (step : Step) {json : Bool} (e : Edits how before dir step json) (m : Content) → before ≡ Some m → CutLast (HasOld m) (written e)
 cut-old Kept dir step e m is =
     puts-cut (HasOld m) dir e.old.project.files (file_of log_name e.log) (with_log Kept e.new.project.files e.new_log)
     (each-map (IsHeld m dir) (λ f. (bytes : List ℕ) → HasOld m (put_at dir f bytes)) (λ f h bytes. h) e.old.project.files (held-collected m dir e.old.project.files (e.opens.found m is)))
@@ -207,7 +207,7 @@ cut-old Ignored dir step e m is =
     }
 
 -- a commit for which memory ran out
-ran-out : (how : LogUse) (dir : Option (List ℕ)) (step : Step) (before after : Seen) (e : Edits how before.content dir step) → TakenBack (written e) before after store.OutOfMemory → after.content ≡ before.content
+ran-out : (how : LogUse) (dir : Option (List ℕ)) (step : Step) (before after : Seen) {json : Bool} (e : Edits how before.content dir step json) → TakenBack (written e) before after store.OutOfMemory → after.content ≡ before.content
 ran-out how dir step before after e taken = kept before.content refl
   where
     kept : (content : Option Content) → before.content ≡ content → after.content ≡ before.content
@@ -237,7 +237,7 @@ module _ (exit_code : Bool) (asked : Result Asked UsageFault) (before after : Se
   not-refused code (inr e) (inr z) = absurd (omega (arith, e, z))
 
   module _ (a : Asked) (step : Step) (is : asked ≡ Ok (without_text a)) (asks : AsksFor a.title a.action before.content (request.Step step)) where
-    unwritten-keeps : (e : Edits (log_use a.flags.no_log) before.content a.dir step) (fault : StoreFault) → TakenBack (written e) before after fault → Refusing (store_fault_status fault) → Keeps (store_fault_status fault)
+    unwritten-keeps : (e : Edits (log_use a.flags.no_log) before.content a.dir step a.flags.json) (fault : StoreFault) → TakenBack (written e) before after fault → Refusing (store_fault_status fault) → Keeps (store_fault_status fault)
     unwritten-keeps e (store.ReadFailed name) t s = not-refused 3 s (inr refl)
     unwritten-keeps e (store.WriteFailed name still) t s = not-refused 3 s (inr refl)
     unwritten-keeps e (store.NoFile name) t s = not-refused 3 s (inr refl)

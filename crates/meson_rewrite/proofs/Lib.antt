@@ -32,7 +32,6 @@ pub mod CodeWords
 pub mod RefusalMembers
 pub mod PlainEnds
 pub mod ObjectEdits
-pub mod InfosPlaced
 pub mod PlacedTexts
 pub mod TextsAsked
 pub mod TextEnds

@@ -1,5 +1,5 @@
 -- A run that ignores the log leaves what the store holds by its name.
-use Rattle.std.proofs.Common.{◌≡◌, ◌∙◌, ℕ, suc, List, [], ◌∷◌, ◌++◌, All, Option, Some, None, Result, codes, inl, inr, sym, ap, subst, arith}
+use Rattle.std.proofs.Common.{◌≡◌, ◌∙◌, Bool, ℕ, suc, List, [], ◌∷◌, ◌++◌, All, Option, Some, None, Result, codes, inl, inr, sym, ap, subst, arith}
 use Rattle.std.proofs.lemmas.List.{append_cancel_left}
 use Rattle.std.specs.FinMap.{get}
 use Rattle.std.specs.List.{Contains}
@@ -54,16 +54,16 @@ module _ (dir : Option (List ℕ)) (old new : Content) where
   same-stays before after same is now = ap (λ c. get c (path_in dir log_name)) (some-is (sym now ∙ same ∙ is))
 
   module _ (step : Step) (before after : Seen) (is : before.content ≡ Some old) (now : after.content ≡ Some new) where
-    no-log : (e : Edits Ignored before.content dir step) → IsNoneOf (written e) (path_in dir log_name)
+    no-log : {json : Bool} (e : Edits Ignored before.content dir step json) → IsNoneOf (written e) (path_in dir log_name)
     no-log e = none-is-log dir e.old.project.files e.new.project.files e.opens.is_project.named
 
-    done-leaves : (how : LogUse) → how ≡ Ignored → (e : Edits how before.content dir step) → AreReplaced (written e) before after → Stays
+    done-leaves : (how : LogUse) → how ≡ Ignored → {json : Bool} → (e : Edits how before.content dir step json) → AreReplaced (written e) before after → Stays
     done-leaves Kept ignored e are = absurd (let no : ⊥ = cc in no)
     done-leaves Ignored ignored e are =
         let puts_are : Some new ≡ Some (writes (written e) old) = sym now ∙ are.put ∙ ap (put_all (written e)) is ∙ put_all-told (written e) old in
         ap (λ c. get c (path_in dir log_name)) (some-is puts_are) ∙ elsewhere (written e) old (path_in dir log_name) (no-log e)
 
-    taken-leaves : (how : LogUse) → how ≡ Ignored → (e : Edits how before.content dir step) (fault : StoreFault) → TakenBack (written e) before after fault → Stays
+    taken-leaves : (how : LogUse) → how ≡ Ignored → {json : Bool} → (e : Edits how before.content dir step json) (fault : StoreFault) → TakenBack (written e) before after fault → Stays
     taken-leaves Kept ignored e fault taken = absurd (let no : ⊥ = cc in no)
     taken-leaves Ignored ignored e fault taken =
         let path = path_in dir log_name in

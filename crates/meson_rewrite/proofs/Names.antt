@@ -1,5 +1,5 @@
 -- A step keeps the names of a project's files.
-use Rattle.std.proofs.Common.{◌≡◌, ℕ, zero, suc, List, [], ◌∷◌, ◌++◌, length, Result, Ok, Err, ◌⊎◌, inl, inr, refl, sym, ap, ◌∙◌, arith}
+use Rattle.std.proofs.Common.{◌≡◌, ℕ, Bool, zero, suc, List, [], ◌∷◌, ◌++◌, length, Result, Ok, Err, ◌⊎◌, inl, inr, refl, sym, ap, ◌∙◌, arith}
 use Rattle.std.specs.Prelude.{reverse}
 use Rattle.std.proofs.lemmas.List.{length-map, map-append}
 use Rattle.meson_splice.specs.declared.change.Change.{Change}
@@ -15,7 +15,7 @@ use Rattle.meson_script.specs.Undoing.{MayNotStep, StopsBack}
 use Rattle.meson_script.specs.declared.fault.UndoFault.{UndoFault}
 use Rattle.meson_script.specs.declared.fault.UndoFault.TheVariants as undo
 use Rattle.meson_splice.specs.Patch.{inverses_of, patched_all, then_ok}
-use Rattle.meson_script.proofs.RunFacts.{change-names, names, runs-patch}
+use Rattle.meson_script.proofs.RunFacts.{change-names, names, runs-of, runs-patch}
 use Rattle.meson_script.proofs.Undos.{times-names}
 use Rattle.meson_script.specs.declared.session.Report.{Report}
 use Rattle.meson_script.specs.declared.session.Session.{Session}
@@ -60,17 +60,17 @@ redone-names [] past files h after is = absurd (refused-not NothingToRedo (h, af
 redone-names (c ∷ later) past files h after is =
     moved files c.splices (λ _. record { past = past ++ c ∷ []; future = reverse later }) h after (patched_all files c.splices) refl is
 
-pub step-names : (step : Step) (old new : Session) (report : Report) → Does step old report new → names old.project.files ≡ names new.project.files
-step-names (Run script title) old new report k =
-    change-names old.project.files k.splices new.project.files (runs-patch old.project new.project script.commands k.splices report.relexed k.listings k.runs)
-step-names (Tell script) old new report k =
-    change-names old.project.files k.splices new.project.files (runs-patch old.project new.project script.commands k.splices report.relexed k.listings k.runs)
-step-names Undo old new report s = undone-names (reverse old.history.past) old.history.future old.project.files new.history new.project.files s.is_step
-step-names (UndoTo count) old new report s = times-names count old.history new.history old.project.files new.project.files s.are_steps
-step-names (UndoChecked count kept) old new report s = times-names count old.history new.history old.project.files new.project.files s.1.are_steps
-step-names (ForgetOldest count) old new report s = ap (λ p. names p.files) (sym s.1.project)
-step-names ForgetAll old new report s = ap (λ p. names p.files) (sym s.1.project)
-step-names Redo old new report s = redone-names (reverse old.history.future) old.history.past old.project.files new.history new.project.files s.is_step
+pub step-names : (json : Bool) (step : Step) (old new : Session) (report : Report) → Does json step old report new → names old.project.files ≡ names new.project.files
+step-names json (Run script title) old new report k =
+    change-names old.project.files k.splices new.project.files (runs-patch old.project new.project script.commands k.splices report.relexed (runs-of k.runs).0 (runs-of k.runs).1)
+step-names json (Tell script) old new report k =
+    change-names old.project.files k.splices new.project.files (runs-patch old.project new.project script.commands k.splices report.relexed (runs-of k.runs).0 (runs-of k.runs).1)
+step-names json Undo old new report s = undone-names (reverse old.history.past) old.history.future old.project.files new.history new.project.files s.is_step
+step-names json (UndoTo count) old new report s = times-names count old.history new.history old.project.files new.project.files s.are_steps
+step-names json (UndoChecked count kept) old new report s = times-names count old.history new.history old.project.files new.project.files s.1.are_steps
+step-names json (ForgetOldest count) old new report s = ap (λ p. names p.files) (sym s.1.project)
+step-names json ForgetAll old new report s = ap (λ p. names p.files) (sym s.1.project)
+step-names json Redo old new report s = redone-names (reverse old.history.future) old.history.past old.project.files new.history new.project.files s.is_step
 
 -- with a log that is kept after them too
 pub logged-names : (how : LogUse) (files after : List File) (log new_log : List ℕ) → names files ≡ names after → names (with_log how files log) ≡ names (with_log how after new_log)

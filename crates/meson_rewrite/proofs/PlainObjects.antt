@@ -15,13 +15,13 @@ use Rattle.meson_splice.proofs.Sets.{bytes_at-get_or}
 use Rattle.meson_splice.specs.declared.history.History as history
 use Rattle.meson_calls.specs.Loading.{AreParsed, IsProject, Loaded}
 use Rattle.meson_ranges.specs.declared.files.FileEdits.{FileEdits}
-use Rattle.meson_script.specs.declared.session.Report.{Report}
 use Rattle.meson_script.specs.declared.session.Session.{Session}
 use Rattle.meson_rewrite.specs.Listed.{listed_data}
 use Rattle.meson_rewrite.specs.declared.request.Listing.{Listing}
 use Rattle.meson_rewrite.specs.declared.request.Listing.TheVariants.{History, Holdings, Calls, Assignments, Sums}
-use Rattle.meson_rewrite.specs.Objects.{change_data, changes_data, done_members, edit_data, file_edits_data, forgot_data, history_data, sum_data, sums_data}
-use Rattle.meson_rewrite.proofs.Listings.{all-plain, either, assignments-with-positions-plain, calls-with-positions-plain, project-with-positions-plain}
+use Rattle.meson_rewrite.specs.Objects.{change_data, changes_data, edit_data, file_edits_data, forgot_data, history_data, sum_data, sums_data}
+use Rattle.meson_script.proofs.PlainListings.{all-plain, either}
+use Rattle.meson_rewrite.proofs.Listings.{assignments-with-positions-plain, calls-with-positions-plain, project-with-positions-plain}
 
 -- ---- numbers
 
@@ -30,9 +30,6 @@ file-plain f = either (has_float (array (items_of (map edit_data f.edits.items))
 
 pub changes-plain : (changes : List FileEdits) → has_float (array (items_of (map file_edits_data changes))) ≡ false
 changes-plain changes = all-plain file_edits_data changes file-plain
-
-pub done-plain : (changes : Data) (report : Report) → has_float changes ≡ false → has_float (view report.info) ≡ false → has_float (done_members changes report) ≡ false
-done-plain changes report p q = rw (p, q) refl
 
 pub forgot-plain : (which : Data) → has_float which ≡ false → has_float (forgot_data which) ≡ false
 forgot-plain which p = either (has_float which) false p refl

@@ -1,5 +1,5 @@
 -- A run that was stopped leaves each file as it was of which it does not tell.
-use Rattle.std.proofs.Common.{◌≡◌, ◌⊎◌, ℕ, List, [], ◌∷◌, Option, Some, None, Result, inl, inr, refl, sym, ap, ◌∙◌, subst}
+use Rattle.std.proofs.Common.{◌≡◌, ◌⊎◌, Bool, ℕ, List, [], ◌∷◌, Option, Some, None, Result, inl, inr, refl, sym, ap, ◌∙◌, subst}
 use Rattle.std.specs.FinMap.{get}
 use Rattle.std.specs.List.{Contains}
 use Rattle.std.specs.Prelude.{IfErr}
@@ -43,11 +43,11 @@ module _ (dir : Option (List ℕ)) (old : Content) where
   abbrev Old : File → Type 0
   Old f = (bytes : List ℕ) → IsOld (put_at dir f bytes)
 
-  files-old : (how : LogUse) {before : Option Content} (step : Step) (e : Edits how before dir step) → before ≡ Some old → Each Old e.old.project.files
+  files-old : (how : LogUse) {before : Option Content} (step : Step) {json : Bool} (e : Edits how before dir step json) → before ≡ Some old → Each Old e.old.project.files
   files-old how step e is =
       each-map (IsHeld old dir) Old (λ f h bytes. record { held_so = inl h; named = refl }) e.old.project.files (held-collected old dir e.old.project.files (e.opens.found old is))
 
-  are-old : {before : Option Content} (step : Step) (e : Edits Kept before dir step) → before ≡ Some old → Each IsOld (written e)
+  are-old : {before : Option Content} (step : Step) {json : Bool} (e : Edits Kept before dir step json) → before ≡ Some old → Each IsOld (written e)
   are-old step e is =
       puts-each IsOld dir (with_log Kept e.old.project.files e.log) (with_log Kept e.new.project.files e.new_log)
       (each-append Old e.old.project.files (file_of log_name e.log ∷ []) (files-old Kept step e is)
@@ -60,7 +60,7 @@ module _ (dir : Option (List ℕ)) (old : Content) where
 
 -- ---- files that were not written
 
-module _ (dir : Option (List ℕ)) (step : Step) (before after : Seen) (e : Edits Kept before.content dir step) (fault : StoreFault) (taken : TakenBack (written e) before after fault) (old new : Content)
+module _ (dir : Option (List ℕ)) (step : Step) (before after : Seen) {json : Bool} (e : Edits Kept before.content dir step json) (fault : StoreFault) (taken : TakenBack (written e) before after fault) (old new : Content)
     (is : before.content ≡ Some old) (now : after.content ≡ Some new) (path : List ℕ) (untold : (name : List ℕ) → Contains (still_new fault) name → path ≡ path_in dir name → ⊥) where
   at : (V : Option (List ℕ)) → ((p : Put) → path ≡ p.path → IsOld dir old p → V ≡ Some p.was) → (get new path ≡ V) ⊎ (get new path ≡ get old path)
   at V f =
@@ -101,7 +101,7 @@ module _ (dir : Option (List ℕ)) (step : Step) (before after : Seen) (e : Edit
 
 -- ---- the same where the log is ignored: each file that is written held what it gets again
 
-module _ (dir : Option (List ℕ)) (step : Step) (before after : Seen) (e : Edits Ignored before.content dir step) (fault : StoreFault) (taken : TakenBack (written e) before after fault) (old new : Content)
+module _ (dir : Option (List ℕ)) (step : Step) (before after : Seen) {json : Bool} (e : Edits Ignored before.content dir step json) (fault : StoreFault) (taken : TakenBack (written e) before after fault) (old new : Content)
     (is : before.content ≡ Some old) (now : after.content ≡ Some new) (path : List ℕ) (untold : (name : List ℕ) → Contains (still_new fault) name → path ≡ path_in dir name → ⊥) where
   abbrev IsHeldAt : Put → Type 0
   IsHeldAt p = (get old p.path ≡ Some p.was) × (p.path ≡ path_in dir p.name)
@@ -120,7 +120,7 @@ module _ (dir : Option (List ℕ)) (step : Step) (before after : Seen) (e : Edit
         | inr kept ↦ kept
       ]
 
-unwritten-keeps : (how : LogUse) (dir : Option (List ℕ)) (step : Step) (before after : Seen) (e : Edits how before.content dir step) (fault : StoreFault) → TakenBack (written e) before after fault
+unwritten-keeps : (how : LogUse) (dir : Option (List ℕ)) (step : Step) (before after : Seen) {json : Bool} (e : Edits how before.content dir step json) (fault : StoreFault) → TakenBack (written e) before after fault
     → (old new : Content) → before.content ≡ Some old → after.content ≡ Some new → (path : List ℕ)
     → ((name : List ℕ) → Contains (still_new fault) name → path ≡ path_in dir name → ⊥) → IsKept how dir old new path
 unwritten-keeps Kept dir step before after e fault taken old new is now path untold = log-keeps dir step before after e fault taken old new is now path untold

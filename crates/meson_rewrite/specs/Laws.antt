@@ -30,14 +30,14 @@ SameSumsUndo = (count : ℕ) (h : History) (left : List File) (s t : Stack) (now
 -- The digests of the files that were left are kept. Then a checked undo that is done gives the files as they were before that number of runs, to every byte.
 -- The files may have changed in between. Or two texts have one digest.
 abbrev pub CheckedUndosRestore : Type 0
-CheckedUndosRestore = (count : ℕ) (kept : NamedFile) (left : List File) (s : Stack) (old new : Session) (report : Report)
-    → Stands old.history left s → kept.bytes ≡ sums left → IsProject old.project → Does (UndoChecked count kept) old report new
+CheckedUndosRestore = (json : Bool) (count : ℕ) (kept : NamedFile) (left : List File) (s : Stack) (old new : Session) (report : Report)
+    → Stands old.history left s → kept.bytes ≡ sums left → IsProject old.project → Does json (UndoChecked count kept) old report new
     → ((t : Stack) × (undos count s ≡ Some t) × (new.project.files ≡ t.present) × Stands new.history t.present t) ⊎ Collision
 
 -- With `--exit-code` a step that is done or shown has status 0 if the files after it are those before it, to every byte. It has
 -- status 4 if they are not.
 abbrev pub StatusesTellChanges : Type 0
-StatusesTellChanges = (json : Bool) (step : Step) (old new : Session) (report : Report) (said : Said) → only_tells step ≡ false → Does step old report new
+StatusesTellChanges = (json : Bool) (step : Step) (old new : Session) (report : Report) (said : Said) → only_tells step ≡ false → Does json step old report new
     → SaysStep json step old.project.files new.project.files report said ⊎ ShowsStep json step old report new said
     → ((new.project.files ≡ old.project.files) × (status true (Ok said) ≡ 0)) ⊎ ((new.project.files ≢ old.project.files) × (status true (Ok said) ≡ 4))
 

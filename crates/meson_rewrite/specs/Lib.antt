@@ -1,6 +1,5 @@
 pub mod Logs
 pub mod Stops
-pub mod Telling
 pub mod Lines
 pub mod Codes
 pub mod Subjects

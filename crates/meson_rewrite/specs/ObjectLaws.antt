@@ -1,5 +1,6 @@
 -- What holds of the objects that answer a step.
-use Rattle.std.specs.Prelude.{◌≡◌, ◌⊎◌, List, map}
+use Rattle.std.specs.Prelude.{◌≡◌, ◌⊎◌, List, map, true}
+use Rattle.serde_json.specs.Data.{Data}
 use Rattle.meson_splice.specs.Files.{IsDistinct}
 use Rattle.meson_ranges.specs.FileLaws.{with_edits}
 use Rattle.meson_ranges.specs.declared.files.FileEdits.{FileEdits}
@@ -12,8 +13,8 @@ use Rattle.meson_rewrite.specs.declared.said.Said.{Said}
 
 -- The answer to a step holds edits. Done on the files as they were, they make the files as they are after the step. Or the step changes no file.
 abbrev pub EditsOfObjectsMake : Type 0
-EditsOfObjectsMake = (step : Step) (old new : Session) (report : Report) (said : Said) → IsDistinct old.project.files → Does step old report new
+EditsOfObjectsMake = (step : Step) (old new : Session) (report : Report) (said : Said) → IsDistinct old.project.files → Does true step old report new
     → SaysObject step old.project.files new.project.files report said
     → (new.project.files ≡ old.project.files)
-    ⊎ ((changes : List FileEdits) × (said ≡ says_data (changes_files step report) (done_data changes report))
+    ⊎ ((changes : List FileEdits) × (listings : List Data) × (said ≡ says_data (changes_files step report) (done_data changes listings report))
     × (map (with_edits changes) old.project.files ≡ new.project.files))

@@ -1,7 +1,7 @@
 -- What is said in JSON, with the members of each object in the order of the bytes of their names.
 use Rattle.std.specs.Prelude.{◌≡◌, ◌==◌, Bool, false, not, List, [], codes, length, map, reverse}
 use Rattle.serde_json.specs.Data.{Data, array, member, no_members, number, object, string, unsigned}
-use Rattle.serde_json.specs.View.{items_of, view}
+use Rattle.serde_json.specs.View.{items_of}
 use Rattle.serde_json.specs.Written.{compact_text}
 use Rattle.meson_splice.specs.declared.change.Change.{Change}
 use Rattle.meson_splice.specs.declared.file_set.File.{File}
@@ -11,6 +11,7 @@ use Rattle.meson_ranges.specs.declared.files.FileEdits.{FileEdits}
 use Rattle.meson_ranges.specs.declared.positions.Position.{Position}
 use Rattle.meson_ranges.specs.declared.ranges.Range.{Range}
 use Rattle.meson_ranges.specs.declared.ranges.RangedEdit.{RangedEdit}
+use Rattle.meson_script.specs.Listings.{listings_text}
 use Rattle.meson_script.specs.declared.session.Report.{Report}
 use Rattle.meson_sums.specs.Sums.{digest}
 use Rattle.meson_rewrite.specs.Changes.{edited_files}
@@ -38,14 +39,14 @@ file_edits_data f = object (member (codes "edits") (array (items_of (map edit_da
 -- ---- a step
 
 -- what it makes of the files, how many of them differ, what was listed, the number of splices and the title
-abbrev pub done_members : Data → Report → Data
-done_members changes report =
+abbrev pub done_members : Data → List Data → Report → Data
+done_members changes listings report =
     object (member (codes "changes") changes
-    (member (codes "files") (number (unsigned report.files)) (member (codes "info") (view report.info)
+    (member (codes "files") (number (unsigned report.files)) (member (codes "info") (array (items_of listings))
     (member (codes "splices") (number (unsigned report.splices)) (member (codes "title") (string report.title) no_members)))))
 
-abbrev pub done_data : List FileEdits → Report → Data
-done_data changes report = done_members (array (items_of (map file_edits_data changes))) report
+abbrev pub done_data : List FileEdits → List Data → Report → Data
+done_data changes listings report = done_members (array (items_of (map file_edits_data changes))) listings report
 
 -- the number of changes that the log loses, or that it loses all
 abbrev pub forgot_data : Data → Data
@@ -62,12 +63,12 @@ changes_files _ report = not (report.files == 0)
 abbrev pub says_data : Bool → Data → Said
 says_data changed d = record { out = line (compact_text d); err = []; changed = changed }
 
--- of a step that makes the second files of the first
+-- of a step that makes the second files of the first, and lists these
 abbrev pub SaysObject : Step → List File → List File → Report → Said → Type 0
 SaysObject (ForgetOldest count) old new report said = said ≡ says_data false (forgot_data (number (unsigned count)))
 SaysObject ForgetAll old new report said = said ≡ says_data false (forgot_data (string (codes "all")))
 SaysObject step old new report said = (changes : List FileEdits) × AreFileEdits old new changes
-    × (said ≡ says_data (changes_files step report) (done_data changes report))
+    × (listings : List Data) × (report.info ≡ listings_text listings) × (said ≡ says_data (changes_files step report) (done_data changes listings report))
 
 -- ---- listings
 

@@ -27,7 +27,6 @@ use Rattle.meson_rewrite.specs.Refused.{stop_object}
 use Rattle.meson_rewrite.specs.Requests.{AsksFor, AsksForNone, HasBytes, IsNoFile}
 use Rattle.meson_rewrite.specs.Steps.{Does, MayRefuseStep, SaysStep, ShowsStep, only_tells}
 use Rattle.meson_rewrite.specs.Stops.{WantsMemory}
-use Rattle.meson_rewrite.specs.Telling.{TellsStep}
 use Rattle.meson_rewrite.specs.StoreReads.{RunMayRead, unread_in}
 use Rattle.meson_rewrite.specs.Texts.{laid, placed, plain, texts_of}
 use Rattle.meson_rewrite.specs.declared.opening.LogUse.{LogUse}
@@ -41,8 +40,8 @@ use Rattle.meson_rewrite.specs.declared.stop.Stop.TheVariants.{Usage, BadTexts, 
 
 -- ---- a step on the project of a folder
 
--- the session of the store becomes another one; a log that is kept is the last of the files
-pub record Edits (how : LogUse) (before : Option Content) (dir : Option (List ℕ)) (step : Step) : Type 0 where
+-- the session of the store becomes another one; a log that is kept is the last of the files, and the answer may be in JSON
+pub record Edits (how : LogUse) (before : Option Content) (dir : Option (List ℕ)) (step : Step) (json : Bool) : Type 0 where
   pub old : Session
   pub log : List ℕ
   pub opens : Opens how before dir old log
@@ -50,12 +49,12 @@ pub record Edits (how : LogUse) (before : Option Content) (dir : Option (List �
   -- its files parse as its trees
   pub is_project : IsProject new.project
   pub report : Report
-  pub does : Does step old report new
+  pub does : Does json step old report new
   pub new_log : List ℕ
   pub is_log : log_of new.history ≡ Ok new_log
 
 -- the files that get other bytes, each with them, with a log that is kept after them
-abbrev pub written : {how : LogUse} {before : Option Content} {dir : Option (List ℕ)} {step : Step} → Edits how before dir step → List Put
+abbrev pub written : {how : LogUse} {before : Option Content} {dir : Option (List ℕ)} {step : Step} {json : Bool} → Edits how before dir step json → List Put
 written {how = how} {dir = dir} e = puts dir (with_log how e.old.project.files e.log) (with_log how e.new.project.files e.new_log)
 
 -- in a dry run it is shown, and not done; what is said of it may be JSON; and the log may be ignored
@@ -69,18 +68,18 @@ module _ (dir : Option (List ℕ)) (step : Step) (flags : Flags) (before after :
         → MayRefuseStep flags step old stop → StepEnds (Err stop)
     -- its listings are reported, and nothing is written
     told : (old new : Session) (log : List ℕ) (report : Report) (said : Said) → Untouched before after
-        → Opens (log_use flags.no_log) before.content dir old log → Does step old report new
-        → only_tells step ≡ true → TellsStep flags.json step old report new said → StepEnds (Ok said)
+        → Opens (log_use flags.no_log) before.content dir old log → Does flags.json step old report new
+        → only_tells step ≡ true → SaysStep flags.json step old.project.files new.project.files report said → StepEnds (Ok said)
     -- what it makes of the files is shown, and nothing is written
     shown : (old new : Session) (log : List ℕ) (report : Report) (said : Said) → Untouched before after
-        → Opens (log_use flags.no_log) before.content dir old log → Does step old report new
+        → Opens (log_use flags.no_log) before.content dir old log → Does flags.json step old report new
         → only_tells step ≡ false → flags.dry_run ≡ true → ShowsStep flags.json step old report new said → StepEnds (Ok said)
     -- each file that differs was replaced, then the log, and no other
-    done : (edits : Edits (log_use flags.no_log) before.content dir step) (said : Said) → only_tells step ≡ false → flags.dry_run ≡ false
+    done : (edits : Edits (log_use flags.no_log) before.content dir step flags.json) (said : Said) → only_tells step ≡ false → flags.dry_run ≡ false
         → AreReplaced (written edits) before after
         → SaysStep flags.json step edits.old.project.files edits.new.project.files edits.report said → StepEnds (Ok said)
     -- one could not be replaced, what was replaced got its old bytes again, and the fault reports it
-    unwritten : (edits : Edits (log_use flags.no_log) before.content dir step) (fault : StoreFault) → only_tells step ≡ false → flags.dry_run ≡ false
+    unwritten : (edits : Edits (log_use flags.no_log) before.content dir step flags.json) (fault : StoreFault) → only_tells step ≡ false → flags.dry_run ≡ false
         → TakenBack (written edits) before after fault
         → StepEnds (Err (Store fault))
     no_memory : (stop : Stop) → Untouched before after → WantsMemory stop → StepEnds (Err stop)
@@ -147,7 +146,7 @@ pub record RanOut (asked : Result Asked UsageFault) (before after : Seen) : Type
   pub is_asked : asked ≡ Ok (without_text a)
   pub step : Step
   pub asks : AsksFor a.title a.action before.content (request.Step step)
-  pub edits : Edits (log_use a.flags.no_log) before.content a.dir step
+  pub edits : Edits (log_use a.flags.no_log) before.content a.dir step a.flags.json
   pub taken : TakenBack (written edits) before after OutOfMemory
 
 -- All is as before, or memory ran out so: then the files are as before, and the status is 1.

@@ -1,9 +1,5 @@
 -- What a step does to a session, and what it then says.
-use Rattle.std.specs.Prelude.{◌≡◌, ◌≢◌, ◌<◌, ◌⊎◌, ⊤, Bool, true, false, ℕ, List, [], ◌∷◌, ◌++◌, length, codes, decimal, if◌then◌else◌, Option, Some, Result}
-use Rattle.serde_json.specs.Data.{Data, Items, array, no_items}
-use Rattle.serde_json.specs.Find.{as_array}
-use Rattle.serde_json.specs.View.{view}
-use Rattle.serde_json.specs.Written.{compact_text}
+use Rattle.std.specs.Prelude.{◌≡◌, ◌≢◌, ◌<◌, ◌⊎◌, ⊤, Bool, true, false, ℕ, List, [], ◌∷◌, ◌++◌, length, codes, decimal, Result}
 use Rattle.meson_calls.specs.declared.refusal.Refusal.TheVariants.{OutOfMemory}
 use Rattle.meson_diff.specs.Diff.{IsDiff}
 use Rattle.meson_splice.specs.Past.{Forgets, redone, undone}
@@ -14,6 +10,8 @@ use Rattle.meson_splice.specs.declared.history.History.{History}
 use Rattle.meson_json.specs.Titles.{is_title}
 use Rattle.meson_steps.specs.declared.command.Command.{Command}
 use Rattle.meson_script.specs.declared.fault.UndoFault.{UndoFault}
+use Rattle.meson_script.specs.declared.listings.ListingForm.{ListingForm}
+use Rattle.meson_script.specs.declared.listings.ListingForm.TheVariants.{Plain, Placed}
 use Rattle.meson_script.specs.declared.session.Report.{Report}
 use Rattle.meson_script.specs.declared.session.Session.{Session}
 use Rattle.meson_script.specs.Running.{KeepsChange, MayStop}
@@ -21,7 +19,7 @@ use Rattle.meson_script.specs.Undoing.{MayNotStep, Steps, StepsBack, StopsBack}
 use Rattle.meson_sums.specs.Sums.{sums}
 use Rattle.meson_command.specs.declared.asked.Flags.{Flags}
 use Rattle.meson_rewrite.specs.Advising.{IsAdvised}
-use Rattle.meson_rewrite.specs.Lines.{done_line, forgot_line, title_line}
+use Rattle.meson_rewrite.specs.Lines.{done_line, forgot_line, line, title_line}
 use Rattle.meson_rewrite.specs.Objects.{SaysObject, changes_files}
 use Rattle.meson_rewrite.specs.Stops.{undo_stop}
 use Rattle.meson_rewrite.specs.Subjects.{subject_of}
@@ -37,21 +35,26 @@ use Rattle.meson_rewrite.specs.declared.stop.Stop.TheVariants.{Refused, Splice, 
 -- the log loses changes: no file is changed, and nothing is listed
 pub record Stays (old : Session) (report : Report) (new : Session) : Type 0 where
   pub project : new.project ≡ old.project
-  pub info : view report.info ≡ array no_items
+  pub info : report.info ≡ []
 
 -- the files of the session have the digests that are kept in that file, to the byte
 abbrev pub HasSums : Session → NamedFile → Type 0
 HasSums session kept = kept.bytes ≡ sums session.project.files
 
-abbrev pub Does : Step → Session → Report → Session → Type 0
-Does (Run script title) old report new = KeepsChange old script.commands title report new
-Does (Tell script) old report new = KeepsChange old script.commands [] report new
-Does Undo old report new = Steps old old.history.past (undone old.history old.project.files) report new
-Does (UndoTo count) old report new = StepsBack count old report new
-Does (UndoChecked count kept) old report new = HasSums old kept × StepsBack count old report new
-Does (ForgetOldest count) old report new = Forgets count old.history new.history × Stays old report new
-Does ForgetAll old report new = (new.history ≡ record { past = []; future = [] }) × Stays old report new
-Does Redo old report new = Steps old old.history.future (redone old.history old.project.files) report new
+-- where the answer is in JSON, listings have positions
+abbrev pub listing_form : Bool → ListingForm
+listing_form true = Placed
+listing_form false = Plain
+
+abbrev pub Does : Bool → Step → Session → Report → Session → Type 0
+Does json (Run script title) old report new = KeepsChange (listing_form json) old script.commands title report new
+Does json (Tell script) old report new = KeepsChange (listing_form json) old script.commands [] report new
+Does json Undo old report new = Steps old old.history.past (undone old.history old.project.files) report new
+Does json (UndoTo count) old report new = StepsBack count old report new
+Does json (UndoChecked count kept) old report new = HasSums old kept × StepsBack count old report new
+Does json (ForgetOldest count) old report new = Forgets count old.history new.history × Stays old report new
+Does json ForgetAll old report new = (new.history ≡ record { past = []; future = [] }) × Stays old report new
+Does json Redo old report new = Steps old old.history.future (redone old.history old.project.files) report new
 
 -- a script is refused at a command, which gives the subject; it is explained where the words ask for that
 abbrev pub StopsRun : Flags → Session → List Command → Stop → Type 0
@@ -98,14 +101,10 @@ only_tells _ = false
 
 -- ---- what is said
 
--- an array without elements
-abbrev pub is_empty_array : Option Items → Bool
-is_empty_array (Some no_items) = true
-is_empty_array _ = false
-
--- the listings of info commands as compact JSON, if there are any
-abbrev pub listing_line : Data → List ℕ
-listing_line listings = if is_empty_array (as_array listings) then [] else (compact_text listings ++ 10 ∷ [])
+-- the listings of info commands in a line, if there are any
+abbrev pub listing_line : List ℕ → List ℕ
+listing_line [] = []
+listing_line (byte ∷ text) = line (byte ∷ text)
 
 -- of changes that were taken back or done again: what was done, and the title of the last of them
 abbrev pub step_lines : Report → List ℕ
@@ -114,7 +113,7 @@ step_lines report = done_line report.files report.splices ++ title_line report.t
 -- what the step makes of the files as a unified diff, instead of the number of changes
 pub record Shows (step : Step) (old : Session) (report : Report) (new : Session) (said : Said) : Type 0 where
   pub is_diff : IsDiff old.project.files new.project.files said.out
-  pub is_listing : said.err ≡ listing_line (view report.info)
+  pub is_listing : said.err ≡ listing_line report.info
   pub is_changed : said.changed ≡ changes_files step report
 
 -- the line or lines for the output
@@ -126,7 +125,7 @@ output_of ForgetAll report = forgot_line (codes "all")
 output_of _ report = step_lines report
 
 abbrev pub said_of : Step → Report → Said
-said_of step report = record { out = output_of step report; err = listing_line (view report.info); changed = changes_files step report }
+said_of step report = record { out = output_of step report; err = listing_line report.info; changed = changes_files step report }
 
 -- of a step that made the second files of the first: these texts, or an object of JSON
 abbrev pub SaysStep : Bool → Step → List File → List File → Report → Said → Type 0

@@ -11,7 +11,7 @@ use meson_command::Flags;
 use meson_explaining::{Explanation, explain, explanation_lines};
 use meson_json::Script;
 use meson_plan::{Command, Project, Refusal};
-use meson_script::{RunFault, Session, perform_all};
+use meson_script::{ListingForm, RunFault, Session, perform_all};
 use meson_splice::{FileSet, Many, Text};
 use std::alloc::{AllocError, Global};
 
@@ -51,7 +51,7 @@ fn advice_of(
 fn repeat(alloc: Global, project: &mut Project, commands: &[Command]) -> Result<(), AllocError>
     ensures { OnOk result (Leaves project.old commands.now project.new) }
 {
-    match perform_all(alloc, project, commands) {
+    match perform_all(alloc, project, commands, ListingForm::Plain) {
         Ok(_) => Ok(()),
         Err(_) => Err(AllocError),
     }

@@ -3,11 +3,12 @@
 ghost use Rattle.std.specs.Prelude.{◌≡◌, IfOk, List, false, map, reverse};
 ghost use Rattle.std.specs.List.{All};
 ghost use Rattle.std.specs.Str.{IsUtf8};
-ghost use Rattle.serde_json.specs.Data.{array, number, string, unsigned};
+ghost use Rattle.serde_json.specs.Data.{Data, array, number, string, unsigned};
 ghost use Rattle.serde_json.specs.View.{items_of, view};
 ghost use Rattle.serde_json.specs.Written.{compact_text, has_float};
 ghost use Rattle.meson_ranges.specs.Files.{AreFileEdits};
 ghost use Rattle.meson_ranges.specs.declared.files.FileEdits.{FileEdits};
+ghost use Rattle.meson_script.specs.Listings.{listings_text};
 ghost use Rattle.meson_rewrite.specs.Lines.{line};
 ghost use Rattle.meson_rewrite.specs.Objects.{changes_data, change_data, done_data, done_members, edit_data, file_edits_data, forgot_data, history_data, position_data, range_data, sum_data, sums_data};
 
@@ -15,7 +16,7 @@ use crate::changes::count_files;
 use crate::said::json_line;
 use meson_ranges::{FileEdits, Position, Range, RangedEdit, compare};
 use meson_script::Report;
-use meson_splice::{Change, FileSet, History};
+use meson_splice::{Bytes, Change, FileSet, History};
 use meson_sums::digest;
 use serde_json::{Value, json};
 use std::alloc::{AllocError, Global};
@@ -106,9 +107,23 @@ fn changes_array(alloc: Global, old: &FileSet, new: &FileSet) -> Result<Value, A
     files_array(alloc, changes.as_slice())
 }
 
-/// What was done, with these changes of the files.
-fn done_object(alloc: Global, changes: Value, report: Report) -> Result<Value, AllocError>
-    ensures { IfOk result (λ v. view v ≡ done_members (view changes) report) }
+/// The text of an array of what was listed.
+fn info_array(info: Bytes) -> Result<Vec<u8>, AllocError>
+    ensures { IfOk result (λ text. (listings : List Data) → info ≡ listings_text listings → text.items ≡ compact_text (array (items_of listings))) }
+{
+    let mut text = info.take();
+    if text.as_slice().is_empty() {
+        text.extend_from_slice(b"[]")?;
+        return Ok(text);
+    }
+    Ok(text)
+}
+
+/// The line that says what a step made of the files, as these changes. What was listed is text, and is put in as it is.
+fn done_line(alloc: Global, changes: &Value, report: Report) -> Result<Vec<u8>, AllocError>
+    requires { has_float (view changes.now) ≡ false }
+    ensures { IfOk result (λ text. (listings : List Data) → report.info ≡ listings_text listings
+        → text.items ≡ line (compact_text (done_members (view changes.now) listings report))) }
 {
     let Report {
         files,
@@ -117,14 +132,15 @@ fn done_object(alloc: Global, changes: Value, report: Report) -> Result<Value, A
         info,
         title,
     } = report;
-    let title = title.take();
-    json!(in alloc; {
-        "changes": changes,
-        "files": files,
-        "info": info,
-        "splices": splices,
-        "title": title
-    })
+    let changes = changes.to_string(alloc)?;
+    let quoted = Value::try_from_str(alloc, title.get())?.to_string(alloc)?;
+    let before = format!(in alloc; "{{\"changes\":{changes},\"files\":{files},\"info\":")?;
+    let after = format!(in alloc; ",\"splices\":{splices},\"title\":{quoted}}}\n")?;
+    let mut rest = info_array(info)?;
+    rest.extend_from_slice(after.as_bytes())?;
+    let mut text = before.into_bytes();
+    text.append(&mut rest)?;
+    Ok(text)
 }
 
 /// The line that says what a step made of these files.
@@ -137,13 +153,13 @@ pub(crate) fn done_object_line(
     requires same_files { map (λ f. f.name) old.now ≡ map (λ f. f.name) new.now }
     requires old_text { All (λ f. IsUtf8 f.bytes) old.now }
     requires new_text { All (λ f. IsUtf8 f.bytes) new.now }
-    requires plain { has_float (view report.info) ≡ false }
+    requires listed { (listings : List Data) × (report.info ≡ listings_text listings) }
     ensures { IfOk result (λ text. (changes : List FileEdits) × AreFileEdits old.now new.now changes
-        × (text.items ≡ line (compact_text (done_data changes report)))) }
+        × (listings : List Data) × (report.info ≡ listings_text listings)
+        × (text.items ≡ line (compact_text (done_data changes listings report)))) }
 {
     let changes = changes_array(alloc, old, new)?;
-    let done = done_object(alloc, changes, report)?;
-    json_line(alloc, &done)
+    done_line(alloc, &changes, report)
 }
 
 /// What the log lost.

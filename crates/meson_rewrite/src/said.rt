@@ -1,15 +1,16 @@
 //! What a completed run says.
 
-ghost use Rattle.std.specs.Prelude.{◌≡◌, [], IfOk, MatchResult, Ok, false, map};
+ghost use Rattle.std.specs.Prelude.{◌≡◌, [], IfOk, List, MatchResult, Ok, false, map};
 ghost use Rattle.std.specs.List.{All};
 ghost use Rattle.std.specs.Str.{IsUtf8};
-ghost use Rattle.serde_json.specs.Find.{as_array};
+ghost use Rattle.serde_json.specs.Data.{Data};
 ghost use Rattle.serde_json.specs.View.{view};
 ghost use Rattle.serde_json.specs.Written.{compact_text, has_float};
 ghost use Rattle.meson_rewrite.specs.Lines.{line, shown_text};
 ghost use Rattle.meson_rewrite.specs.Objects.{SaysObject, changes_files};
 ghost use Rattle.meson_rewrite.specs.Runs.{CannotGet, CannotSay, Says};
-ghost use Rattle.meson_rewrite.specs.Steps.{is_empty_array, listing_line, said_of};
+ghost use Rattle.meson_rewrite.specs.Steps.{listing_line, said_of};
+ghost use Rattle.meson_script.specs.Listings.{listings_text};
 ghost use Rattle.meson_store.specs.Output.{Gets};
 
 use crate::lines::{all_forgotten_text, done_text, forgotten_text, step_text};
@@ -41,16 +42,6 @@ fn changes_files(step: &Step, report: &Report) -> bool
     }
 }
 
-/// Whether no command listed anything.
-fn is_empty_array(listings: &Value) -> bool
-    ensures { result ≡ is_empty_array (as_array (view listings.now)) }
-{
-    match listings.as_array() {
-        Some(list) => list.as_slice().is_empty(),
-        None => false,
-    }
-}
-
 /// A value as a line of compact JSON.
 pub(crate) fn json_line(alloc: Global, value: &Value) -> Result<Vec<u8>, AllocError>
     requires { has_float (view value.now) ≡ false }
@@ -61,15 +52,17 @@ pub(crate) fn json_line(alloc: Global, value: &Value) -> Result<Vec<u8>, AllocEr
     Ok(text)
 }
 
-/// The listings as a line of compact JSON; nothing if there are none.
-fn listing_text(alloc: Global, listings: &Value) -> Result<Vec<u8>, AllocError>
-    requires { has_float (view listings.now) ≡ false }
-    ensures { IfOk result (λ text. text.items ≡ listing_line (view listings.now)) }
+/// What a step lists, as a line; nothing if it lists nothing.
+fn listing_line(report: Report) -> Result<Vec<u8>, AllocError>
+    ensures { IfOk result (λ text. text.items ≡ listing_line report.info) }
 {
-    if is_empty_array(listings) {
-        return Ok(Vec::new(alloc));
+    let Report { info, .. } = report;
+    let mut text = info.take();
+    if text.as_slice().is_empty() {
+        return Ok(text);
     }
-    json_line(alloc, listings)
+    text.push(b'\n')?;
+    Ok(text)
 }
 
 impl Said {
@@ -85,46 +78,41 @@ impl Said {
     }
 
     /// What is said of a step.
-    pub(crate) fn of(alloc: Global, step: &Step, report: &Report) -> Result<Said, AllocError>
-        requires { has_float (view report.now.info) ≡ false }
-        ensures { IfOk result (λ said. said ≡ said_of step.now report.now) }
+    pub(crate) fn of(alloc: Global, step: &Step, report: Report) -> Result<Said, AllocError>
+        ensures { IfOk result (λ said. said ≡ said_of step.now report) }
     {
-        let err = listing_text(alloc, &report.info)?;
+        let changed = changes_files(step, &report);
         let out = match step {
             Step::Run { .. } => done_text(alloc, report.files, report.splices)?,
             Step::Tell(_) => Vec::new(alloc),
             Step::Undo | Step::UndoTo(_) | Step::UndoChecked { .. } | Step::Redo => {
-                step_text(alloc, report)?
+                step_text(alloc, &report)?
             }
             Step::ForgetOldest(count) => forgotten_text(alloc, *count)?,
             Step::ForgetAll => all_forgotten_text(alloc)?,
         };
+        let err = listing_line(report)?;
         Ok(Said {
             out: Bytes::of(out),
             err: Bytes::of(err),
-            changed: changes_files(step, report),
+            changed,
         })
     }
 
     /// What is said of a step that is shown, and not done: this diff.
-    pub(crate) fn shown(
-        alloc: Global,
-        step: &Step,
-        changes: Vec<u8>,
-        report: &Report,
-    ) -> Result<Said, AllocError>
-        requires { has_float (view report.now.info) ≡ false }
+    pub(crate) fn shown(step: &Step, changes: Vec<u8>, report: Report) -> Result<Said, AllocError>
         ensures { IfOk result (λ said. said ≡ record {
           out = changes.items;
-          err = listing_line (view report.now.info);
-          changed = changes_files step.now report.now;
+          err = listing_line report.info;
+          changed = changes_files step.now report;
         }) }
     {
-        let listing = listing_text(alloc, &report.info)?;
+        let changed = changes_files(step, &report);
+        let listing = listing_line(report)?;
         Ok(Said {
             out: Bytes::of(changes),
             err: Bytes::of(listing),
-            changed: changes_files(step, report),
+            changed,
         })
     }
 
@@ -139,7 +127,7 @@ impl Said {
         requires same_files { map (λ f. f.name) old.now ≡ map (λ f. f.name) new.now }
         requires old_text { All (λ f. IsUtf8 f.bytes) old.now }
         requires new_text { All (λ f. IsUtf8 f.bytes) new.now }
-        requires plain { has_float (view report.info) ≡ false }
+        requires listed { (listings : List Data) × (report.info ≡ listings_text listings) }
         ensures { IfOk result (SaysObject step.now old.now new.now report) }
     {
         let changed = changes_files(step, &report);

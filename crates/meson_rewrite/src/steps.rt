@@ -3,15 +3,16 @@
 ghost use Rattle.std.specs.Prelude.{◌≡◌, ◌<◌, ◌⊎◌, [], IfOk, IfErr, List, Ok, OnOk, false, length, map, true, ℕ};
 ghost use Rattle.std.specs.List.{All};
 ghost use Rattle.std.specs.Str.{IsUtf8};
-ghost use Rattle.serde_json.specs.Data.{array, no_items};
-ghost use Rattle.serde_json.specs.View.{view};
-ghost use Rattle.serde_json.specs.Written.{has_float};
+ghost use Rattle.serde_json.specs.Data.{Data};
 ghost use Rattle.meson_calls.specs.Loading.{HasFileName, IsProject, name_of_file};
 ghost use Rattle.meson_json.specs.Log.{is_text_history, log_of};
 ghost use Rattle.meson_rewrite.specs.inside.Edited.{IsEdited, IsObject, IsShown, IsWithin};
 ghost use Rattle.meson_rewrite.specs.Logs.{log_use, with_log};
-ghost use Rattle.meson_rewrite.specs.Steps.{Does, IsTitled, MayRefuseStep, SaysStep, StopsChecked, StopsForgetting, StopsStepsBack};
+ghost use Rattle.meson_rewrite.specs.Steps.{Does, HasSums, IsTitled, MayRefuseStep, SaysStep, Stays, StopsChecked, StopsForgetting, StopsStepsBack, listing_form};
 ghost use Rattle.meson_rewrite.specs.Stops.{WantsMemory, undo_stop};
+ghost use Rattle.meson_script.specs.Listings.{listings_text};
+ghost use Rattle.meson_script.specs.Undoing.{StepsBack};
+ghost use Rattle.meson_splice.specs.Past.{Forgets};
 
 use crate::advice::refused;
 use crate::opening::{LOG, LogUse, StoredSession, leave};
@@ -21,12 +22,11 @@ use crate::stop::Stop;
 use meson_command::Flags;
 use meson_diff::diff;
 use meson_plan::{LoadFault, Project};
-use meson_script::{Report, Session, UndoFault, log_text};
-use meson_splice::{FileSet, SpliceFault, Text};
+use meson_script::{ListingForm, Report, Session, UndoFault, log_text};
+use meson_splice::{Bytes, FileSet, SpliceFault, Text};
 use meson_store::StoreFault;
 use meson_sums::are_kept;
 use meson_syntax::ParseFault;
-use serde_json::Value;
 use std::alloc::{AllocError, Global};
 
 /// The file of this number would not be valid.
@@ -59,7 +59,7 @@ fn undo_stop(alloc: Global, files: &FileSet, fault: UndoFault) -> Stop
 
 /// Takes back this number of the newest changes of a session.
 fn back_to(alloc: Global, session: &mut Session, count: usize) -> Result<Report, Stop>
-    ensures does { IfOk result (λ report. Does (Step.UndoTo count) session.old report session.new) }
+    ensures does { IfOk result (λ report. StepsBack count session.old report session.new) }
     ensures refused { IfErr result (StopsStepsBack count session.old) }
     ensures text { OnOk result (is_text_history session.old.history ≡ true → is_text_history session.new.history ≡ true) }
     ensures project { OnOk result (IsProject session.new.project) }
@@ -77,7 +77,7 @@ fn checked_back(
     count: usize,
     kept: &NamedFile,
 ) -> Result<Report, Stop>
-    ensures does { IfOk result (λ report. Does (Step.UndoChecked count kept.now) session.old report session.new) }
+    ensures does { IfOk result (λ report. HasSums session.old kept.now × StepsBack count session.old report session.new) }
     ensures refused { IfErr result (λ why. WantsMemory why ⊎ StopsChecked count kept.now session.old why) }
     ensures text { OnOk result (is_text_history session.old.history ≡ true → is_text_history session.new.history ≡ true) }
     ensures project { OnOk result (IsProject session.new.project) }
@@ -92,20 +92,20 @@ fn checked_back(
 
 /// What is reported if no file changes and nothing is listed.
 fn nothing_done(alloc: Global) -> Report
-    ensures { view result.info ≡ array no_items }
+    ensures { result.info ≡ [] }
 {
     Report {
         files: 0,
         splices: 0,
         relexed: 0,
-        info: Value::Array(Vec::new(alloc)),
+        info: Bytes::of(Vec::new(alloc)),
         title: Text::of(String::new(alloc)),
     }
 }
 
 /// Drops this number of the oldest changes of a session.
 fn oldest_forgotten(alloc: Global, session: &mut Session, count: usize) -> Result<Report, Stop>
-    ensures does { IfOk result (λ report. Does (Step.ForgetOldest count) session.old report session.new) }
+    ensures does { IfOk result (λ report. Forgets count session.old.history session.new.history × Stays session.old report session.new) }
     ensures refused { IfErr result (StopsForgetting count session.old) }
     ensures text { OnOk result (is_text_history session.old.history ≡ true → is_text_history session.new.history ≡ true) }
     ensures project { IsProject session.new.project }
@@ -119,13 +119,23 @@ fn oldest_forgotten(alloc: Global, session: &mut Session, count: usize) -> Resul
 
 /// Drops all changes of a session.
 fn all_forgotten(alloc: Global, session: &mut Session) -> Report
-    ensures does { Does Step.ForgetAll session.old result session.new }
+    ensures does { (session.new.history ≡ record { past = []; future = [] }) × Stays session.old result session.new }
     ensures text { is_text_history session.new.history ≡ true }
     ensures project { IsProject session.new.project }
 {
     session.project.reads();
     session.history.forget_all();
     nothing_done(alloc)
+}
+
+/// How info commands list: with positions where the answer is in JSON.
+fn listing_form(json: bool) -> ListingForm
+    ensures { result ≡ listing_form json }
+{
+    if json {
+        return ListingForm::Placed;
+    }
+    ListingForm::Plain
 }
 
 /// Does a step on a session, or nothing. A refused command is explained if the flags ask for it.
@@ -136,17 +146,18 @@ pub(crate) fn act(
     flags: Flags,
 ) -> Result<Report, Stop>
     requires { IsTitled step.now }
-    ensures does { IfOk result (λ report. Does step.now session.old report session.new) }
+    ensures does { IfOk result (λ report. Does flags.json step.now session.old report session.new) }
     ensures refused { IfErr result (λ why. WantsMemory why ⊎ MayRefuseStep flags step.now session.old why) }
     ensures text { OnOk result (is_text_history session.old.history ≡ true → is_text_history session.new.history ≡ true) }
     ensures project { OnOk result (IsProject session.new.project) }
 {
+    let form = listing_form(flags.json);
     match step {
-        Step::Run { script, title } => match session.run_titled(alloc, script, title.get()) {
+        Step::Run { script, title } => match session.run_listed(alloc, script, title.get(), form) {
             Ok(report) => Ok(report),
             Err(fault) => Err(refused(alloc, session, script, fault, flags)),
         },
-        Step::Tell(script) => match session.run(alloc, script) {
+        Step::Tell(script) => match session.run_listed(alloc, script, "", form) {
             Ok(report) => Ok(report),
             Err(fault) => Err(refused(alloc, session, script, fault, flags)),
         },
@@ -238,14 +249,14 @@ fn said_of(
 ) -> Result<Said, AllocError>
     requires same_files { map (λ f. f.name) old.now ≡ map (λ f. f.name) session.now.project.files }
     requires old_text { All (λ f. IsUtf8 f.bytes) old.now }
-    requires plain { has_float (view report.info) ≡ false }
+    requires listed { (listings : List Data) × (report.info ≡ listings_text listings) }
     ensures { IfOk result (SaysStep json step.now old.now session.now.project.files report) }
 {
     if json {
         session.project.reads();
         return Said::object(alloc, step, old, session.files(), report);
     }
-    Said::of(alloc, step, &report)
+    Said::of(alloc, step, report)
 }
 
 /// Does a step on a session whose history is text, with this text as its log, and gives what is to be written.
@@ -296,14 +307,14 @@ pub(crate) fn edited(
 }
 
 /// What is to be said in JSON for a step on a borrowed session.
-fn object_of(
+pub(crate) fn object_of(
     alloc: Global,
     session: &mut Session,
     step: &Step,
     flags: Flags,
 ) -> Result<Said, Stop>
     requires { IsTitled step.now }
-    ensures object { IfOk result (IsObject session.old step.now) }
+    ensures object { IfOk result (IsObject session.old step.now flags.json) }
     ensures refused { IfErr result (λ why. WantsMemory why ⊎ MayRefuseStep flags step.now session.old why) }
 {
     session.project.reads();
@@ -330,7 +341,7 @@ fn shown_of(
     let before = session.files().clone()?;
     let report = act(alloc, session, step, flags)?;
     let changes = diff(alloc, &before, session.files())?;
-    Ok(Said::shown(alloc, step, changes, &report)?)
+    Ok(Said::shown(step, changes, report)?)
 }
 
 /// What is to be said for a step on a session that is shown, and not done.

@@ -3,6 +3,9 @@ pub mod ReadTexts
 pub mod OnTexts
 pub mod StackFacts
 pub mod Loading
+pub mod PlainListings
+pub mod PlacedListings
+pub mod ListingTexts
 pub mod RunFacts
 pub mod TextFacts
 pub mod StepFacts

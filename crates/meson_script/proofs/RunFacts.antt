@@ -1,11 +1,9 @@
 -- The files and names after commands.
-use Rattle.std.proofs.Common.{◌≡◌, ℕ, suc, ◌+◌, ◌<◌, ◌≤◌, subst, length-take, take, drop, length, get_or, arith, List, [], ◌∷◌, ◌++◌, Bool, true, false, map, Result, Ok, Err, refl, sym, ap, ◌∙◌, inr}
+use Rattle.std.proofs.Common.{◌≡◌, ℕ, suc, ◌+◌, ◌<◌, ◌≤◌, subst, length-take, take, drop, length, get_or, arith, List, [], ◌∷◌, ◌++◌, Bool, true, false, map, Result, Ok, Err, refl, sym, ap, ◌∙◌, inl, inr}
 use Rattle.std.specs.Prelude.{bytes_eq, if◌then◌else◌}
-use Rattle.std.proofs.lemmas.List.{map-append, take_more}
+use Rattle.std.proofs.lemmas.List.{take_more}
 use Rattle.std.proofs.Math.Seq.{split_at}
 use Rattle.serde_json.specs.Data.{Data}
-use Rattle.serde_json.specs.View.{view}
-use Rattle.serde_json.specs.declared.value.Value.{Value}
 use Rattle.meson_splice.specs.declared.fault.SpliceFault.{SpliceFault}
 use Rattle.meson_splice.specs.declared.file_set.File.{File}
 use Rattle.meson_splice.specs.declared.splice.Splice.{Splice}
@@ -18,7 +16,9 @@ use Rattle.meson_calls.specs.declared.refusal.Refusal.{Refusal}
 use Rattle.meson_plan.specs.Performing.{MayRefuse, Performs}
 use Rattle.meson_plan.proofs.SplicesDone.{joined, performs-patch, performs-text, texts-append}
 use Rattle.meson_plan.specs.Listing.{told}
-use Rattle.meson_script.specs.Running.{MayStop, Reaches, Runs, StopsDuring, nothing_ran, ran_more}
+use Rattle.meson_script.specs.declared.listings.ListingForm.{ListingForm}
+use Rattle.meson_script.specs.Listings.{Added, Lists, listings_text}
+use Rattle.meson_script.specs.Running.{MayStop, Reaches, Runs, RunsShowing, RunsTo, StopsDuring, nothing_ran, nothing_shown, ran_more, shown_more}
 use Rattle.meson_script.specs.Laws.{RunsPatch, RunsText}
 
 pub runs-patch : RunsPatch
@@ -73,21 +73,41 @@ change-names files (s ∷ splices) after e = go (λ more. change-names more spli
 
 -- ---- one command after another
 
-pub nothing-run : (old : Loaded) (splices : List Splice) (listings : List Value) → splices ≡ [] → listings ≡ [] → Runs old [] splices 0 (map view listings) old
-nothing-run old splices listings is untold_all = subst (λ ls. Runs old [] splices 0 (map view ls) old) (sym untold_all) (subst (λ ss. Runs old [] ss 0 [] old) (sym is) nothing_ran)
+taken-more : (commands : List Command) (i : ℕ) (c : Command) → i < length commands → c ≡ get_or commands i c → take i commands ++ c ∷ [] ≡ take (i + 1) commands
+taken-more commands i c within is = ap (λ x. take i commands ++ x ∷ []) is ∙ sym (take_more commands i c within)
 
-pub one-more : (old between new : Loaded) (commands : List Command) (i : ℕ) (here splices : List Splice) (read relexed : ℕ) (lists listings more : List Value) (c : Command) (done : Done)
-    → Runs old (take i commands) here read (map view lists) between → IsProject between → i < length commands → c ≡ get_or commands i c → told between c ≡ Ok (map view more) → Performs between c done new
-    → splices ≡ here ++ done.change.splices → relexed ≡ saturated (read + done.relexed) → listings ≡ lists ++ more
-    → Runs old (take (i + 1) commands) splices relexed (map view listings) new
-one-more old between new commands i here splices read relexed lists listings more c done ran reads within is tells performs are counted listed =
-    let further : take i commands ++ c ∷ [] ≡ take (i + 1) commands = ap (λ x. take i commands ++ x ∷ []) is ∙ sym (take_more commands i c within) in
-    let all = ran_more (take i commands) here read (map view lists) between ran reads c done (map view more) new tells performs in
-    let told_all : map view lists ++ map view more ≡ map view listings = sym (map-append view lists more) ∙ ap (map view) (sym listed) in
-    let taken = subst (λ cs. Runs old cs (here ++ done.change.splices) (saturated (read + done.relexed)) (map view lists ++ map view more) new) further all in
-    let spliced = subst (λ ss. Runs old (take (i + 1) commands) ss (saturated (read + done.relexed)) (map view lists ++ map view more) new) (sym are) taken in
-    let read_all = subst (λ n. Runs old (take (i + 1) commands) splices n (map view lists ++ map view more) new) (sym counted) spliced in
-    subst (λ ds. Runs old (take (i + 1) commands) splices relexed ds new) told_all read_all
+pub one-more : (old between new : Loaded) (commands : List Command) (i : ℕ) (here : List Splice) (read : ℕ) (lists more : List Data) (c : Command) (done : Done)
+    → Runs old (take i commands) here read lists between → IsProject between → i < length commands → c ≡ get_or commands i c → told between c ≡ Ok more → Performs between c done new
+    → Runs old (take (i + 1) commands) (here ++ done.change.splices) (saturated (read + done.relexed)) (lists ++ more) new
+one-more old between new commands i here read lists more c done ran reads within is tells performs =
+    subst (λ cs. Runs old cs (here ++ done.change.splices) (saturated (read + done.relexed)) (lists ++ more) new) (taken-more commands i c within is)
+    (ran_more (take i commands) here read lists between ran reads c done more new tells performs)
+
+-- what is listed in a form belongs to a run
+pub runs-of : {form : ListingForm} {old : Loaded} {commands : List Command} {splices : List Splice} {relexed : ℕ} {shown : List Data} {new : Loaded}
+    → RunsShowing form old commands splices relexed shown new → (listings : List Data) × Runs old commands splices relexed listings new
+runs-of (nothing_shown) = ([], nothing_ran)
+runs-of (shown_more before here read lists between rest reads c done plain more after tells listed performs) =
+    let r = runs-of rest in
+    (r.0 ++ plain, ran_more before here read r.0 between r.1 reads c done plain after tells performs)
+
+pub nothing-run : (form : ListingForm) (old : Loaded) (splices : List Splice) (info : List ℕ) → splices ≡ [] → info ≡ [] → RunsTo form old [] splices 0 info old
+nothing-run form old splices info is none = record { shown = []; runs = subst (λ ss. RunsShowing form old [] ss 0 [] old) (sym is) nothing_shown; is_text = none }
+
+pub one-more-to : (form : ListingForm) (old between new : Loaded) (commands : List Command) (i : ℕ) (here splices : List Splice) (read relexed : ℕ) (before after : List ℕ) (c : Command) (done : Done)
+    → RunsTo form old (take i commands) here read before between → IsProject between → i < length commands → c ≡ get_or commands i c
+    → ((shown : List Data) → before ≡ listings_text shown → Added form between c shown after) → Performs between c done new
+    → splices ≡ here ++ done.change.splices → relexed ≡ saturated (read + done.relexed) → RunsTo form old (take (i + 1) commands) splices relexed after new
+one-more-to form old between new commands i here splices read relexed before after c done ran reads within is adds performs are counted =
+    let a = adds ran.shown ran.is_text in
+    let all = shown_more (take i commands) here read ran.shown between ran.runs reads c done a.plain a.more new a.is_plain a.lists performs in
+    let taken = subst (λ cs. RunsShowing form old cs (here ++ done.change.splices) (saturated (read + done.relexed)) (ran.shown ++ a.more) new) (taken-more commands i c within is) all in
+    let spliced = subst (λ ss. RunsShowing form old (take (i + 1) commands) ss (saturated (read + done.relexed)) (ran.shown ++ a.more) new) (sym are) taken in
+    record {
+      shown = ran.shown ++ a.more;
+      runs = subst (λ n. RunsShowing form old (take (i + 1) commands) splices n (ran.shown ++ a.more) new) (sym counted) spliced;
+      is_text = a.is_text;
+    }
 
 taken_len : {A : Type 0} (xs : List A) (i : ℕ) → i < length xs → i ≡ length (take i xs)
 taken_len xs i within = grind (arith, length-take)
@@ -121,20 +141,26 @@ reaches-none old commands i is = subst (Reaches old commands) (sym is) (reaches 
 stops-behind : (old new : Loaded) (commands : List Command) (i : ℕ) (here : List Splice) (read : ℕ) (lists : List Data) → Runs old (take (i + 1) commands) here read lists new → i < length commands → StopsDuring old commands i new
 stops-behind old new commands i here read lists ran within = record { within = within; done = i + 1; is_done = inr refl; splices = here; relexed = read; listings = lists; runs = ran }
 
-pub stops-after : (old between new : Loaded) (commands : List Command) (i : ℕ) (here : List Splice) (read : ℕ) (lists more : List Value) (c : Command) (done : Done)
-    → Runs old (take i commands) here read (map view lists) between → IsProject between → i < length commands → c ≡ get_or commands i c → told between c ≡ Ok (map view more) → Performs between c done new
+pub stops-after : (old between new : Loaded) (commands : List Command) (i : ℕ) (here : List Splice) (read : ℕ) (lists more : List Data) (c : Command) (done : Done)
+    → Runs old (take i commands) here read lists between → IsProject between → i < length commands → c ≡ get_or commands i c → told between c ≡ Ok more → Performs between c done new
     → StopsDuring old commands i new
 stops-after old between new commands i here read lists more c done ran reads within is tells performs =
-    let all = one-more old between new commands i here (here ++ done.change.splices) read (saturated (read + done.relexed)) lists (lists ++ more) more c done ran reads within is tells performs refl refl refl in
-    stops-behind old new commands i (here ++ done.change.splices) (saturated (read + done.relexed)) (map view (lists ++ more)) all within
+    stops-behind old new commands i (here ++ done.change.splices) (saturated (read + done.relexed)) (lists ++ more) (one-more old between new commands i here read lists more c done ran reads within is tells performs) within
+
+-- or before it is done
+pub stops-before : (old between new : Loaded) (commands : List Command) (i : ℕ) (here : List Splice) (read : ℕ) (lists : List Data) → Runs old (take i commands) here read lists between → i < length commands
+    → new ≡ between → StopsDuring old commands i new
+stops-before old between new commands i here read lists ran within same =
+    record { within = within; done = i; is_done = inl refl; splices = here; relexed = read; listings = lists; runs = subst (Runs old (take i commands) here read lists) (sym same) ran }
 
 -- ---- one command alone
 
-pub one-run : (old new : Loaded) (c : Command) (done : Done) (more : List Data) → IsProject old → told old c ≡ Ok more → Performs old c done new → Runs old (c ∷ []) done.change.splices done.relexed more new
-one-run old new c done more reads tells performs =
+pub one-run : (form : ListingForm) (old new : Loaded) (c : Command) (done : Done) (plain more : List Data) → IsProject old → told old c ≡ Ok plain → Lists form old c more → Performs old c done new
+    → RunsShowing form old (c ∷ []) done.change.splices done.relexed more new
+one-run form old new c done plain more reads tells listed performs =
     let counted = performs.is_relexed in
     let same : saturated (0 + done.relexed) ≡ done.relexed = omega arith in
-    subst (λ n. Runs old (c ∷ []) done.change.splices n more new) same (ran_more [] [] 0 [] old nothing_ran reads c done more new tells performs)
+    subst (λ n. RunsShowing form old (c ∷ []) done.change.splices n more new) same (shown_more [] [] 0 [] old nothing_shown reads c done plain more new tells listed performs)
 
 pub one-stops : (old : Loaded) (c : Command) (e : Refusal) → IsProject old → MayRefuse old c e → MayStop old (c ∷ []) 0 e
 one-stops old c e reads refuses = record {

@@ -7,9 +7,11 @@ use Rattle.meson_splice.specs.declared.splice.Splice.{Splice}
 use Rattle.meson_calls.specs.Loading.{Loaded}
 use Rattle.meson_steps.specs.declared.command.Command.{Command}
 use Rattle.meson_plan.proofs.SplicesDone.{performs-keep}
+use Rattle.meson_script.specs.declared.listings.ListingForm.{ListingForm}
 use Rattle.meson_script.specs.declared.session.Report.{Report}
 use Rattle.meson_script.specs.declared.session.Session.{Session}
 use Rattle.meson_script.specs.Running.{KeepsChange, Runs, nothing_ran, ran_more}
+use Rattle.meson_script.proofs.RunFacts.{runs-of}
 use Rattle.meson_script.specs.Untouched.{CommandsKeep, nothing_touched, touched_more, none_run, next_run, ScriptsKeep, all_commands}
 
 runs-keep : (old new : Loaded) (commands : List Command) (splices : List Splice) (relexed : ℕ) (listings : List Data)
@@ -25,12 +27,12 @@ keep-append old mid new first second a (touched_more before between rest c after
 
 pub scripts-keep : ScriptsKeep
 scripts-keep old new scripts (none_run s) = nothing_touched
-scripts-keep old new scripts (next_run first between last commands title report more k rest) =
-    keep-append old.project between.project new.project commands (all_commands more) (runs-keep old.project between.project commands k.splices report.relexed k.listings k.runs)
+scripts-keep old new scripts (next_run form first between last commands title report more k rest) =
+    keep-append old.project between.project new.project commands (all_commands more) (runs-keep old.project between.project commands k.splices report.relexed (runs-of k.runs).0 (runs-of k.runs).1)
     (scripts-keep between new more rest)
 
 -- a script that is kept
-pub keeps-untouched : {E : Type 0} (old new : Session) (commands : List Command) (title : List ℕ) (r : Result Report E) → IfOk r (λ x. KeepsChange old commands title x new)
+pub keeps-untouched : {E : Type 0} (form : ListingForm) (old new : Session) (commands : List Command) (title : List ℕ) (r : Result Report E) → IfOk r (λ x. KeepsChange form old commands title x new)
     → OnOk r (CommandsKeep old.project commands new.project)
-keeps-untouched old new commands title (Ok x) k = runs-keep old.project new.project commands k.splices x.relexed k.listings k.runs
-keeps-untouched old new commands title (Err e) k = tt
+keeps-untouched form old new commands title (Ok x) k = runs-keep old.project new.project commands k.splices x.relexed (runs-of k.runs).0 (runs-of k.runs).1
+keeps-untouched form old new commands title (Err e) k = tt

@@ -1,4 +1,5 @@
 pub mod ListingRows
+pub mod Listings
 pub mod Running
 pub mod Stack
 pub mod Undoing

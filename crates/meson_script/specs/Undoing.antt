@@ -1,8 +1,6 @@
 -- A change that is taken back or done again on the files of a project, whatever they are.
 use Rattle.std.specs.Prelude.{◌≡◌, ◌≢◌, ◌<◌, ℕ, List, [], ◌∷◌, ◌++◌, length, Result, Ok, Err}
 use Rattle.std.specs.List.{sum_by}
-use Rattle.serde_json.specs.Data.{array, no_items}
-use Rattle.serde_json.specs.View.{view}
 use Rattle.meson_splice.specs.declared.change.Change.{Change}
 use Rattle.meson_splice.specs.declared.fault.SpliceFault.{SpliceFault}
 use Rattle.meson_splice.specs.declared.fault.SpliceFault.TheVariants.{OutOfMemory}
@@ -37,7 +35,7 @@ pub record Steps (old : Session) (from : List Change) (step : Result (History ×
   pub splices : report.splices ≡ length change.splices
   pub title : report.title ≡ change.title
   pub relexed : report.relexed ≡ 0
-  pub info : view report.info ≡ array no_items
+  pub info : report.info ≡ []
 
 -- ---- a number of undos, one after another
 
@@ -57,7 +55,7 @@ pub record StepsBack (count : ℕ) (old : Session) (report : Report) (new : Sess
   pub splices : report.splices ≡ saturated (sum_by (λ c. length c.splices) taken)
   pub title : report.title ≡ oldest_title taken
   pub relexed : report.relexed ≡ 0
-  pub info : view report.info ≡ array no_items
+  pub info : report.info ≡ []
 
 -- An undo among them is refused in this way, and those before it are done.
 pub record StopsBack (count : ℕ) (old : Session) (fault : UndoFault) (new : Session) : Type 0 where

@@ -3,6 +3,7 @@ use Rattle.std.specs.Prelude.{ℕ, List, [], ◌∷◌, ◌++◌}
 use Rattle.meson_calls.specs.Loading.{Loaded}
 use Rattle.meson_steps.specs.declared.command.Command.{Command}
 use Rattle.meson_plan.specs.Performing.{KeepsUntouched}
+use Rattle.meson_script.specs.declared.listings.ListingForm.{ListingForm}
 use Rattle.meson_script.specs.declared.session.Report.{Report}
 use Rattle.meson_script.specs.declared.session.Session.{Session}
 use Rattle.meson_script.specs.Running.{KeepsChange}
@@ -16,8 +17,8 @@ pub data CommandsKeep (old : Loaded) : List Command → Loaded → Type 0 where
 -- Scripts are run and kept, one after another.
 pub data ScriptsRun : Session → List (List Command) → Session → Type 0 where
   none_run : (s : Session) → ScriptsRun s [] s
-  next_run : (old between new : Session) (commands : List Command) (title : List ℕ) (report : Report) (more : List (List Command))
-      → KeepsChange old commands title report between → ScriptsRun between more new → ScriptsRun old (commands ∷ more) new
+  next_run : (form : ListingForm) (old between new : Session) (commands : List Command) (title : List ℕ) (report : Report) (more : List (List Command))
+      → KeepsChange form old commands title report between → ScriptsRun between more new → ScriptsRun old (commands ∷ more) new
 
 -- the commands of scripts, in order
 abbrev pub all_commands : List (List Command) → List Command

@@ -3,6 +3,7 @@
 
 mod fault;
 pub mod laws;
+mod listings;
 mod log;
 mod performing;
 mod session;
@@ -10,6 +11,7 @@ mod stepping;
 mod titles;
 
 pub use fault::{RunFault, UndoFault, Unstarted};
+pub use listings::ListingForm;
 pub use log::log_text;
 pub use meson_json::{Script, ScriptFault, UnknownMembers, empty_log, is_title, read_log};
 pub use meson_plan::{info_kwargs, info_target};

@@ -1,8 +1,6 @@
 //! A project with the history of what was done to it.
 
 ghost use Rattle.std.specs.Prelude.{◌≡◌, ◌≢◌, ◌<◌, ◌∷◌, [], IfErr, IfOk, OnErr, OnOk, Some, length, true, vec_capacity, vec_len};
-ghost use Rattle.serde_json.specs.Data.{array, no_items};
-ghost use Rattle.serde_json.specs.View.{view};
 ghost use Rattle.meson_calls.specs.Loading.{IsProject, MayNotLoad};
 ghost use Rattle.meson_calls.specs.declared.refusal.Refusal.TheVariants.{OutOfMemory};
 ghost use Rattle.meson_json.specs.Log.{is_text_history};
@@ -14,13 +12,13 @@ ghost use Rattle.meson_script.specs.Undoing.{MayNotStep, Steps, StepsBack, Stops
 ghost use Rattle.meson_splice.specs.Past.{redone, undone};
 
 use crate::fault::{RunFault, UndoFault, Unstarted};
-use crate::performing::{counted, perform_all};
+use crate::listings::ListingForm;
+use crate::performing::{RanOne, counted, perform_all};
 use crate::stepping::{files_after, files_before, loaded};
 use crate::titles::{titled, titles};
 use meson_json::Script;
-use meson_plan::{Answer, Command, Done, Project};
-use meson_splice::{Change, FileSet, History, Many, SpliceFault, Text};
-use serde_json::Value;
+use meson_plan::{Command, Done, Project};
+use meson_splice::{Bytes, Change, FileSet, History, Many, SpliceFault, Text};
 use std::alloc::{AllocError, Global};
 use std::mem;
 
@@ -40,8 +38,8 @@ pub struct Report {
     pub splices: usize,
     /// The number of bytes that were lexed again. The count stops at the greatest number.
     pub relexed: u64,
-    /// An array of the listings of the info commands, in order.
-    pub info: Value,
+    /// The listings of the info commands, in order: an array of compact JSON, or nothing if there are none.
+    pub info: Bytes,
     /// The title of the change that was made, taken back or done again.
     pub title: Text,
 }
@@ -50,13 +48,13 @@ pub struct Report {
 fn stepped(alloc: Global, files: usize, splices: usize, title: Text) -> Report
     ensures counts { (result.files ≡ files) × (result.splices ≡ splices) × (result.relexed ≡ 0) }
     ensures title { result.title ≡ title }
-    ensures info { view result.info ≡ array no_items }
+    ensures info { result.info ≡ [] }
 {
     Report {
         files,
         splices,
         relexed: 0,
-        info: Value::Array(Vec::new(alloc)),
+        info: Bytes::of(Vec::new(alloc)),
         title,
     }
 }
@@ -137,7 +135,7 @@ impl Session {
     /// # Errors
     /// The first refusal with the number of its command, or out of memory.
     pub fn run(&mut self, alloc: Global, script: &Script) -> Result<Report, RunFault>
-        ensures done { IfOk result (λ r. KeepsChange self.old script.now.commands [] r self.new) }
+        ensures done { IfOk result (λ r. KeepsChange ListingForm.Plain self.old script.now.commands [] r self.new) }
         ensures refused { IfErr result (λ f. f.refusal ≢ OutOfMemory → MayStop self.old.project script.now.commands f.index f.refusal) }
         // Also when out of memory, it is the number of a command, and those before it were performed.
         ensures index { IfErr result (λ f. Reaches self.old.project script.now.commands f.index) }
@@ -152,10 +150,7 @@ impl Session {
         // The new files parse as the new trees.
         ensures project { OnOk result (IsProject self.new.project) }
     {
-        match script.commands.get() {
-            [command] => self.run_one(alloc, command, ""),
-            commands => self.run_all(alloc, commands, ""),
-        }
+        self.run_listed(alloc, script, "", ListingForm::Plain)
     }
 
     /// The same, with a title for the change: `is_title` says which texts are titles.
@@ -169,7 +164,32 @@ impl Session {
         title: &str,
     ) -> Result<Report, RunFault>
         requires { is_title title.now ≡ true }
-        ensures done { IfOk result (λ r. KeepsChange self.old script.now.commands title.now r self.new) }
+        ensures done { IfOk result (λ r. KeepsChange ListingForm.Plain self.old script.now.commands title.now r self.new) }
+        ensures refused { IfErr result (λ f. f.refusal ≢ OutOfMemory → MayStop self.old.project script.now.commands f.index f.refusal) }
+        ensures index { IfErr result (λ f. Reaches self.old.project script.now.commands f.index) }
+        ensures kept { OnErr result (self.new ≡ self.old) }
+        ensures untouched { OnOk result (CommandsKeep self.old.project script.now.commands self.new.project) }
+        ensures step { OnOk result ((s : Stack) → Stands self.old.history self.old.project.files s
+            → Stands self.new.history self.new.project.files (ran s title.now self.new.project.files)) }
+        ensures text { OnOk result (is_text_history self.old.history ≡ true → is_text_history self.new.history ≡ true) }
+        ensures project { OnOk result (IsProject self.new.project) }
+    {
+        self.run_listed(alloc, script, title, ListingForm::Plain)
+    }
+
+    /// The same, with the listings of the info commands in this form: each is of the project as it is at its command.
+    ///
+    /// # Errors
+    /// The first refusal with the number of its command, or out of memory.
+    pub fn run_listed(
+        &mut self,
+        alloc: Global,
+        script: &Script,
+        title: &str,
+        form: ListingForm,
+    ) -> Result<Report, RunFault>
+        requires { is_title title.now ≡ true }
+        ensures done { IfOk result (λ r. KeepsChange form self.old script.now.commands title.now r self.new) }
         ensures refused { IfErr result (λ f. f.refusal ≢ OutOfMemory → MayStop self.old.project script.now.commands f.index f.refusal) }
         ensures index { IfErr result (λ f. Reaches self.old.project script.now.commands f.index) }
         ensures kept { OnErr result (self.new ≡ self.old) }
@@ -180,14 +200,20 @@ impl Session {
         ensures project { OnOk result (IsProject self.new.project) }
     {
         match script.commands.get() {
-            [command] => self.run_one(alloc, command, title),
-            commands => self.run_all(alloc, commands, title),
+            [command] => self.run_one(alloc, command, title, form),
+            commands => self.run_all(alloc, commands, title, form),
         }
     }
 
     /// Performs a command and keeps what it did. A refused command changes nothing, so it needs no copy of the project.
-    fn run_one(&mut self, alloc: Global, command: &Command, title: &str) -> Result<Report, RunFault>
-        ensures done { IfOk result (λ r. KeepsChange self.old (command.now ∷ []) title.now r self.new) }
+    fn run_one(
+        &mut self,
+        alloc: Global,
+        command: &Command,
+        title: &str,
+        form: ListingForm,
+    ) -> Result<Report, RunFault>
+        ensures done { IfOk result (λ r. KeepsChange form self.old (command.now ∷ []) title.now r self.new) }
         ensures refused { IfErr result (λ f. f.refusal ≢ OutOfMemory → MayStop self.old.project (command.now ∷ []) f.index f.refusal) }
         ensures index { IfErr result (λ f. f.index ≡ 0) }
         ensures kept { OnErr result (self.new ≡ self.old) }
@@ -201,15 +227,15 @@ impl Session {
             Ok(past) => past,
             Err(refused) => return Err(RunFault::unmade(refused)),
         };
-        match counted(alloc, &mut self.project, command) {
-            Ok((answer, files)) => {
-                let Answer { done, listings } = answer;
+        match counted(alloc, &mut self.project, command, form) {
+            Ok(ran) => {
+                let RanOne { done, files, info } = ran;
                 let Done { change, relexed } = done;
                 let report = Report {
                     files,
                     splices: change.splices.get().len(),
                     relexed,
-                    info: Value::Array(listings),
+                    info,
                     title: told,
                 };
                 past.push_reserved(titled(change, kept));
@@ -230,8 +256,9 @@ impl Session {
         alloc: Global,
         commands: &[Command],
         title: &str,
+        form: ListingForm,
     ) -> Result<Report, RunFault>
-        ensures done { IfOk result (λ r. KeepsChange self.old commands.now title.now r self.new) }
+        ensures done { IfOk result (λ r. KeepsChange form self.old commands.now title.now r self.new) }
         ensures refused { IfErr result (λ f. f.refusal ≢ OutOfMemory → MayStop self.old.project commands.now f.index f.refusal) }
         ensures index { IfErr result (λ f. Reaches self.old.project commands.now f.index) }
         ensures kept { OnErr result (self.new ≡ self.old) }
@@ -249,7 +276,7 @@ impl Session {
             Ok(past) => past,
             Err(refused) => return Err(RunFault::unmade(refused)),
         };
-        let performed = match perform_all(alloc, &mut project, commands) {
+        let performed = match perform_all(alloc, &mut project, commands, form) {
             Ok(performed) => performed,
             Err(fault) => {
                 self.history.past = Many::of(past);
@@ -260,7 +287,7 @@ impl Session {
             files: self.project.files().count_differing(project.files()),
             splices: performed.splices.len(),
             relexed: performed.relexed,
-            info: Value::Array(performed.listings),
+            info: performed.info,
             title: told,
         };
         past.push_reserved(Change {

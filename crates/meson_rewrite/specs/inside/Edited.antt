@@ -11,7 +11,6 @@ use Rattle.meson_rewrite.specs.Logs.{with_log}
 use Rattle.meson_rewrite.specs.Objects.{SaysObject}
 use Rattle.meson_rewrite.specs.Steps.{Does, SaysStep, ShowsStep}
 use Rattle.meson_rewrite.specs.declared.opening.LogUse.{LogUse}
-use Rattle.meson_rewrite.specs.Telling.{Reports, TellsStep}
 use Rattle.meson_rewrite.specs.declared.steps.Edit.{Edit}
 use Rattle.meson_rewrite.specs.declared.request.Step.{Step}
 use Rattle.meson_rewrite.specs.declared.said.Said.{Said}
@@ -21,7 +20,7 @@ pub record IsEdited (how : LogUse) (old : Session) (log : List ℕ) (step : Step
   pub new : Session
   pub is_project : IsProject new.project
   pub report : Report
-  pub does : Does step old report new
+  pub does : Does json step old report new
   pub new_log : List ℕ
   pub is_log : log_of new.history ≡ Ok new_log
   pub before : edit.before ≡ with_log how old.project.files log
@@ -32,30 +31,21 @@ pub record IsEdited (how : LogUse) (old : Session) (log : List ℕ) (step : Step
 pub record OnlyTells (old : Session) (step : Step) (json : Bool) (said : Said) : Type 0 where
   pub new : Session
   pub report : Report
-  pub does : Does step old report new
-  pub says : TellsStep json step old report new said
-
--- an object of JSON, of a step that only reports
-pub record IsToldObject (old : Session) (step : Step) (said : Said) : Type 0 where
-  pub new : Session
-  pub report : Report
-  pub does : Does step old report new
-  pub shown : Report
-  pub reports : Reports step new.project report shown
-  pub says : SaysObject step old.project.files new.project.files shown said
+  pub does : Does json step old report new
+  pub says : SaysStep json step old.project.files new.project.files report said
 
 -- a step that is shown, and not done
 pub record IsShown (old : Session) (step : Step) (json : Bool) (said : Said) : Type 0 where
   pub new : Session
   pub report : Report
-  pub does : Does step old report new
+  pub does : Does json step old report new
   pub shows : ShowsStep json step old report new said
 
--- an object of JSON, of a step that was done or is shown
-pub record IsObject (old : Session) (step : Step) (said : Said) : Type 0 where
+-- an object of JSON, of a step that only reports, was done or is shown
+pub record IsObject (old : Session) (step : Step) (json : Bool) (said : Said) : Type 0 where
   pub new : Session
   pub report : Report
-  pub does : Does step old report new
+  pub does : Does json step old report new
   pub says : SaysObject step old.project.files new.project.files report said
 
 -- the number of a file that would not be valid is that of one of this number of files

@@ -1,14 +1,9 @@
 use Rattle.std.proofs.lemmas.Result.{IfOk-weaker}
-use Rattle.meson_rewrite.proofs.Listings.{does-plain}
 use Rattle.meson_rewrite.proofs.reports.told_of.Goals as goal
-
-pub of-requires : goal.of-requires
-of-requires c = does-plain c.args.step.now c.args.session.now c.act.new.session c.in_ok-report.report c.in_ok-report.ensures.does
 
 pub returns-then-flags-clause-told : goal.returns-then-flags-clause-told
 returns-then-flags-clause-told c =
-    IfOk-weaker c.told_object.result _ _
-    (λ said o. record { new = o.new; report = o.report; does = o.does; says = rw (c.if-flags.true) (o.shown, o.reports, o.says) }) c.told_object.ensures.told
+    IfOk-weaker c.object_of.result _ _ (λ said o. record { new = o.new; report = o.report; does = o.does; says = rw (c.if-flags.true) o.says }) c.object_of.ensures.object
 
 pub returns-clause-told : goal.returns-clause-told
 returns-clause-told c = record {

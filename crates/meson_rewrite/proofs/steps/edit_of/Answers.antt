@@ -3,7 +3,7 @@ use Rattle.std.proofs.lemmas.Result.{err_from_is_err_and}
 use Rattle.std.specs.List.{All}
 use Rattle.meson_calls.specs.Loading.{HasFileName}
 use Rattle.meson_script.proofs.RunFacts.{names}
-use Rattle.meson_rewrite.proofs.Listings.{does-plain}
+use Rattle.meson_rewrite.proofs.Listings.{does-list}
 use Rattle.meson_rewrite.proofs.Names.{logged-names, step-names}
 use Rattle.meson_rewrite.proofs.PlainObjects.{IsText, project-text}
 use Rattle.meson_rewrite.specs.Logs.{with_log}
@@ -16,9 +16,9 @@ said_of-requires c =
     let new = c.act.new.session in
     let same = c.in_ok-old.ensures.cases ∙ c.files.ensures in
     record {
-      same_files = ap names same ∙ step-names c.args.step.now old new c.in_ok-report.report c.in_ok-report.ensures.does;
+      same_files = ap names same ∙ step-names c.args.flags.json c.args.step.now old new c.in_ok-report.report c.in_ok-report.ensures.does;
       old_text = subst (All IsText) (sym same) (project-text old.project c.reads.ensures);
-      plain = does-plain c.args.step.now old new c.in_ok-report.report c.in_ok-report.ensures.does;
+      listed = does-list c.args.flags.json c.args.step.now old new c.in_ok-report.report c.in_ok-report.ensures.does;
     }
 
 pub with_log-requires : goal.with_log-requires
@@ -30,7 +30,7 @@ returns-clause-same_names c =
     let new = c.act.new.session in
     let same = c.in_ok-old.ensures.cases ∙ c.files.ensures in
     ap names c.in_ok-before.ensures
-    ∙ logged-names c.of-log_use.result _ _ _ _ (ap names same ∙ step-names c.args.step.now old new c.in_ok-report.report c.in_ok-report.ensures.does)
+    ∙ logged-names c.of-log_use.result _ _ _ _ (ap names same ∙ step-names c.args.flags.json c.args.step.now old new c.in_ok-report.report c.in_ok-report.ensures.does)
     ∙ ap names (sym c.in_ok-after.ensures.files.2)
 
 pub returns-clause-edited : goal.returns-clause-edited

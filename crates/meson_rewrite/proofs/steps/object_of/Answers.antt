@@ -2,7 +2,7 @@ use Rattle.std.proofs.Common.{◌∙◌, ap, subst, sym}
 use Rattle.std.proofs.lemmas.Result.{err_from_is_err_and}
 use Rattle.std.specs.List.{All}
 use Rattle.meson_script.proofs.RunFacts.{names}
-use Rattle.meson_rewrite.proofs.Listings.{does-plain}
+use Rattle.meson_rewrite.proofs.Listings.{does-list}
 use Rattle.meson_rewrite.proofs.Names.{step-names}
 use Rattle.meson_rewrite.proofs.PlainObjects.{IsText, project-text}
 use Rattle.meson_rewrite.specs.Objects.{SaysObject}
@@ -14,10 +14,10 @@ object-requires c =
     let new = c.act.new.session in
     let same = c.in_ok-old.ensures.cases ∙ c.files.ensures in
     record {
-      same_files = ap names same ∙ step-names c.args.step.now old new c.in_ok-report.report c.in_ok-report.ensures.does ∙ ap names (sym c.files-2.ensures);
+      same_files = ap names same ∙ step-names c.args.flags.json c.args.step.now old new c.in_ok-report.report c.in_ok-report.ensures.does ∙ ap names (sym c.files-2.ensures);
       old_text = subst (All IsText) (sym same) (project-text old.project c.reads.ensures);
       new_text = subst (All IsText) (sym c.files-2.ensures) (project-text new.project c.reads-2.ensures);
-      plain = does-plain c.args.step.now old new c.in_ok-report.report c.in_ok-report.ensures.does;
+      listed = does-list c.args.flags.json c.args.step.now old new c.in_ok-report.report c.in_ok-report.ensures.does;
     }
 
 pub returns-clause-object : goal.returns-clause-object

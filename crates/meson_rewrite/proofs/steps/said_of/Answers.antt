@@ -11,7 +11,7 @@ object-requires c = record {
   same_files = c.requires.same_files ∙ ap names (sym c.files.ensures);
   old_text = c.requires.old_text;
   new_text = subst (All IsText) (sym c.files.ensures) (project-text c.args.session.now.project c.reads.ensures);
-  plain = c.requires.plain;
+  listed = c.requires.listed;
 }
 
 pub returns-then-json : goal.returns-then-json

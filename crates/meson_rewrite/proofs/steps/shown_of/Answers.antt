@@ -2,7 +2,6 @@ use Rattle.std.proofs.Common.{◌∙◌, ap, sym, subst}
 use Rattle.std.proofs.lemmas.Result.{IfOk-weaker}
 use Rattle.meson_diff.specs.Diff.{IsDiff}
 use Rattle.meson_script.proofs.RunFacts.{names}
-use Rattle.meson_rewrite.proofs.Listings.{does-plain}
 use Rattle.meson_rewrite.proofs.Names.{step-names}
 use Rattle.meson_rewrite.specs.declared.said.Said.{Said}
 use Rattle.meson_rewrite.proofs.steps.shown_of.Goals as goal
@@ -13,12 +12,9 @@ diff-requires c =
     let new = c.act.new.session in
     record {
       same_files = ap names (c.in_ok-before.ensures.cases ∙ c.files.ensures)
-          ∙ step-names c.args.step.now old new c.in_ok-report.report c.in_ok-report.ensures.does
+          ∙ step-names c.args.flags.json c.args.step.now old new c.in_ok-report.report c.in_ok-report.ensures.does
           ∙ ap names (sym c.files-2.ensures);
     }
-
-pub shown-requires : goal.shown-requires
-shown-requires c = does-plain c.args.step.now c.args.session.now c.act.new.session c.in_ok-report.report c.in_ok-report.ensures.does
 
 pub returns-clause-shown : goal.returns-clause-shown
 returns-clause-shown c =

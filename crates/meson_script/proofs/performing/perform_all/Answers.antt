@@ -1,46 +1,56 @@
-use Rattle.std.proofs.Common.{◌++◌, ◌<◌, length, map, subst, ap, ◌∙◌, arith}
+use Rattle.std.proofs.Common.{◌++◌, ◌<◌, length, subst, ap, ◌∙◌, arith}
 use Rattle.std.proofs.lemmas.List.{take_all}
-use Rattle.serde_json.specs.View.{view}
-use Rattle.meson_script.specs.Running.{Runs}
-use Rattle.meson_script.proofs.RunFacts.{nothing-run, one-more, reaches, stops-after, stops-there}
+use Rattle.meson_script.specs.Running.{RunsTo}
+use Rattle.meson_script.proofs.RunFacts.{nothing-run, one-more-to, reaches, runs-of, stops-after, stops-before, stops-there}
 use Rattle.meson_script.proofs.performing.perform_all.Goals as goal
 
 pub loop-index-init : goal.loop-index-init
-loop-index-init c = nothing-run c.args.project.now c.new.result.items c.new-2.result.items c.new.ensures.items c.new-2.ensures.items
+loop-index-init c = nothing-run c.args.form c.args.project.now c.new-splices.result.items c.new-info.result.text.items c.new-splices.ensures.items c.new-info.ensures
 
 pub loop-index-preserved : goal.loop-index-preserved
 loop-index-preserved c =
     let l = c.loop-index in
-    let answer = c.in-Ok.answer in
-    one-more c.args.project.now l.project c.answer.new.self c.args.commands.now l.index l.ran.splices.items c.append.new.self.items l.ran.relexed c.saturating_add.result
-    l.ran.listings.items c.append-in-loop-index.new.self.items answer.listings.items c.index-commands-index.result answer.done
-    l.invariant c.reads.ensures c.loop-index-test.true c.index-commands-index.is c.in-Ok.ensures.told c.in-Ok.ensures.done
-    (c.in_default.ensures.items ∙ ap (λ ss. l.ran.splices.items ++ ss) c.take-splices.ensures) c.saturating_add.ensures c.in_default-append.ensures.items
+    let done = c.in-Ok.done in
+    one-more-to c.args.form c.args.project.now l.project c.performed.new.project c.args.commands.now l.index l.splices.items c.append.new.self.items l.relexed c.saturating_add-relexed.result
+    l.info.text.items c.performed.new.info.text.items c.index-commands-index.result done
+    l.invariant c.reads.ensures c.loop-index-test.true c.index-commands-index.is c.in-Ok.ensures.listed c.in-Ok.ensures.done
+    (c.in_default.ensures.items ∙ ap (λ ss. l.splices.items ++ ss) c.take-its.ensures) c.saturating_add-relexed.ensures
 
 pub returns-in-Err-clause-refused : goal.returns-in-Err-clause-refused
 returns-in-Err-clause-refused c = λ told.
     let l = c.loop-index in
-    stops-there c.args.project.now l.project c.args.commands.now l.index l.ran.splices.items l.ran.relexed (map view l.ran.listings.items) c.index-commands-index.result c.in-Err.refusal
-    l.invariant c.reads.ensures c.loop-index-test.true c.index-commands-index.is (c.in-Err.ensures.refused told)
+    let r = runs-of l.invariant.runs in
+    stops-there c.args.project.now l.project c.args.commands.now l.index l.splices.items l.relexed r.0 c.index-commands-index.result c.in-Err.refusal
+    r.1 c.reads.ensures c.loop-index-test.true c.index-commands-index.is (c.in-Err.ensures.refused told)
 
 pub returns-clause-done : goal.returns-clause-done
 returns-clause-done c =
     let l = c.loop-index in
-    subst (λ cs. Runs c.args.project.now cs l.ran.splices.items l.ran.relexed (map view l.ran.listings.items) l.project) (take_all l.index c.args.commands.now (omega arith)) l.invariant
+    let r = subst (λ cs. RunsTo c.args.form c.args.project.now cs l.splices.items l.relexed l.info.text.items l.project) (take_all l.index c.args.commands.now (omega arith)) l.invariant in
+    record { shown = r.shown; runs = r.runs; is_text = c.take.ensures ∙ r.is_text }
 
 pub returns-in-Err-clause-index : goal.returns-in-Err-clause-index
 returns-in-Err-clause-index c =
     let l = c.loop-index in
-    reaches c.args.project.now l.project c.args.commands.now l.index l.ran.splices.items l.ran.relexed (map view l.ran.listings.items) l.invariant (let below : l.index < length c.args.commands.now = c.loop-index-test.true in omega arith) (λ some. c.loop-index-test.true)
+    let r = runs-of l.invariant.runs in
+    reaches c.args.project.now l.project c.args.commands.now l.index l.splices.items l.relexed r.0 r.1 (let below : l.index < length c.args.commands.now = c.loop-index-test.true in omega arith) (λ some. c.loop-index-test.true)
+
+pub returns-in-Err-append-clause-index : goal.returns-in-Err-append-clause-index
+returns-in-Err-append-clause-index c =
+    let l = c.loop-index in
+    let r = runs-of l.invariant.runs in
+    reaches c.args.project.now l.project c.args.commands.now l.index l.splices.items l.relexed r.0 r.1 (let below : l.index < length c.args.commands.now = c.loop-index-test.true in omega arith) (λ some. c.loop-index-test.true)
+
+pub returns-in-Err-clause-during : goal.returns-in-Err-clause-during
+returns-in-Err-clause-during c =
+    let l = c.loop-index in
+    let r = runs-of l.invariant.runs in
+    stops-before c.args.project.now l.project c.performed.new.project c.args.commands.now l.index l.splices.items l.relexed r.0 r.1 c.loop-index-test.true c.in-Err.ensures.kept
 
 pub returns-in-Err-append-clause-during : goal.returns-in-Err-append-clause-during
 returns-in-Err-append-clause-during c =
     let l = c.loop-index in
-    stops-after c.args.project.now l.project c.answer.new.self c.args.commands.now l.index l.ran.splices.items l.ran.relexed l.ran.listings.items c.in-Ok.answer.listings.items
-    c.index-commands-index.result c.in-Ok.answer.done l.invariant c.reads.ensures c.loop-index-test.true c.index-commands-index.is c.in-Ok.ensures.told c.in-Ok.ensures.done
-
-pub returns-in-Err-append-2-clause-during : goal.returns-in-Err-append-2-clause-during
-returns-in-Err-append-2-clause-during c =
-    let l = c.loop-index in
-    stops-after c.args.project.now l.project c.answer.new.self c.args.commands.now l.index l.ran.splices.items l.ran.relexed l.ran.listings.items c.in-Ok.answer.listings.items
-    c.index-commands-index.result c.in-Ok.answer.done l.invariant c.reads.ensures c.loop-index-test.true c.index-commands-index.is c.in-Ok.ensures.told c.in-Ok.ensures.done
+    let r = runs-of l.invariant.runs in
+    let a = c.in-Ok.ensures.listed l.invariant.shown l.invariant.is_text in
+    stops-after c.args.project.now l.project c.performed.new.project c.args.commands.now l.index l.splices.items l.relexed r.0 a.plain
+    c.index-commands-index.result c.in-Ok.done r.1 c.reads.ensures c.loop-index-test.true c.index-commands-index.is a.is_plain c.in-Ok.ensures.done

@@ -1,6 +1,4 @@
-use Rattle.std.proofs.Common.{◌≡◌, [], ◌∷◌, ◌++◌, map, length, ap, ap₂, ◌∙◌}
-use Rattle.serde_json.specs.View.{view}
-use Rattle.serde_json.proofs.Views.{view-Array}
+use Rattle.std.proofs.Common.{◌≡◌, [], ◌∷◌, ◌++◌, length, ap, ap₂, ◌∙◌}
 use Rattle.meson_splice.specs.declared.change.Change.{Change}
 use Rattle.meson_splice.specs.declared.history.History.{History}
 use Rattle.meson_script.proofs.RunFacts.{one-run, one-stops}
@@ -9,7 +7,8 @@ use Rattle.meson_script.proofs.session.Session.run_one.Goals as goal
 pub returns-in-Ok-counted-clause-done : goal.returns-in-Ok-counted-clause-done
 returns-in-Ok-counted-clause-done c =
     let old = c.args.self.now in
-    let done = c.in-Ok-counted.answer.done in
+    let done = c.in-Ok-counted.ran.done in
+    let listed = c.in-Ok-counted.ensures.listed in
     let made : Change = record { splices = done.change.splices; title = c.args.title.now } in
     let pushed = c.titled.result in
     let is : pushed ≡ made = c.titled.ensures ∙ ap (λ t. let x : Change = record { splices = done.change.splices; title = t } in x) (ap (λ b. b.0) c.in-Ok.ensures) in
@@ -17,12 +16,12 @@ returns-in-Ok-counted-clause-done c =
     c.of.ensures ∙ c.push_reserved.ensures.items ∙ ap (λ cs. cs ++ pushed ∷ []) c.in-Ok-past_with_room.ensures.past ∙ ap (λ x. old.history.past ++ x ∷ []) is in
     record {
       splices = done.change.splices;
-      listings = map view c.in-Ok-counted.answer.listings.items;
-      runs = one-run old.project c.counted.new.project c.args.command.now done (map view c.in-Ok-counted.answer.listings.items) c.counted.ensures.reads c.in-Ok-counted.ensures.told c.in-Ok-counted.ensures.done;
+      shown = listed.more;
+      runs = one-run c.args.form old.project c.counted.new.project c.args.command.now done listed.plain listed.more c.counted.ensures.reads listed.is_plain listed.lists c.in-Ok-counted.ensures.done;
       kept = ap₂ (λ before behind. let h : History = record { past = before; future = behind } in h) past c.clear.ensures;
       files = c.in-Ok-counted.ensures.files;
       count = ap length c.get.ensures;
-      info = view-Array c.in-Ok-counted.answer.listings;
+      info = listed.is_text;
       is_title = ap (λ b. b.1) c.in-Ok.ensures;
     }
 

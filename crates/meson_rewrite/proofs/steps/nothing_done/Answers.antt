@@ -1,8 +1,0 @@
-use Rattle.std.proofs.Common.{ap, ◌∙◌}
-use Rattle.serde_json.specs.Data.{array}
-use Rattle.serde_json.specs.View.{items_view}
-use Rattle.serde_json.proofs.Views.{view-Array}
-use Rattle.meson_rewrite.proofs.steps.nothing_done.Goals as goal
-
-pub returns : goal.returns
-returns c = view-Array c.new.result ∙ ap (λ vs. array (items_view vs)) c.new.ensures.items
