@@ -167,7 +167,7 @@ Flagged =
     × asks (codes "--no-log undo") (flagged (record no_flags { no_log = true }) Undo)
     × asks (codes "--explain undo") (flagged (record no_flags { explain = true }) Undo)
     × asks (codes "--no-log --exit-code --explain --json --dry-run redo")
-        (flagged (record { dry_run = true; json = true; explain = true; exit_code = true; no_log = true }) Redo)
+    (flagged (record { dry_run = true; json = true; explain = true; exit_code = true; no_log = true }) Redo)
     × asks (codes "--exit-code list") (flagged (record no_flags { exit_code = true }) (action.List false))
     × asks (codes "undo --exit-code") (Err Usage)
     × asks (codes "undo --no-log") (Err Usage)

@@ -4,8 +4,8 @@ use crate::rows::{Row, TITLE};
 use crate::trial::{Call, Fault, Wrong, each_growth_refused};
 use meson_plan::{LoadFault, Refusal};
 use meson_script::{
-    ListingForm, Report, RunFault, Script, ScriptFault, Session, UndoFault, UnknownMembers, Unstarted, log_text,
-    read_log,
+    ListingForm, Report, RunFault, Script, ScriptFault, Session, UndoFault, UnknownMembers,
+    Unstarted, log_text, read_log,
 };
 use meson_splice::{FileSet, History, SpliceFault};
 use std::alloc::Global;

@@ -100,10 +100,7 @@ impl Display for RangeObject {
         write!(
             f,
             "{{\"end\":{{\"character\":{},\"line\":{}}},\"start\":{{\"character\":{},\"line\":{}}}}}",
-            end.character,
-            end.line,
-            start.character,
-            start.line,
+            end.character, end.line, start.character, start.line,
         )
     }
 }

@@ -15,12 +15,7 @@ use meson_script::Session;
 use std::alloc::Global;
 
 /// What is to be said for a step on a borrowed session that only reports.
-fn told_of(
-    alloc: Global,
-    session: &mut Session,
-    step: &Step,
-    flags: Flags,
-) -> Result<Said, Stop>
+fn told_of(alloc: Global, session: &mut Session, step: &Step, flags: Flags) -> Result<Said, Stop>
     requires { IsTitled step.now }
     ensures told { IfOk result (OnlyTells session.old step.now flags.json) }
     ensures refused { IfErr result (λ why. WantsMemory why ⊎ MayRefuseStep flags step.now session.old why) }

@@ -325,12 +325,7 @@ pub(crate) fn object_of(
 }
 
 /// What is to be said for a step on a borrowed session, if it is shown and not done.
-fn shown_of(
-    alloc: Global,
-    session: &mut Session,
-    step: &Step,
-    flags: Flags,
-) -> Result<Said, Stop>
+fn shown_of(alloc: Global, session: &mut Session, step: &Step, flags: Flags) -> Result<Said, Stop>
     requires { IsTitled step.now }
     ensures shown { IfOk result (IsShown session.old step.now flags.json) }
     ensures refused { IfErr result (λ why. WantsMemory why ⊎ MayRefuseStep flags step.now session.old why) }

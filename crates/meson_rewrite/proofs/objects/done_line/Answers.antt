@@ -44,12 +44,12 @@ returns c = λ listings is.
     let title = compact_text (string report.title) in
     let info = compact_text (array (items_of listings)) in
     let first : c.into_bytes-text.result.items ≡ head changes report.files =
-        ap (λ v. v.items) c.into_bytes-text.ensures.value ∙ c.in_ok-before.ensures.ok ∙ ap (λ t. head t report.files) (c.in_ok-changes.ensures.text c.requires) in
+    ap (λ v. v.items) c.into_bytes-text.ensures.value ∙ c.in_ok-before.ensures.ok ∙ ap (λ t. head t report.files) (c.in_ok-changes.ensures.text c.requires) in
     let its = c.in_ok-try_from_str.ensures ∙ ap string c.get.ensures in
     let last : c.as_bytes.result.now ≡ tail report.splices title =
-        c.as_bytes.ensures.value ∙ c.in_ok-after.ensures.ok ∙ ap (tail report.splices) (c.in_ok-quoted.ensures.text (ap has_float its) ∙ ap compact_text its) in
+    c.as_bytes.ensures.value ∙ c.in_ok-after.ensures.ok ∙ ap (tail report.splices) (c.in_ok-quoted.ensures.text (ap has_float its) ∙ ap compact_text its) in
     let rest : c.extend_from_slice.new.self.items ≡ info ++ tail report.splices title =
-        c.in_ok-extend_from_slice.ensures.items ∙ ap (λ t. t ++ c.as_bytes.result.now) (c.in_ok-rest.ensures listings is) ∙ ap (λ t. info ++ t) last in
+    c.in_ok-extend_from_slice.ensures.items ∙ ap (λ t. t ++ c.as_bytes.result.now) (c.in_ok-rest.ensures listings is) ∙ ap (λ t. info ++ t) last in
     c.in_ok-append.ensures.items
     ∙ ap (λ t. t ++ c.extend_from_slice.new.self.items) first
     ∙ ap (λ t. head changes report.files ++ t) rest
