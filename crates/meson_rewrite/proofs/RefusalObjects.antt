@@ -40,7 +40,7 @@ message_member : (message : List ℕ) (more : Members)
 unfolding escape_byte
 message_member message more = refl
 
--- what is written, part after part; a format of so many parts is written in two halves
+-- what is written, part after part; a long format is written in two halves
 abbrev pub parts : Option ℕ → List ℕ → Option ℕ → Option ℕ → Option (List ℕ) → Option (List (List ℕ)) → Option (List (List ℕ)) → List ℕ → Option (List ℕ)
     → Option (List PlacedNote) → List ℕ
 parts at code command entry file help left message name notes =

@@ -75,7 +75,7 @@ StopsStepsBack count old why = (fault : UndoFault) × (between : Session) × Sto
 abbrev pub StopsChecked : ℕ → NamedFile → Session → Stop → Type 0
 StopsChecked count kept old why = ((HasSums old kept → ⊥) × (why ≡ OtherFiles kept.name)) ⊎ (HasSums old kept × StopsStepsBack count old why)
 
--- there are not so many changes to drop
+-- fewer changes are there to drop
 abbrev pub StopsForgetting : ℕ → Session → Stop → Type 0
 StopsForgetting count old why = (length old.history.past < count) × (why ≡ Splice NothingToUndo)
 

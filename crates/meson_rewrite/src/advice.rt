@@ -48,7 +48,11 @@ fn advice_of(
 }
 
 /// Performs commands that were performed before: only memory can be refused.
-fn repeat(alloc: Global, project: &mut Project, commands: &[Command]) -> Result<(), AllocError>
+fn perform_again(
+    alloc: Global,
+    project: &mut Project,
+    commands: &[Command],
+) -> Result<(), AllocError>
     ensures { OnOk result (Leaves project.old commands.now project.new) }
 {
     match perform_all(alloc, project, commands, ListingForm::Plain) {
@@ -70,7 +74,7 @@ fn explained(
     if fault.index >= commands.len() {
         return Ok(Advice::Nothing);
     }
-    repeat(alloc, project, &commands[..fault.index])?;
+    perform_again(alloc, project, &commands[..fault.index])?;
     let explanation = explain(alloc, project, &commands[fault.index], &fault.refusal)?;
     advice_of(alloc, json, project.files(), explanation)
 }

@@ -1,5 +1,5 @@
 use Rattle.meson_script.proofs.RunFacts.{runs-of}
-use Rattle.meson_rewrite.proofs.advice.repeat.Goals as goal
+use Rattle.meson_rewrite.proofs.advice.perform_again.Goals as goal
 
 pub returns-in-Ok : goal.returns-in-Ok
 returns-in-Ok c =
