@@ -1,0 +1,5 @@
+pub mod Faults
+pub mod Names
+pub mod Slots
+pub mod Laws
+pub mod inside
