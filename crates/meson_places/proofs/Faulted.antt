@@ -1,6 +1,6 @@
 -- Results that are known by an equal one; and the first of some keys.
 use Rattle.std.proofs.Common.{◌≡◌, ℕ, ◌-◌, ◌≤◌, List, [], ◌∷◌, length, take, drop, get_or, Result, Ok, Err, ap, sym, ◌∙◌, arith}
-use Rattle.std.specs.Prelude.{IfOk}
+use Rattle.std.specs.Prelude.{IfOk, MatchOption, Option, Some, None}
 use Rattle.std.proofs.lemmas.List.{take_all}
 use Rattle.meson_places.specs.declared.fault.ArgFault.{ArgFault}
 use Rattle.meson_places.specs.Faults.{FaultAs}
@@ -9,7 +9,7 @@ pub found_as : {X : Type 0} (r a b : Result X ArgFault) → a ≡ b → IfOk r (
 found_as (Ok x) a b same h = same ∙ h
 found_as (Err e) a b same h = tt
 
-pub fault_as : {X : Type 0} (r a b : Result X ArgFault) → a ≡ b → FaultAs r b → FaultAs r a
+pub fault_as : {X Y : Type 0} (r : Result X ArgFault) (a b : Result Y ArgFault) → a ≡ b → FaultAs r b → FaultAs r a
 fault_as (Ok x) a b same h = tt
 fault_as (Err e) a b same h = λ other. same ∙ h other
 
@@ -18,3 +18,7 @@ first_key [] d some = absurd (omega arith)
 first_key (k ∷ keys) d some =
     let all : length (k ∷ keys) - 1 ≡ length keys = omega arith in
     sym (ap (λ ks. k ∷ ks) (ap (λ n. take n keys) all ∙ take_all (length keys) keys (omega arith)))
+
+pub always : {X : Type 0} (o : Option X) (P : Type 0) → P → MatchOption o (Unit {0}) (λ x. P)
+always None P p = tt
+always (Some x) P p = p

@@ -1,7 +1,12 @@
 mod Around
+mod Bracketed
 mod Faulted
 mod Found
+mod IdentifierTexts
 mod ListElements
 mod Numbers
+mod OneElement
+mod ReadKinds
+mod SetValues
 mod SlotSteps
 mod Standing

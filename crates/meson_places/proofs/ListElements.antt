@@ -1,6 +1,7 @@
 -- The elements of a list: their strings, and what the code's nodes stand for.
 use Rattle.std.proofs.Common.{rules, ◌≡◌, ℕ, suc, ◌+◌, ◌-◌, ◌<◌, true, false, List, [], ◌∷◌, ◌++◌, length, get_or, drop, Some, sym, ap, ◌∙◌, subst, arith, add-one, append_assoc}
-use Rattle.std.specs.Prelude.{Bool, if◌then◌else◌}
+use Rattle.std.specs.Prelude.{Bool, ◌&&◌, if◌then◌else◌}
+use Rattle.std.specs.List.{list_all}
 use Rattle.std.proofs.Math.Seq.{drop-cons}
 use Rattle.meson_lex.specs.declared.kinds.Kind.TheVariants as k
 use Rattle.meson_lex.specs.declared.kinds.Span.{Span}
@@ -66,3 +67,11 @@ module _ (source : List ℕ) (args : List Arg) (i : ℕ) (d : Arg) (within : i <
       let more : n - i ≡ suc (n - (i + 1)) = omega (arith, past) in
       ap (λ c. nth_child (before + c) (args_view source (drop (i + 1) args)) (n - (i + 1))) is
       ∙ sym (ap (nth_child before (args_view source (drop i args))) more ∙ ap (λ xs. nth_child before xs (suc (n - (i + 1)))) rest_is)
+
+  -- ---- whether all pass a test
+
+  pub all_more : (test : Argument Span → Bool) → test (arg_view source (get_or args i d)) ≡ true → list_all test (args_view source (drop i args)) ≡ list_all test (args_view source (drop (i + 1) args))
+  all_more test holds = ap (list_all test) rest_is ∙ ap (λ b. b && list_all test (args_view source (drop (i + 1) args))) holds
+
+  pub all_not : (test : Argument Span → Bool) → test (arg_view source (get_or args i d)) ≡ false → list_all test (args_view source (drop i args)) ≡ false
+  all_not test fails = ap (list_all test) rest_is ∙ ap (λ b. b && list_all test (args_view source (drop (i + 1) args))) fails

@@ -48,6 +48,9 @@ module _ (files : List File) (trees : List Parsed) (c : CallRef) where
   abbrev p : Project Span
   p = named_trees files (views files trees)
 
+  pub past_all : length trees ≤ c.file → expression_at p c ≡ None
+  past_all past = ap (λ f. option_and_then (λ g. paths.expression_on_path g.tree c.path.steps) f) (nth_past files trees c.file past)
+
   pub past_files : (keys : List (List ℕ)) → length trees ≤ c.file → the_slot p c keys ≡ Err (Refused NotFound)
   past_files keys past = ap (λ f. slot_from c keys (option_and_then (λ g. paths.expression_on_path g.tree c.path.steps) f)) (nth_past files trees c.file past)
 

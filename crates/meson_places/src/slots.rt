@@ -50,7 +50,7 @@ struct Reached<'t> {
 }
 
 /// The elements of a call, a dictionary or an array.
-fn elements_in(value: &Expr) -> &[Arg]
+pub(crate) fn elements_in(value: &Expr) -> &[Arg]
     ensures elements { (source : Source) → args_view source result.now ≡ elements_in (expr_view source value.entry.now) }
     ensures good { (source : Source) → AreGood (expression_words (expr_view source value.entry.now)) → GoodArgs source result.now }
 {
@@ -98,7 +98,7 @@ fn child_of(before: usize, element: &Arg) -> ChildValue<'_>
 }
 
 /// The value of the n-th element.
-fn nth_child(elements: &[Arg], n: usize) -> Option<ChildValue<'_>>
+pub(crate) fn nth_child(elements: &[Arg], n: usize) -> Option<ChildValue<'_>>
     ensures child { (source : Source) → option_map (child_view source) result ≡ nth_child 0 (args_view source elements.entry.now) n }
     ensures good { (source : Source) → GoodArgs source elements.entry.now
         → MatchOption result (Unit {0}) (λ c. AreGood (expression_words (expr_view source c.value.now))) }
