@@ -1,24 +1,24 @@
 -- A text in square brackets is a list of one element exactly where the text is an expression.
-use Rattle.std.proofs.Common.{◌≡◌, ℕ, suc, ◌≤◌, max, List, [], ◌∷◌, ◌++◌, codes, IsUtf8, map, Some, None, refl, sym, ap, ◌∙◌, subst, inl, inr, arith}
-use Rattle.std.specs.Prelude.{Bool, true, false, not, ◌&&◌, ◌⊎◌, reverse, if◌then◌else◌}
+use Rattle.std.proofs.Common.{◌≡◌, ℕ, List, [], ◌∷◌, ◌++◌, IsUtf8, map, refl, sym, ap, ◌∙◌, subst, inl, inr, arith}
+use Rattle.std.specs.Prelude.{Bool, true, false, not, ◌&&◌, reverse, if◌then◌else◌}
 use Rattle.std.specs.List.{list_all}
 use Rattle.std.proofs.lemmas.List.{append_cancel_right, append-nil, map-append, reverse-append, reverse-reverse}
 use Rattle.std.specs.Char.{encode_utf8}
 use Rattle.std.proofs.lemmas.Str.{IsUtf8-append}
 use Rattle.meson_lex.specs.declared.kinds.Kind.{Kind}
 use Rattle.meson_lex.specs.declared.kinds.Kind.TheVariants as k
-use Rattle.meson_lex.specs.Bytes.{begins, begins_bare_return, is_line_byte}
-use Rattle.meson_lex.specs.Items.{AreItems, IsItem, IsItemList, Lexeme, joined}
+use Rattle.meson_lex.specs.Bytes.{begins_bare_return}
+use Rattle.meson_lex.specs.Items.{AreItems, IsItemList, Lexeme, joined}
 use Rattle.meson_lex.specs.Kinds.{OfKind}
-use Rattle.meson_lex.specs.Neighbours.{MayStand, Shape, StandsBefore, blanks, note, name, word, quoted, format_quoted, extendable, closed, shape}
+use Rattle.meson_lex.specs.Neighbours.{Shape, StandsBefore, blanks, note, name, word, quoted, format_quoted, extendable, closed, shape}
 use Rattle.meson_lex.specs.Significant.{role}
-use Rattle.meson_lex.specs.Words.{IsTight, speaks, spoken}
+use Rattle.meson_lex.specs.Words.{IsTight, speaks}
 use Rattle.meson_lex.proofs.Seams.{AreItems-append, AreItems-split, joined-append}
 use Rattle.meson_layout.specs.Words.{is_remark, remarks}
 use Rattle.meson_syntax.specs.declared.operator.Bracket.TheVariants as bracket
 use Rattle.meson_syntax.specs.Grammar.{expression_words}
 use Rattle.meson_syntax.specs.ReadsList.{ReadsListWithin}
-use Rattle.meson_syntax.specs.Tree.{Argument, plain, named, pair, Arguments, no_arguments, argument, Expression, Listing, listing, Nowhere, erase_listing}
+use Rattle.meson_syntax.specs.Tree.{plain, named, pair, no_arguments, argument, Expression, Listing, listing, Nowhere, erase_listing}
 use Rattle.meson_places.specs.Code.{IsExpression}
 use Rattle.meson_places.specs.inside.Bare.{is_bare, is_lone, speaks_first}
 

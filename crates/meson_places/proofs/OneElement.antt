@@ -1,6 +1,6 @@
 -- Lists of one element, as the code has them.
 use Rattle.std.proofs.Common.{◌≡◌, ℕ, List, [], ◌∷◌, length, get_or, refl, arith}
-use Rattle.std.specs.Prelude.{Bool, false}
+use Rattle.std.specs.Prelude.{false}
 use Rattle.meson_syntax.specs.declared.tree.Arg.{Arg}
 use Rattle.meson_syntax.specs.View.{arg_view, args_view}
 use Rattle.meson_places.specs.inside.Bare.{is_plain, one_plain}

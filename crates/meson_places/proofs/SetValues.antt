@@ -1,20 +1,18 @@
 -- What setting and deleting leave: one value is another one, or one element is gone, and all else stays.
 use Rattle.std.proofs.Common.{◌≡◌, ℕ, zero, suc, List, [], ◌∷◌, ◌++◌, take, drop, Some, None, Option, Ok, refl, sym, ap, ◌∙◌, inl, inr}
-use Rattle.std.specs.Prelude.{Bool, true, false, ◌⊎◌, if◌then◌else◌, option_map, option_and_then, Result, Err}
+use Rattle.std.specs.Prelude.{Bool, true, false, option_map}
 use Rattle.meson_lex.specs.declared.kinds.Span.{Span}
 use Rattle.meson_syntax.specs.Paths.{ListAt, list_at, nth, value_of}
-use Rattle.meson_syntax.specs.Tree.{Argument, plain, named, pair, Expression, Nowhere, Plain}
-use Rattle.meson_syntax.proofs.parsing.Steps.{some-injective}
+use Rattle.meson_syntax.specs.Tree.{Argument, Expression, Nowhere, Plain}
 use Rattle.meson_syntax.proofs.paths.Reaching.{and-then-some, map-some}
 use Rattle.meson_edit.specs.Edits.{Replace, Remove, Written, edited, edited_elements, element_removed, elements, exchanged, with_elements, with_value}
 use Rattle.meson_calls.specs.declared.call.CallRef.{CallRef}
-use Rattle.meson_calls.specs.Loading.{Loaded, project}
+use Rattle.meson_calls.specs.Loading.{project}
 use Rattle.meson_steps.specs.Steps.{Step, all_stepped, changed_at, step_in, stepped}
-use Rattle.meson_places.specs.declared.fault.ArgFault.{ArgFault}
 use Rattle.meson_places.specs.declared.slots.Slot.TheVariants as slot
 use Rattle.meson_places.specs.declared.values.Given.{Given}
-use Rattle.meson_places.specs.Changes.{element_child, replaces_texts, set_steps, set_there, slot_value}
-use Rattle.meson_places.specs.Laws.{IsWithout, KeepsKind, MaySet, SetsOneValue, DeletesOneElement, SlotIs}
+use Rattle.meson_places.specs.Changes.{element_child, replaces_texts, set_steps, set_there}
+use Rattle.meson_places.specs.Laws.{KeepsKind, MaySet, SetsOneValue, DeletesOneElement, SlotIs}
 use Rattle.meson_places.specs.Slots.{Child}
 use Rattle.meson_places.specs.Values.{keeps_kind}
 

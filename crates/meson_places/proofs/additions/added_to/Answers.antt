@@ -8,7 +8,7 @@ use Rattle.meson_calls.proofs.Loads.{as_many}
 use Rattle.meson_places.specs.declared.fault.ArgFault.TheVariants.{NoSuchValue}
 use Rattle.meson_places.specs.Changes.{AreMeant, added_there, added_to}
 use Rattle.meson_places.specs.Names.{loaded_in}
-use Rattle.meson_places.specs.Slots.{elements_in, list_kind}
+use Rattle.meson_places.specs.Slots.{elements_in}
 use Rattle.meson_places.specs.Values.{written_given}
 use Rattle.meson_places.proofs.Faulted.{fault_as}
 use Rattle.meson_places.proofs.Standing.{past_all, stands}
