@@ -9,4 +9,5 @@ mod OneElement
 mod ReadKinds
 mod SetValues
 mod SlotSteps
+mod SlotsThere
 mod Standing

@@ -1,5 +1,5 @@
 -- What a search finds and what a slot is, in terms of the calls of a project and of what is at a place.
-use Rattle.std.specs.Prelude.{◌≡◌, ◌⊎◌, ℕ, suc, true, List, ◌∷◌, ◌++◌, take, drop, Option, Some, Ok}
+use Rattle.std.specs.Prelude.{◌≡◌, ◌⊎◌, ℕ, suc, true, List, ◌∷◌, ◌++◌, take, drop, Option, Some, None, Ok}
 use Rattle.std.specs.List.{Contains}
 use Rattle.meson_lex.specs.declared.kinds.Span.{Span}
 use Rattle.meson_syntax.specs.Paths.{ListAt, list_at, nth}
@@ -14,9 +14,11 @@ use Rattle.meson_steps.specs.Steps.{Step, all_stepped, changed_at}
 use Rattle.meson_places.specs.declared.name.Callee.{Callee}
 use Rattle.meson_places.specs.declared.name.PlaceName.TheVariants as name
 use Rattle.meson_places.specs.declared.name.Search.{Search}
+use Rattle.meson_places.specs.declared.slots.Slot.{Slot}
 use Rattle.meson_places.specs.declared.slots.Slot.TheVariants as slot
 use Rattle.meson_places.specs.declared.values.Given.{Given}
 use Rattle.meson_places.specs.Changes.{delete_steps, replaces_texts, set_steps, slot_value}
+use Rattle.meson_places.specs.Slots.{number_in, the_slot}
 use Rattle.meson_places.specs.Values.{keeps_kind}
 use Rattle.meson_places.specs.Names.{calls_callee, is_searched, searched_file, the_place}
 
@@ -52,6 +54,18 @@ pub record IsOnlyCall (l : Loaded) (s : Search) (f : Callee) (id : List ℕ) (c 
 abbrev pub FindsOneCall : Type 0
 FindsOneCall = (l : Loaded) (s : Search) (f : Callee) (id : List ℕ) → s.name ≡ name.Call f id → (c : CallRef) → the_place l s ≡ Ok c
     → IsOnlyCall l s f id c
+
+-- ---- slots
+
+-- what a slot says is there: a value, or a call or a dictionary that does not have the key
+abbrev pub SlotIsThere : Project Span → Slot → Type 0
+SlotIsThere p (slot.Element list n) = (e : Expression Span) × (slot_value p (slot.Element list n) ≡ Some e)
+SlotIsThere p (slot.Absent list key) = (e : Expression Span) × (expression_at p list ≡ Some e) × (number_in key e ≡ Ok None)
+SlotIsThere p (slot.Whole c) = (e : Expression Span) × (expression_at p c ≡ Some e)
+
+-- the law: so it is of the slot that keys name
+abbrev pub SlotsAreThere : Type 0
+SlotsAreThere = (p : Project Span) (c : CallRef) (keys : List (List ℕ)) (s : Slot) → the_slot p c keys ≡ Ok s → SlotIsThere p s
 
 -- ---- values that are set
 
