@@ -1,11 +1,11 @@
 -- A slot that keys name is there: its value, or the list to which its key would be added.
-use Rattle.std.proofs.Common.{◌≡◌, ℕ, zero, suc, ◌+◌, List, [], ◌∷◌, ◌++◌, Some, None, Option, Result, Ok, Err, refl, sym, ap, ◌∙◌, subst, arith}
+use Rattle.std.proofs.Common.{◌≡◌, ℕ, zero, suc, ◌+◌, List, [], ◌∷◌, ◌++◌, Some, None, Option, Result, Ok, Err, refl, ap, ◌∙◌, subst, arith}
 use Rattle.std.specs.Prelude.{option_map, option_and_then}
 use Rattle.meson_lex.specs.declared.kinds.Span.{Span}
 use Rattle.meson_syntax.specs.Children.{Any, an_expression, argument_parts, arguments_parts}
 use Rattle.meson_syntax.specs.inside.Children.{expression_parts}
 use Rattle.meson_syntax.specs.Paths.{nth}
-use Rattle.meson_syntax.specs.Tree.{Expression, array, dictionary, call, Argument, plain, named, pair, Arguments, no_arguments, argument, argument_list, Listing, listing}
+use Rattle.meson_syntax.specs.Tree.{Expression, array, dictionary, call, Argument, plain, named, pair, Arguments, no_arguments, argument, argument_list, listing}
 use Rattle.meson_syntax.proofs.parsing.Steps.{some-injective}
 use Rattle.meson_calls.specs.declared.call.CallRef.{CallRef}
 use Rattle.meson_calls.specs.Parts.{argument_child_count}
@@ -16,7 +16,7 @@ use Rattle.meson_places.specs.declared.slots.Slot.{Slot}
 use Rattle.meson_places.specs.declared.slots.Slot.TheVariants as slot
 use Rattle.meson_places.specs.Changes.{slot_value}
 use Rattle.meson_places.specs.Laws.{SlotIsThere, SlotsAreThere}
-use Rattle.meson_places.specs.Slots.{Child, absent_slot, at_number, child_of, elements_in, in_child, nth_child, number_in, slot_from, slot_in, the_slot}
+use Rattle.meson_places.specs.Slots.{Child, absent_slot, at_number, child_of, elements_in, in_child, nth_child, number_in, slot_from, slot_in}
 
 -- ---- the value of an element is a child of its list's expression
 
