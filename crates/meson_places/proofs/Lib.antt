@@ -1,0 +1,13 @@
+mod Around
+mod Bracketed
+mod Faulted
+mod Found
+mod IdentifierTexts
+mod ListElements
+mod Numbers
+mod OneElement
+mod ReadKinds
+mod SetValues
+mod SlotSteps
+mod SlotsThere
+mod Standing

@@ -1,0 +1,35 @@
+use Rattle.std.proofs.Common.{◌≡◌, Some, sym, ap, ◌∙◌, subst}
+use Rattle.std.proofs.lemmas.Result.{IfOk-weaker}
+use Rattle.meson_places.specs.Changes.{AreMeant, set_steps, set_there}
+use Rattle.meson_places.specs.Names.{loaded_in}
+use Rattle.meson_places.specs.Values.{written_given}
+use Rattle.meson_places.specs.inside.Wanted.{child_view}
+use Rattle.meson_places.proofs.Faulted.{fault_as}
+use Rattle.meson_places.proofs.changes.set_steps.Goals as goal
+
+pub returns-in-Some-clause-meant : goal.returns-in-Some-clause-meant
+returns-in-Some-clause-meant c = λ may.
+    let l = loaded_in c.args.sources in
+    let g = c.args.given.now in
+    let w = written_given g may in
+    let key = c.args.key.now in
+    let list = c.in-Element.list in
+    let n = c.in-Element.number in
+    let child = c.in-Some.child in
+    let same : set_steps l g w key c.args.slot.now ≡ set_there g w key list n (Some (child_view c.bytes-source.result.now child)) =
+    ap (set_steps l g w key) c.in-Element.is ∙ ap (set_there g w key list n) (sym c.in-Some.ensures.child)
+    ∙ ap (λ s. set_there g w key list n (Some (child_view s child))) (sym c.bytes-source.ensures) in
+    IfOk-weaker c.replace_steps.result _ _ (λ steps m. subst (λ x. AreMeant x steps.items) (sym same) m) (c.replace_steps.ensures.meant may)
+
+pub returns-in-Some-clause-fault : goal.returns-in-Some-clause-fault
+returns-in-Some-clause-fault c = λ w.
+    let l = loaded_in c.args.sources in
+    let g = c.args.given.now in
+    let key = c.args.key.now in
+    let list = c.in-Element.list in
+    let n = c.in-Element.number in
+    let child = c.in-Some.child in
+    fault_as c.replace_steps.result (set_steps l g w key c.args.slot.now) (set_there g w key list n (Some (child_view c.bytes-source.result.now child)))
+    (ap (set_steps l g w key) c.in-Element.is ∙ ap (set_there g w key list n) (sym c.in-Some.ensures.child)
+    ∙ ap (λ s. set_there g w key list n (Some (child_view s child))) (sym c.bytes-source.ensures))
+    (c.replace_steps.ensures.fault w)

@@ -1,0 +1,137 @@
+-- The steps that set or delete the value of a slot.
+use Rattle.std.specs.Prelude.{◌≡◌, ℕ, zero, suc, Bool, false, List, [], ◌∷◌, ◌++◌, drop, length, codes, if◌then◌else◌, Option, Some, None, option_map, option_and_then, Result, Ok, Err}
+use Rattle.meson_lex.specs.declared.kinds.Span.{Span}
+use Rattle.meson_lex.specs.Bytes.{begins, is_blank}
+use Rattle.meson_lex.specs.Literals.{literal}
+use Rattle.meson_splice.specs.Files.{bytes_at}
+use Rattle.meson_syntax.specs.Tree.{Argument, plain, named, pair, Expression, Nowhere, bare_name}
+use Rattle.meson_edit.specs.Edits.{After, First, Remove, Replace, Written}
+use Rattle.meson_edit.specs.Standing.{expression_span}
+use Rattle.meson_calls.specs.declared.call.CallRef.{CallRef}
+use Rattle.meson_calls.specs.declared.refusal.Refusal.TheVariants.{BadName, NotLiteral, NotRemovable}
+use Rattle.meson_calls.specs.Loading.{Loaded, project}
+use Rattle.meson_calls.specs.Project.{Project, child, expression_at}
+use Rattle.meson_steps.specs.declared.step.ListStep.{ListStep}
+use Rattle.meson_steps.specs.ListSteps.{AreBare}
+use Rattle.meson_steps.specs.Steps.{Step, step_in}
+use Rattle.meson_steps.specs.WrittenTexts.{string_of}
+use Rattle.meson_places.specs.declared.elements.ListKind.{ListKind}
+use Rattle.meson_places.specs.declared.elements.ListKind.TheVariants as kind
+use Rattle.meson_places.specs.declared.fault.ArgFault.{ArgFault}
+use Rattle.meson_places.specs.declared.fault.ArgFault.TheVariants.{NoSuchValue, OtherKind, Refused}
+use Rattle.meson_places.specs.declared.slots.Slot.{Slot}
+use Rattle.meson_places.specs.declared.slots.Slot.TheVariants as slot
+use Rattle.meson_places.specs.declared.values.Given.{Given}
+use Rattle.meson_places.specs.declared.values.Given.TheVariants as given
+use Rattle.meson_places.specs.Slots.{Child, elements_in, list_kind, nth_child}
+use Rattle.meson_places.specs.Values.{are_texts, is_identifier, keeps_kind}
+
+-- ---- the value of a slot
+
+-- the value of the n-th element of the list there, and its number among the children there
+abbrev pub element_child : {S : Type 0} → Project S → CallRef → ℕ → Option (Child S)
+element_child p list n = option_and_then (λ e. nth_child 0 (elements_in e) n) (expression_at p list)
+
+abbrev pub slot_value : {S : Type 0} → Project S → Slot → Option (Expression S)
+slot_value p (slot.Element list n) = option_map (λ c. c.value) (element_child p list n)
+slot_value p (slot.Absent list key) = None
+slot_value p (slot.Whole c) = expression_at p c
+
+-- ---- set, where a value is there
+
+-- elements behind the first one are removed, the last one first
+abbrev pub rest_removed : CallRef → ℕ → List Step
+rest_removed list zero = []
+rest_removed list (suc m) = step_in list (Remove list.path.steps (suc m)) ∷ rest_removed list m
+
+-- an array with this number of elements gets one element, in the place of the first one
+abbrev pub alone_in_array : CallRef → ℕ → Written (Expression Nowhere) → List Step
+alone_in_array list zero w = step_in list (First list.path.steps (record { bytes = w.bytes; node = plain w.node })) ∷ []
+alone_in_array list (suc m) w = step_in list (Replace list.path.steps 0 w) ∷ rest_removed list m
+
+-- a text in the place of an array of texts becomes its only element
+abbrev pub replaces_texts : {S : Type 0} → Given → Expression S → Bool
+replaces_texts (given.Text text) e = are_texts e
+replaces_texts (given.Switch b) e = false
+replaces_texts (given.Code code) e = false
+
+abbrev pub set_there : {S : Type 0} → Given → Written (Expression Nowhere) → (key : List ℕ) → CallRef → ℕ → Option (Child S)
+    → Result (List Step) ArgFault
+set_there g w key list n None = Err (NoSuchValue key)
+set_there g w key list n (Some c) =
+    if keeps_kind g c.value then Ok (step_in list (Replace list.path.steps n w) ∷ [])
+    else (if replaces_texts g c.value then Ok (alone_in_array (child list c.number) (length (elements_in c.value)) w) else Err (OtherKind key))
+
+-- ---- set, where no value is there
+
+-- what is between a key and its value: as after the last keyword argument or entry that is there
+abbrev pub colon_at : List ℕ → ℕ → List ℕ
+colon_at source at_ = if begins is_blank (drop at_ source) then codes " : " else codes ": "
+
+abbrev pub colon_of : List ℕ → (before : List ℕ) → Argument Span → List ℕ
+colon_of source before (plain e) = before
+colon_of source before (named s x e) = colon_at source x.place.to
+colon_of source before (pair s k v) = colon_at source (expression_span k).to
+
+abbrev pub last_colon : List ℕ → (before : List ℕ) → List (Argument Span) → List ℕ
+last_colon source before [] = before
+last_colon source before (x ∷ xs) = last_colon source (colon_of source before x) xs
+
+abbrev pub colon_among : List ℕ → List (Argument Span) → List ℕ
+colon_among source xs = last_colon source (codes ": ") xs
+
+-- an element at the end of a list with this number of elements
+abbrev pub behind_all : CallRef → ℕ → Written (Argument Nowhere) → Step
+behind_all list zero new = step_in list (First list.path.steps new)
+behind_all list (suc n) new = step_in list (After list.path.steps n new)
+
+abbrev pub written_keyword : (key colon : List ℕ) → Written (Expression Nowhere) → Written (Argument Nowhere)
+written_keyword key colon w = record { bytes = key ++ (colon ++ w.bytes); node = named tt (bare_name key) w.node }
+
+abbrev pub written_entry : (key colon : List ℕ) → Written (Expression Nowhere) → Written (Argument Nowhere)
+written_entry key colon w = record { bytes = literal key ++ (colon ++ w.bytes); node = pair tt (string_of key) w.node }
+
+-- a call gets a keyword argument, if the key is an identifier, and a dictionary an entry, each as its last element
+abbrev pub keyword_behind : List ℕ → Written (Expression Nowhere) → (key : List ℕ) → CallRef → List (Argument Span) → Result (List Step) ArgFault
+keyword_behind source w key list xs = Ok (behind_all list (length xs) (written_keyword key (colon_among source xs) w) ∷ [])
+
+abbrev pub added_keyword : List ℕ → Written (Expression Nowhere) → (key : List ℕ) → CallRef → List (Argument Span) → Result (List Step) ArgFault
+added_keyword source w key list xs = if is_identifier key then keyword_behind source w key list xs else Err (Refused BadName)
+
+abbrev pub added_entry : List ℕ → Written (Expression Nowhere) → (key : List ℕ) → CallRef → List (Argument Span) → Result (List Step) ArgFault
+added_entry source w key list xs = Ok (behind_all list (length xs) (written_entry key (colon_among source xs) w) ∷ [])
+
+abbrev pub added_by_kind : List ℕ → Written (Expression Nowhere) → (key : List ℕ) → CallRef → ListKind → List (Argument Span)
+    → Result (List Step) ArgFault
+added_by_kind source w key list kind.Call xs = added_keyword source w key list xs
+added_by_kind source w key list kind.Dictionary xs = added_entry source w key list xs
+added_by_kind source w key list kind.Array xs = Err (Refused (NotLiteral key))
+
+abbrev pub added_there : List ℕ → Written (Expression Nowhere) → (key : List ℕ) → CallRef → Option ListKind → List (Argument Span)
+    → Result (List Step) ArgFault
+added_there source w key list (Some k) xs = added_by_kind source w key list k xs
+added_there source w key list None xs = Err (Refused (NotLiteral key))
+
+abbrev pub added_to : List ℕ → Written (Expression Nowhere) → (key : List ℕ) → CallRef → Option (Expression Span) → Result (List Step) ArgFault
+added_to source w key list None = Err (NoSuchValue key)
+added_to source w key list (Some e) = added_there source w key list (list_kind e) (elements_in e)
+
+-- ---- the steps
+
+-- the key is the last of those that named the slot
+abbrev pub set_steps : Loaded → Given → Written (Expression Nowhere) → (key : List ℕ) → Slot → Result (List Step) ArgFault
+set_steps l g w key (slot.Element list n) = set_there g w key list n (element_child (project l) list n)
+set_steps l g w key (slot.Absent list k) = added_to (bytes_at list.file l.files) w k list (expression_at (project l) list)
+set_steps l g w key (slot.Whole c) = Err (Refused (NotLiteral key))
+
+-- what is absent stays so, and an assigned value or a list itself can't be deleted
+abbrev pub delete_steps : Slot → Result (List Step) ArgFault
+delete_steps (slot.Element list n) = Ok (step_in list (Remove list.path.steps n) ∷ [])
+delete_steps (slot.Absent list key) = Ok []
+delete_steps (slot.Whole c) = Err (Refused NotRemovable)
+
+-- the code's steps are those that are meant
+pub record AreMeant (meant : Result (List Step) ArgFault) (code : List ListStep) : Type 0 where
+  pub steps : List Step
+  pub is : meant ≡ Ok steps
+  pub bare : AreBare steps code

@@ -1,0 +1,120 @@
+-- What a search finds and what a slot is, in terms of the calls of a project and of what is at a place.
+use Rattle.std.specs.Prelude.{◌≡◌, ◌⊎◌, ℕ, suc, true, List, ◌∷◌, ◌++◌, take, drop, Option, Some, None, Ok}
+use Rattle.std.specs.List.{Contains}
+use Rattle.meson_lex.specs.declared.kinds.Span.{Span}
+use Rattle.meson_syntax.specs.Paths.{ListAt, list_at, nth}
+use Rattle.meson_syntax.specs.Tree.{Argument, Expression, Nowhere, Plain}
+use Rattle.meson_edit.specs.Edits.{Written, elements, with_elements, with_value}
+use Rattle.meson_calls.specs.declared.call.CallRef.{CallRef}
+use Rattle.meson_calls.specs.Calls.{Call, call_of, calls, first_literal, is}
+use Rattle.meson_calls.specs.Loading.{Loaded, project}
+use Rattle.meson_calls.specs.Notes.{an_assignment, notes}
+use Rattle.meson_calls.specs.Project.{Project, Placed, child, expression_at, placed}
+use Rattle.meson_steps.specs.Steps.{Step, all_stepped, changed_at}
+use Rattle.meson_places.specs.declared.name.Callee.{Callee}
+use Rattle.meson_places.specs.declared.name.PlaceName.TheVariants as name
+use Rattle.meson_places.specs.declared.name.Search.{Search}
+use Rattle.meson_places.specs.declared.slots.Slot.{Slot}
+use Rattle.meson_places.specs.declared.slots.Slot.TheVariants as slot
+use Rattle.meson_places.specs.declared.values.Given.{Given}
+use Rattle.meson_places.specs.Changes.{delete_steps, replaces_texts, set_steps, slot_value}
+use Rattle.meson_places.specs.Slots.{number_in, the_slot}
+use Rattle.meson_places.specs.Values.{keeps_kind}
+use Rattle.meson_places.specs.Names.{calls_callee, is_searched, searched_file, the_place}
+
+-- ---- calls
+
+-- an assignment with `=` to this variable has its value at the place
+pub record IsSetTo (p : Project Span) (variable : List ℕ) (c : CallRef) : Type 0 where
+  pub statement : CallRef
+  pub value : Expression Span
+  pub is_there : Contains (notes p) (placed statement (an_assignment variable true value))
+  pub is_place : child statement 0 ≡ c
+
+-- a call of the function is at the place, and its first argument without a name is this text, or this variable is set to it
+pub record IsNamedCall (p : Project Span) (f : Callee) (id : List ℕ) (c : CallRef) : Type 0 where
+  pub value : Expression Span
+  pub is_at : expression_at p c ≡ Some value
+  pub call : Call Span
+  pub is_call : call_of value ≡ Some call
+  pub is_one : calls_callee f call ≡ true
+  pub is_named : (is id (first_literal call) ≡ true) ⊎ IsSetTo p id c
+
+-- It is in the files that are searched, and each other call of the function in these files has another text.
+pub record IsOnlyCall (l : Loaded) (s : Search) (f : Callee) (id : List ℕ) (c : CallRef) : Type 0 where
+  pub within : Option ℕ
+  pub is_within : searched_file l.files s.folder ≡ Ok within
+  pub in_files : is_searched within c ≡ true
+  pub found : IsNamedCall (project l) f id c
+  pub only : (q : Placed (Call Span)) → Contains (calls (project l)) q → is_searched within q.place ≡ true → calls_callee f q.it ≡ true
+      → is id (first_literal q.it) ≡ true
+      → q.place ≡ c
+
+-- the law: what a search for a call finds is that one call
+abbrev pub FindsOneCall : Type 0
+FindsOneCall = (l : Loaded) (s : Search) (f : Callee) (id : List ℕ) → s.name ≡ name.Call f id → (c : CallRef) → the_place l s ≡ Ok c
+    → IsOnlyCall l s f id c
+
+-- ---- slots
+
+-- what a slot says is there: a value, or a call or a dictionary that does not have the key
+abbrev pub SlotIsThere : Project Span → Slot → Type 0
+SlotIsThere p (slot.Element list n) = (e : Expression Span) × (slot_value p (slot.Element list n) ≡ Some e)
+SlotIsThere p (slot.Absent list key) = (e : Expression Span) × (expression_at p list ≡ Some e) × (number_in key e ≡ Ok None)
+SlotIsThere p (slot.Whole c) = (e : Expression Span) × (expression_at p c ≡ Some e)
+
+-- the law: so it is of the slot that keys name
+abbrev pub SlotsAreThere : Type 0
+SlotsAreThere = (p : Project Span) (c : CallRef) (keys : List (List ℕ)) (s : Slot) → the_slot p c keys ≡ Ok s → SlotIsThere p s
+
+-- ---- values that are set
+
+-- The value of the n-th element of the list there is this one, and all else in the trees is as it was.
+pub record SlotIs (list : CallRef) (n : ℕ) (now : Expression Nowhere) (before after : List Plain) : Type 0 where
+  pub tree : Plain
+  pub is_tree : nth before list.file ≡ Some tree
+  pub place : ListAt Nowhere
+  pub is_place : list_at tree list.path.steps ≡ Some place
+  pub element : Argument Nowhere
+  pub is_element : nth (elements place.list) n ≡ Some element
+  pub is_after : changed_at list.file (λ t. Some (place.back (with_elements place.list (take n (elements place.list)
+      ++ with_value now element ∷ drop (suc n) (elements place.list))))) before
+      ≡ Some after
+
+-- the law: where a value keeps its kind, setting it sets that value and nothing else
+abbrev pub SetsOneValue : Type 0
+SetsOneValue = (l : Loaded) (g : Given) (w : Written (Expression Nowhere)) (key : List ℕ) (list : CallRef) (n : ℕ) (value : Expression Span)
+    → slot_value (project l) (slot.Element list n) ≡ Some value → keeps_kind g value ≡ true
+    → (steps : List Step) → set_steps l g w key (slot.Element list n) ≡ Ok steps
+    → (before after : List Plain) → all_stepped steps before ≡ Some after → SlotIs list n w.node before after
+
+-- a value is there, and the given one may replace it: it is of the same kind, or a text for an array of texts, or code
+pub record MaySet (l : Loaded) (g : Given) (list : CallRef) (n : ℕ) : Type 0 where
+  pub value : Expression Span
+  pub is_value : slot_value (project l) (slot.Element list n) ≡ Some value
+  pub kept : (keeps_kind g value ≡ true) ⊎ (replaces_texts g value ≡ true)
+
+-- the law: no other value is set
+abbrev pub KeepsKind : Type 0
+KeepsKind = (l : Loaded) (g : Given) (w : Written (Expression Nowhere)) (key : List ℕ) (list : CallRef) (n : ℕ) (steps : List Step)
+    → set_steps l g w key (slot.Element list n) ≡ Ok steps
+    → MaySet l g list n
+
+-- ---- elements that are deleted
+
+-- The n-th element of the list there is gone, and all else in the trees is as it was.
+pub record IsWithout (list : CallRef) (n : ℕ) (before after : List Plain) : Type 0 where
+  pub tree : Plain
+  pub is_tree : nth before list.file ≡ Some tree
+  pub place : ListAt Nowhere
+  pub is_place : list_at tree list.path.steps ≡ Some place
+  pub element : Argument Nowhere
+  pub is_element : nth (elements place.list) n ≡ Some element
+  pub is_after : changed_at list.file (λ t. Some (place.back (with_elements place.list (take n (elements place.list)
+      ++ drop (suc n) (elements place.list))))) before
+      ≡ Some after
+
+-- the law: deleting removes one argument, entry or element and nothing else
+abbrev pub DeletesOneElement : Type 0
+DeletesOneElement = (list : CallRef) (n : ℕ) (steps : List Step) → delete_steps (slot.Element list n) ≡ Ok steps
+    → (before after : List Plain) → all_stepped steps before ≡ Some after → IsWithout list n before after

@@ -1,0 +1,90 @@
+-- Values that are given in words, what is written for them, and which of them may replace a value.
+use Rattle.std.specs.Prelude.{ℕ, ◌==◌, Bool, true, false, not, ◌&&◌, List, [], ◌∷◌, map, bytes_eq, codes, if◌then◌else◌, is_some}
+use Rattle.std.specs.List.{list_all}
+use Rattle.std.specs.Str.{IsUtf8}
+use Rattle.meson_lex.specs.Bytes.{is_word_byte, is_word_start}
+use Rattle.meson_lex.specs.Kinds.{reserved, spelling}
+use Rattle.meson_lex.specs.Literals.{literal}
+use Rattle.meson_syntax.specs.Tree.{Argument, plain, Expression, boolean, array, Nowhere}
+use Rattle.meson_edit.specs.Edits.{Written}
+use Rattle.meson_calls.specs.Calls.{literal_of}
+use Rattle.meson_calls.specs.Roles.{one_of}
+use Rattle.meson_steps.specs.WrittenTexts.{string_of}
+use Rattle.meson_places.specs.declared.values.Given.{Given}
+use Rattle.meson_places.specs.declared.values.Given.TheVariants as given
+use Rattle.meson_places.specs.Code.{IsExpression}
+use Rattle.meson_places.specs.Slots.{elements_in}
+
+-- ---- words
+
+abbrev pub begins_colon : List ℕ → Bool
+begins_colon [] = false
+begins_colon (b ∷ bs) = b == 58
+
+abbrev pub after_first : List ℕ → List ℕ
+after_first [] = []
+after_first (b ∷ bs) = bs
+
+-- `:CODE` is that code, `true` and `false` are truth values, and any other word is the text
+abbrev pub meant_by : List ℕ → Given
+meant_by word =
+    if begins_colon word then given.Code (after_first word)
+    else (if bytes_eq word (codes "true") then given.Switch true else (if bytes_eq word (codes "false") then given.Switch false else given.Text word))
+
+-- code has to be an expression
+abbrev pub MayBeGiven : Given → Type 0
+MayBeGiven (given.Text text) = IsUtf8 text
+MayBeGiven (given.Switch b) = Unit {0}
+MayBeGiven (given.Code code) = IsExpression code
+
+-- ---- what is written
+
+abbrev pub switch_text : Bool → List ℕ
+switch_text b = if b then codes "true" else codes "false"
+
+abbrev pub given_bytes : Given → List ℕ
+given_bytes (given.Text text) = literal text
+given_bytes (given.Switch b) = switch_text b
+given_bytes (given.Code code) = code
+
+abbrev pub given_node : (g : Given) → MayBeGiven g → Expression Nowhere
+given_node (given.Text text) may = string_of text
+given_node (given.Switch b) may = boolean tt b
+given_node (given.Code code) may = may.node
+
+abbrev pub written_given : (g : Given) → MayBeGiven g → Written (Expression Nowhere)
+written_given g may = record { bytes = given_bytes g; node = given_node g may }
+
+-- ---- kinds
+
+abbrev pub is_boolean : {S : Type 0} → Expression S → Bool
+is_boolean (boolean s b) = true
+is_boolean _ = false
+
+-- A value keeps its kind: a text may replace a text, and a truth value a truth value. Code may replace any value.
+abbrev pub keeps_kind : {S : Type 0} → Given → Expression S → Bool
+keeps_kind (given.Text text) e = is_some (literal_of e)
+keeps_kind (given.Switch b) e = is_boolean e
+keeps_kind (given.Code code) e = true
+
+abbrev pub is_text : {S : Type 0} → Argument S → Bool
+is_text (plain e) = is_some (literal_of e)
+is_text _ = false
+
+abbrev pub is_array : {S : Type 0} → Expression S → Bool
+is_array (array l) = true
+is_array _ = false
+
+-- an array of texts
+abbrev pub are_texts : {S : Type 0} → Expression S → Bool
+are_texts e = is_array e && list_all is_text (elements_in e)
+
+-- ---- names of keyword arguments: Meson manual, Syntax, the grammar's id_expression
+
+-- a letter or `_`, and then letters, digits and `_`
+abbrev pub is_word : List ℕ → Bool
+is_word [] = false
+is_word (b ∷ bs) = is_word_start b && list_all is_word_byte bs
+
+abbrev pub is_identifier : List ℕ → Bool
+is_identifier text = is_word text && not (one_of (map spelling reserved) text)

@@ -1,0 +1,218 @@
+//! The steps that set a value where none is there: a keyword argument or an entry is added.
+
+ghost use Rattle.std.specs.Prelude.{◌≡◌, ◌++◌, ◌∷◌, [], IfOk};
+ghost use Rattle.meson_edit.specs.Edits.{Written};
+ghost use Rattle.meson_splice.specs.Files.{bytes_at};
+ghost use Rattle.meson_syntax.specs.Tree.{Argument, Expression, Nowhere};
+ghost use Rattle.meson_syntax.specs.View.{args_view};
+ghost use Rattle.meson_calls.specs.Loading.{AreParsed, project};
+ghost use Rattle.meson_calls.specs.Project.{expression_at};
+ghost use Rattle.meson_steps.specs.ListSteps.{AreBare};
+ghost use Rattle.meson_places.specs.Changes.{AreMeant, added_by_kind, added_entry, added_keyword, added_there, added_to, behind_all, keyword_behind};
+ghost use Rattle.meson_places.specs.Faults.{FaultAs};
+ghost use Rattle.meson_places.specs.Names.{loaded_in};
+ghost use Rattle.meson_places.specs.Values.{MayBeGiven, written_given};
+
+use crate::changes::push_edit;
+use crate::colon::colon_among;
+use crate::elements::{ListKind, list_kind};
+use crate::fault::ArgFault;
+use crate::name::Sources;
+use crate::slots::elements_in;
+use crate::values::{Given, given_bytes};
+use meson_calls::{CallRef, Refusal};
+use meson_lex::is_identifier;
+use meson_splice::{Bytes, Text};
+use meson_steps::literals::push_literal;
+use meson_steps::step::{ListEdit, ListStep};
+use meson_syntax::Arg;
+use std::alloc::{AllocError, Global};
+
+/// The steps that add an element at the end of a list with this number of elements.
+fn behind_all(
+    alloc: Global,
+    list: &CallRef,
+    many: usize,
+    new: Bytes,
+) -> Result<Vec<ListStep>, AllocError>
+    ensures { (w : Written (Argument Nowhere)) → w.bytes ≡ new → IfOk result (λ steps. AreBare (behind_all list.now many w ∷ []) steps.items) }
+{
+    let mut steps = Vec::new(alloc);
+    let edit = if many == 0 {
+        ListEdit::First(new)
+    } else {
+        ListEdit::After(many - 1, new)
+    };
+    push_edit(alloc, list, edit, &mut steps)?;
+    Ok(steps)
+}
+
+/// What is written for a key, a colon and a value.
+fn keyed(front: Vec<u8>, colon: &str, value: &Bytes) -> Result<Bytes, AllocError>
+    ensures { IfOk result (λ b. b ≡ front.items ++ (colon.now ++ value.now)) }
+{
+    let mut all = front;
+    all.extend_from_slice(colon.as_bytes())?;
+    all.extend_from_slice(value.get())?;
+    Ok(Bytes::of(all))
+}
+
+/// A call or a dictionary to which an element is added: its place, and its elements in their source.
+#[derive(Clone, Copy)]
+struct Receiver<'t> {
+    list: &'t CallRef,
+    source: &'t [u8],
+    elements: &'t [Arg],
+}
+
+/// The steps that add an argument whose name is this key.
+///
+/// # Errors
+/// Out of memory.
+fn keyword_behind(
+    alloc: Global,
+    receiver: Receiver<'_>,
+    given: &Given,
+    key: &Text,
+) -> Result<Vec<ListStep>, ArgFault>
+    ensures meant { (may : MayBeGiven given.now) → let w = written_given given.now may in let r = receiver.entry in
+        IfOk result (λ steps. AreMeant (keyword_behind r.source.now w key.now r.list.now (args_view r.source.now r.elements.now)) steps.items) }
+    ensures fault { (w : Written (Expression Nowhere)) → let r = receiver.entry in
+        FaultAs result (keyword_behind r.source.now w key.now r.list.now (args_view r.source.now r.elements.now)) }
+{
+    let value = given_bytes(alloc, given)?;
+    let mut front = Vec::new(alloc);
+    front.extend_from_slice(key.get().as_bytes())?;
+    let new = keyed(
+        front,
+        colon_among(receiver.source, receiver.elements),
+        &value,
+    )?;
+    Ok(behind_all(alloc, receiver.list, receiver.elements.len(), new)?)
+}
+
+/// The steps that add a keyword argument.
+///
+/// # Errors
+/// The key is not an identifier, or out of memory.
+fn keyword_steps(
+    alloc: Global,
+    receiver: Receiver<'_>,
+    given: &Given,
+    key: &Text,
+) -> Result<Vec<ListStep>, ArgFault>
+    ensures meant { (may : MayBeGiven given.now) → let w = written_given given.now may in let r = receiver.entry in
+        IfOk result (λ steps. AreMeant (added_keyword r.source.now w key.now r.list.now (args_view r.source.now r.elements.now)) steps.items) }
+    ensures fault { (w : Written (Expression Nowhere)) → let r = receiver.entry in
+        FaultAs result (added_keyword r.source.now w key.now r.list.now (args_view r.source.now r.elements.now)) }
+{
+    if !is_identifier(key.get()) {
+        return Err(ArgFault::Refused(Refusal::BadName));
+    }
+    keyword_behind(alloc, receiver, given, key)
+}
+
+/// The steps that add an entry.
+///
+/// # Errors
+/// Out of memory.
+fn entry_steps(
+    alloc: Global,
+    receiver: Receiver<'_>,
+    given: &Given,
+    key: &Text,
+) -> Result<Vec<ListStep>, ArgFault>
+    ensures meant { (may : MayBeGiven given.now) → let w = written_given given.now may in let r = receiver.entry in
+        IfOk result (λ steps. AreMeant (added_entry r.source.now w key.now r.list.now (args_view r.source.now r.elements.now)) steps.items) }
+    ensures fault { (w : Written (Expression Nowhere)) → let r = receiver.entry in
+        FaultAs result (added_entry r.source.now w key.now r.list.now (args_view r.source.now r.elements.now)) }
+{
+    let value = given_bytes(alloc, given)?;
+    let mut front = Vec::new(alloc);
+    push_literal(alloc, &mut front, key.get())?;
+    let new = keyed(
+        front,
+        colon_among(receiver.source, receiver.elements),
+        &value,
+    )?;
+    Ok(behind_all(alloc, receiver.list, receiver.elements.len(), new)?)
+}
+
+/// The steps that add an argument or an entry to a list of this kind.
+///
+/// # Errors
+/// It is the list of an array, the key of a keyword argument is not an identifier, or out of memory.
+fn added_by_kind(
+    alloc: Global,
+    receiver: Receiver<'_>,
+    kind: ListKind,
+    given: &Given,
+    key: &Text,
+) -> Result<Vec<ListStep>, ArgFault>
+    ensures meant { (may : MayBeGiven given.now) → let w = written_given given.now may in let r = receiver.entry in
+        IfOk result (λ steps. AreMeant (added_by_kind r.source.now w key.now r.list.now kind (args_view r.source.now r.elements.now)) steps.items) }
+    ensures fault { (w : Written (Expression Nowhere)) → let r = receiver.entry in
+        FaultAs result (added_by_kind r.source.now w key.now r.list.now kind (args_view r.source.now r.elements.now)) }
+{
+    match kind {
+        ListKind::Call => keyword_steps(alloc, receiver, given, key),
+        ListKind::Dictionary => entry_steps(alloc, receiver, given, key),
+        ListKind::Array => Err(ArgFault::Refused(Refusal::NotLiteral(key.clone()?))),
+    }
+}
+
+/// The same, if there is a list at all.
+///
+/// # Errors
+/// There is none, or the faults of `added_by_kind`.
+fn added_there(
+    alloc: Global,
+    receiver: Receiver<'_>,
+    kind: Option<ListKind>,
+    given: &Given,
+    key: &Text,
+) -> Result<Vec<ListStep>, ArgFault>
+    ensures meant { (may : MayBeGiven given.now) → let w = written_given given.now may in let r = receiver.entry in
+        IfOk result (λ steps. AreMeant (added_there r.source.now w key.now r.list.now kind (args_view r.source.now r.elements.now)) steps.items) }
+    ensures fault { (w : Written (Expression Nowhere)) → let r = receiver.entry in
+        FaultAs result (added_there r.source.now w key.now r.list.now kind (args_view r.source.now r.elements.now)) }
+{
+    match kind {
+        Some(kind) => added_by_kind(alloc, receiver, kind, given, key),
+        None => Err(ArgFault::Refused(Refusal::NotLiteral(key.clone()?))),
+    }
+}
+
+/// The steps that set a value at a key which the call or dictionary at a place does not have.
+///
+/// # Errors
+/// No call and no dictionary is there, the key of a keyword argument is not an identifier, or out of memory.
+pub(crate) fn added_to(
+    alloc: Global,
+    sources: Sources<'_>,
+    given: &Given,
+    key: &Text,
+    list: &CallRef,
+) -> Result<Vec<ListStep>, ArgFault>
+    requires { AreParsed sources.files.now sources.trees.now }
+    ensures meant { (may : MayBeGiven given.now) → let w = written_given given.now may in let l = loaded_in sources.entry in
+        IfOk result (λ steps. AreMeant (added_to (bytes_at list.now.file l.files) w key.now list.now (expression_at (project l) list.now)) steps.items) }
+    ensures fault { (w : Written (Expression Nowhere)) → let l = loaded_in sources.entry in
+        FaultAs result (added_to (bytes_at list.now.file l.files) w key.now list.now (expression_at (project l) list.now)) }
+{
+    if list.file >= sources.trees.len() {
+        return Err(ArgFault::NoSuchValue(key.clone()?));
+    }
+    match sources.trees[list.file].expr_at(&list.path) {
+        Some(value) => {
+            let source = sources.files.bytes(list.file);
+            let receiver = Receiver {
+                list,
+                source,
+                elements: elements_in(value),
+            };
+            added_there(alloc, receiver, list_kind(value), given, key)
+        }
+        None => Err(ArgFault::NoSuchValue(key.clone()?)),
+    }
+}

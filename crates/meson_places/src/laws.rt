@@ -1,0 +1,29 @@
+//! Laws of places. The functions do nothing: what they ensure is the law.
+
+ghost use Rattle.meson_places.specs.Laws.{DeletesOneElement, FindsOneCall, KeepsKind, SetsOneValue, SlotsAreThere};
+
+/// What a search for a call finds is a call of the function, which has the name or is assigned to the variable. It is in the files that are searched, and no
+/// other call of the function there has the name.
+pub fn finds_one_call()
+    ensures { FindsOneCall }
+{}
+
+/// The slot that keys name is there: its value, or a call or a dictionary that does not have the last key.
+pub fn slots_are_there()
+    ensures { SlotsAreThere }
+{}
+
+/// Setting a value that keeps its kind sets the value of that slot, and leaves all else in the trees.
+pub fn sets_one_value()
+    ensures { SetsOneValue }
+{}
+
+/// A value that is there is set only where the given one is of its kind, or a text for an array of texts, or code.
+pub fn keeps_kind()
+    ensures { KeepsKind }
+{}
+
+/// Deleting a slot removes that argument, entry or element, and leaves all else in the trees.
+pub fn deletes_one_element()
+    ensures { DeletesOneElement }
+{}

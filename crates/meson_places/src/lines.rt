@@ -1,0 +1,126 @@
+//! What begins on a line of a file.
+
+ghost use Rattle.std.specs.Prelude.{◌≡◌, ◌==◌, filter, length, IfOk, Ok};
+ghost use Rattle.meson_splice.specs.Files.{bytes_at};
+ghost use Rattle.std.specs.List.{list_all};
+ghost use Rattle.meson_calls.specs.Notes.{note_view};
+ghost use Rattle.meson_calls.specs.Refusals.{RefusedAs};
+ghost use Rattle.meson_places.specs.Names.{beginning_at, first_around, leads_into, line_of, offset_of, place_on};
+
+use meson_calls::note::{Note, What};
+use meson_calls::place::{child_place, copy_place, place_of};
+use meson_calls::{CallRef, Refusal};
+use meson_edit::span_of;
+use meson_splice::FileSet;
+use std::alloc::{AllocError, Global};
+
+/// The bytes of the file of a number; no bytes if there is no such file.
+fn file_bytes(files: &FileSet, file: usize) -> &[u8]
+    ensures { result.now ≡ bytes_at file files.now }
+{
+    if file < files.len() {
+        files.bytes(file)
+    } else {
+        &[]
+    }
+}
+
+/// The number of line feeds.
+fn line_feeds(bytes: &[u8]) -> usize
+    ensures { result ≡ length (filter (λ b. b == 10) bytes.now) }
+{
+    bytes.iter().filter(|b| **b == b'\n').count()
+}
+
+/// The number of the line of the byte at an offset, counted from 1.
+fn line_of(bytes: &[u8], at: usize) -> usize
+    ensures { result ≡ line_of bytes.now at }
+{
+    let to = at.min(bytes.len());
+    line_feeds(&bytes[..to]) + 1
+}
+
+/// The offset of the opening bracket of a call, or that of the value of an assignment.
+fn offset_of(note: &Note<'_, '_>) -> Option<usize>
+    ensures { result ≡ offset_of (note_view note.now).it }
+{
+    match note.what {
+        What::Call { arguments, .. } => Some(arguments.span.from),
+        What::Assign { value, .. } => Some(span_of(value).from),
+        What::Loop { .. } => None,
+    }
+}
+
+/// The place of a call, or of the value of an assignment.
+fn beginning_at(alloc: Global, note: &Note<'_, '_>) -> Result<CallRef, AllocError>
+    ensures { IfOk result (λ place. place ≡ beginning_at (note_view note.now).it (note_view note.now).place) }
+{
+    match note.what {
+        What::Assign { .. } => child_place(alloc, note.place, 0),
+        _ => place_of(alloc, note.place.file, note.place.path),
+    }
+}
+
+/// The place of what a note is about, if it begins on this line of the file of this number.
+pub(crate) fn place_on(
+    alloc: Global,
+    files: &FileSet,
+    file: usize,
+    line: usize,
+    note: &Note<'_, '_>,
+) -> Result<Option<CallRef>, AllocError>
+    ensures { IfOk result (λ place. place ≡ place_on files.now file line (note_view note.now)) }
+{
+    if note.place.file != file {
+        return Ok(None);
+    }
+    let Some(at) = offset_of(note) else {
+        return Ok(None);
+    };
+    if line_of(file_bytes(files, file), at) != line {
+        return Ok(None);
+    }
+    Ok(Some(beginning_at(alloc, note)?))
+}
+
+/// Whether a path leads to what is at another path, or into it.
+fn leads_into(path: &[usize], outer: &[usize]) -> bool
+    ensures { result ≡ leads_into path.now outer.now }
+{
+    match outer {
+        [] => true,
+        [number, outer @ ..] => match path {
+            [] => false,
+            [step, path @ ..] => step == number && leads_into(path, outer),
+        },
+    }
+}
+
+/// Whether all these places of one file are in the first one.
+fn are_in(first: &CallRef, places: &[CallRef]) -> bool
+    ensures { result ≡ list_all (λ c. leads_into c.path.steps first.now.path.steps) places.now }
+{
+    let outer = first.path.steps.get();
+    places
+        .iter()
+        .all(|place| leads_into(place.path.steps.get(), outer))
+}
+
+/// The first of some places of one file, if all others are in it.
+///
+/// # Errors
+/// There is no place, or another one is not in the first; or out of memory.
+pub(crate) fn first_around(alloc: Global, places: &[CallRef]) -> Result<CallRef, Refusal>
+    ensures found { IfOk result (λ place. first_around places.now ≡ Ok place) }
+    ensures refused { RefusedAs result (first_around places.now) }
+{
+    match places {
+        [] => Err(Refusal::NotFound),
+        [first, more @ ..] => {
+            if !are_in(first, more) {
+                return Err(Refusal::Ambiguous);
+            }
+            Ok(copy_place(alloc, first)?)
+        }
+    }
+}
