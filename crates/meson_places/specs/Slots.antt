@@ -118,7 +118,7 @@ child_of before (plain e) = record { number = before; value = e }
 child_of before (named s x e) = record { number = before; value = e }
 child_of before (pair s k v) = record { number = before + 1; value = v }
 
--- of the n-th element, where so many children are before the first one's
+-- of the n-th element, after the children that come before the first one
 abbrev pub nth_child : {S : Type 0} → (before : ℕ) → List (Argument S) → ℕ → Option (Child S)
 nth_child before [] n = None
 nth_child before (x ∷ xs) zero = Some (child_of before x)
