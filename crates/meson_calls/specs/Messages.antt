@@ -23,6 +23,10 @@ refusal_words refusal.BadName = codes "C6 bad name"
 refusal_words refusal.HiddenKeywords = codes "C7 hidden keywords"
 refusal_words (refusal.DuplicateKeyword name) = codes "C8 duplicate keyword: "
 refusal_words (refusal.NotLiteral name) = codes "C9 not literal: "
+refusal_words (refusal.Shared name) = codes "C20 shared: "
+refusal_words (refusal.OtherKind key) = codes "C21 other kind: "
+refusal_words refusal.ThereAlready = codes "C22 there already"
+refusal_words (refusal.NoSuchValue key) = codes "C23 no such value: "
 refusal_words refusal.SourceNotFound = codes "C10 source not found"
 refusal_words refusal.Unresolved = codes "C11 unresolved"
 refusal_words refusal.NotRemovable = codes "C12 not removable"
@@ -38,6 +42,9 @@ refusal_words refusal.OutOfMemory = codes "out of memory"
 abbrev pub refusal_name : Refusal → List ℕ
 refusal_name (refusal.DuplicateKeyword name) = name
 refusal_name (refusal.NotLiteral name) = name
+refusal_name (refusal.Shared name) = name
+refusal_name (refusal.OtherKind key) = key
+refusal_name (refusal.NoSuchValue key) = key
 refusal_name (refusal.InUse name) = name
 refusal_name _ = []
 

@@ -26,6 +26,14 @@ pub enum Refusal {
     DuplicateKeyword(Text),
     /// The value of this name is not a literal that can be changed.
     NotLiteral(Text),
+    /// The value stands in the variable of this name, which something else reads too.
+    Shared(Text),
+    /// A word would replace a value of another kind, which has this key.
+    OtherKind(Text),
+    /// The new value is there already.
+    ThereAlready,
+    /// No argument, entry or element has this key or number, or none has this value.
+    NoSuchValue(Text),
     /// The source is not one of the target's.
     SourceNotFound,
     /// It is not among the known ones, and some are not known.
@@ -66,6 +74,10 @@ impl Refusal {
             Refusal::HiddenKeywords => "C7 hidden keywords",
             Refusal::DuplicateKeyword(_) => "C8 duplicate keyword: ",
             Refusal::NotLiteral(_) => "C9 not literal: ",
+            Refusal::Shared(_) => "C20 shared: ",
+            Refusal::OtherKind(_) => "C21 other kind: ",
+            Refusal::ThereAlready => "C22 there already",
+            Refusal::NoSuchValue(_) => "C23 no such value: ",
             Refusal::SourceNotFound => "C10 source not found",
             Refusal::Unresolved => "C11 unresolved",
             Refusal::NotRemovable => "C12 not removable",
@@ -84,9 +96,12 @@ impl Refusal {
         ensures { result.now ≡ refusal_name self.now }
     {
         match self {
-            Refusal::DuplicateKeyword(name) | Refusal::NotLiteral(name) | Refusal::InUse(name) => {
-                name.get()
-            }
+            Refusal::DuplicateKeyword(name)
+            | Refusal::NotLiteral(name)
+            | Refusal::Shared(name)
+            | Refusal::OtherKind(name)
+            | Refusal::NoSuchValue(name)
+            | Refusal::InUse(name) => name.get(),
             _ => "",
         }
     }

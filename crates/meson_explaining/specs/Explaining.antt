@@ -145,16 +145,28 @@ abbrev pub not_statement : Loaded → Command → Explanation
 not_statement l c =
     calls_there l c 1 (codes ", inside a larger expression") (codes "further calls that the id names") (codes "set a variable to it alone, or remove it by hand")
 
--- ---- a limit
+-- ---- one sentence
 
-abbrev pub limit : List ℕ → List ℕ → Explanation
-limit note help = record { notes = plain_note note ∷ []; help = help ∷ [] }
+abbrev pub stated : List ℕ → List ℕ → Explanation
+stated note help = record { notes = plain_note note ∷ []; help = help ∷ [] }
 
 abbrev pub too_deep : Explanation
-too_deep = limit (codes "at most 64 constructs may be inside one another") (codes "use a variable for what is inside")
+too_deep = stated (codes "at most 64 constructs may be inside one another") (codes "use a variable for what is inside")
 
 abbrev pub too_large : Explanation
-too_large = limit (codes "a build file has at most 1048576 bytes") (codes "split the file by subdir")
+too_large = stated (codes "a build file has at most 1048576 bytes") (codes "split the file by subdir")
+
+abbrev pub shared : Explanation
+shared = stated (codes "something else reads this variable too") (codes "change it for all with arg and variable as the FUNCTION, or give the value as code")
+
+abbrev pub other_kind : Explanation
+other_kind = stated (codes "a word replaces a value of its own kind alone") (codes "give the value as code, a word that begins with a colon")
+
+abbrev pub there_already : Explanation
+there_already = stated (codes "the new value is an element or a source already") (codes "remove the old one in place of renaming it")
+
+abbrev pub no_such_value : Explanation
+no_such_value = stated (codes "nothing there has this key, number or value") (codes "arg info lists keys and values")
 
 -- ---- each refusal
 
@@ -168,6 +180,10 @@ explanation l c refusal.BadName = not_valid c
 explanation l c refusal.HiddenKeywords = hidden l c
 explanation l c (refusal.DuplicateKeyword key) = duplicate l c key
 explanation l c (refusal.NotLiteral key) = not_literal l c key
+explanation l c (refusal.Shared name) = shared
+explanation l c (refusal.OtherKind key) = other_kind
+explanation l c refusal.ThereAlready = there_already
+explanation l c (refusal.NoSuchValue key) = no_such_value
 explanation l c refusal.SourceNotFound = not_there l c
 explanation l c refusal.Unresolved = unresolved l c
 explanation l c refusal.NotRemovable = not_removable l c

@@ -10,8 +10,8 @@ use crate::explanation::{Explanation, Note};
 use crate::keys::{keys, nearest_key, unknown_notes, wrong_notes};
 use crate::nearest::near_notes;
 use crate::reasons::{
-    duplicate, hidden, in_use, name_taken, no_file, no_project, not_removable, not_statement,
-    not_valid, too_deep, too_large, unresolved,
+    duplicate, hidden, in_use, name_taken, no_file, no_project, no_such_value, not_removable,
+    not_statement, not_valid, other_kind, shared, there_already, too_deep, too_large, unresolved,
 };
 use crate::sources::{extras_at, source_notes, sources_at};
 use crate::subject::{Subject, subject_of};
@@ -286,6 +286,10 @@ pub fn explain(
         Refusal::HiddenKeywords => hidden(alloc, project, command),
         Refusal::DuplicateKeyword(key) => duplicate(alloc, project, command, key.get()),
         Refusal::NotLiteral(key) => not_literal(alloc, project, command, key.get()),
+        Refusal::Shared(_) => shared(alloc),
+        Refusal::OtherKind(_) => other_kind(alloc),
+        Refusal::ThereAlready => there_already(alloc),
+        Refusal::NoSuchValue(_) => no_such_value(alloc),
         Refusal::SourceNotFound => not_there(alloc, project, command),
         Refusal::Unresolved => unresolved(alloc, project, command),
         Refusal::NotRemovable => not_removable(alloc, project, command),

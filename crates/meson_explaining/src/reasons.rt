@@ -1,8 +1,9 @@
 //! Why a command is refused, where that is not about the id or about the key.
 
 ghost use Rattle.std.specs.Prelude.{◌≡◌, IfOk};
-ghost use Rattle.meson_explaining.specs.Explaining.{calls_there, keyword_there, limit, no_project, not_valid};
+ghost use Rattle.meson_explaining.specs.Explaining.{calls_there, keyword_there, no_project, not_valid, stated};
 ghost use Rattle.meson_explaining.specs.Explaining.{duplicate, hidden, name_taken, not_statement, too_deep, too_large};
+ghost use Rattle.meson_explaining.specs.Explaining.{no_such_value, other_kind, shared, there_already};
 ghost use Rattle.meson_explaining.specs.Removals.{not_removable, unresolved};
 ghost use Rattle.meson_explaining.specs.Targets.{in_use, no_file};
 
@@ -255,9 +256,9 @@ pub(crate) fn unresolved(
     }
 }
 
-/// A limit, and how to keep it.
-fn limit(alloc: Global, note: &str, help: &str) -> Result<Explanation, AllocError>
-    ensures { IfOk result (λ e. e ≡ limit note.now help.now) }
+/// One sentence, and what may be done.
+fn stated(alloc: Global, note: &str, help: &str) -> Result<Explanation, AllocError>
+    ensures { IfOk result (λ e. e ≡ stated note.now help.now) }
 {
     let notes = one_note(alloc, String::from_str(alloc, note)?)?;
     with_help(alloc, notes, help)
@@ -267,7 +268,7 @@ fn limit(alloc: Global, note: &str, help: &str) -> Result<Explanation, AllocErro
 pub(crate) fn too_deep(alloc: Global) -> Result<Explanation, AllocError>
     ensures { IfOk result (λ e. e ≡ too_deep) }
 {
-    limit(
+    stated(
         alloc,
         "at most 64 constructs may be inside one another",
         "use a variable for what is inside",
@@ -278,9 +279,53 @@ pub(crate) fn too_deep(alloc: Global) -> Result<Explanation, AllocError>
 pub(crate) fn too_large(alloc: Global) -> Result<Explanation, AllocError>
     ensures { IfOk result (λ e. e ≡ too_large) }
 {
-    limit(
+    stated(
         alloc,
         "a build file has at most 1048576 bytes",
         "split the file by subdir",
+    )
+}
+
+/// A variable that something else reads too.
+pub(crate) fn shared(alloc: Global) -> Result<Explanation, AllocError>
+    ensures { IfOk result (λ e. e ≡ shared) }
+{
+    stated(
+        alloc,
+        "something else reads this variable too",
+        "change it for all with arg and variable as the FUNCTION, or give the value as code",
+    )
+}
+
+/// A value of another kind.
+pub(crate) fn other_kind(alloc: Global) -> Result<Explanation, AllocError>
+    ensures { IfOk result (λ e. e ≡ other_kind) }
+{
+    stated(
+        alloc,
+        "a word replaces a value of its own kind alone",
+        "give the value as code, a word that begins with a colon",
+    )
+}
+
+/// A value that is there.
+pub(crate) fn there_already(alloc: Global) -> Result<Explanation, AllocError>
+    ensures { IfOk result (λ e. e ≡ there_already) }
+{
+    stated(
+        alloc,
+        "the new value is an element or a source already",
+        "remove the old one in place of renaming it",
+    )
+}
+
+/// A key, number or value that is not there.
+pub(crate) fn no_such_value(alloc: Global) -> Result<Explanation, AllocError>
+    ensures { IfOk result (λ e. e ≡ no_such_value) }
+{
+    stated(
+        alloc,
+        "nothing there has this key, number or value",
+        "arg info lists keys and values",
     )
 }

@@ -115,6 +115,9 @@ refusal_subject (refusal.UnknownKey name) subject = Some name
 refusal_subject (refusal.WrongKind name) subject = Some name
 refusal_subject (refusal.DuplicateKeyword name) subject = Some name
 refusal_subject (refusal.NotLiteral name) subject = Some name
+refusal_subject (refusal.Shared name) subject = Some name
+refusal_subject (refusal.OtherKind key) subject = Some key
+refusal_subject (refusal.NoSuchValue key) subject = Some key
 refusal_subject (refusal.InUse name) subject = Some name
 refusal_subject _ subject = subject
 

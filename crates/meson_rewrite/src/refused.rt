@@ -55,6 +55,9 @@ fn refusal_subject<'s>(refusal: &'s Refusal, subject: &'s Option<Text>) -> Optio
         | Refusal::WrongKind(name)
         | Refusal::DuplicateKeyword(name)
         | Refusal::NotLiteral(name)
+        | Refusal::Shared(name)
+        | Refusal::OtherKind(name)
+        | Refusal::NoSuchValue(name)
         | Refusal::InUse(name) => Some(name.get()),
         _ => match subject {
             Some(name) => Some(name.get()),
