@@ -15,7 +15,8 @@ pub mod Unread
 pub mod LogName
 pub mod LogLeft
 mod Statuses
-mod CommandSubjects
+mod CommandNumbers
+mod ToldPlain
 pub mod SubjectWords
 pub mod Checking
 pub mod CheckedUndos

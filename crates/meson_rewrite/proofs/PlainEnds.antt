@@ -21,7 +21,7 @@ use Rattle.meson_splice.specs.declared.history.History.{History}
 use Rattle.meson_splice.specs.Past.{redone, undone}
 use Rattle.meson_steps.specs.declared.command.Command.{Command}
 use Rattle.meson_store.specs.Seen.{Seen}
-use Rattle.meson_rewrite.specs.Advising.{not_asked}
+use Rattle.meson_rewrite.proofs.ToldPlain.{told-plain}
 use Rattle.meson_rewrite.specs.AdviceLaws.{ExplainedEndsAsPlain, LinesArePlain, MembersArePlain, StatusIsPlain, end_unexplained, plain_flags, unexplained}
 use Rattle.meson_rewrite.specs.Codes.{refusal_code}
 use Rattle.meson_rewrite.specs.Lines.{line, stop_lines, stop_text}
@@ -70,7 +70,7 @@ memory-plain _ m = m
 
 run-plain : (flags : Flags) (old : Session) (commands : List Command) (stop : Stop) → StopsRun flags old commands stop
     → StopsRun (plain_flags flags) old commands (unexplained stop)
-run-plain flags old commands (Refused fault subject advice_) (may, is, advised) = (may, is, not_asked refl)
+run-plain flags old commands (Refused fault subject advice_) (may, told) = (may, told-plain flags old.project commands fault subject advice_ told)
 run-plain flags old commands _ h = absurd h
 
 step-plain : (old : Session) (step : Result (History × List File) SpliceFault) (stop : Stop) → StopsStep old step stop → StopsStep old step (unexplained stop)

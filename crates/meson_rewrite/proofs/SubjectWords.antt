@@ -1,11 +1,14 @@
--- The subject of a refused command is a word of it.
-use Rattle.std.proofs.Common.{◌≡◌, ℕ, zero, suc, List, [], ◌∷◌, map, None, Some, inl, inr, arith}
+-- The name that a refusal means is a word of its command.
+use Rattle.std.proofs.Common.{◌≡◌, ℕ, Bool, true, false, List, [], ◌∷◌, ◌×◌, cond, find, map, option_map, Option, None, Some, inl, inr}
 use Rattle.meson_calls.specs.declared.refusal.Refusal.{Refusal}
 use Rattle.meson_calls.specs.declared.refusal.Refusal.TheVariants as refusal
+use Rattle.meson_calls.specs.Loading.{Loaded}
+use Rattle.meson_explaining.specs.Names.{bad_name, find_key, is_bad_option, is_bad_pair, is_empty_name, meant_name, missing_name}
+use Rattle.meson_explaining.specs.Sources.{extras_at, is_missing, sources_at}
 use Rattle.meson_steps.specs.declared.command.Command.{Command}
 use Rattle.meson_steps.specs.declared.command.Command.TheVariants.{SourcesAdd, SourcesRemove, ExtraAdd, ExtraRemove, TargetAdd, TargetRemove, TargetInfo, KwargsSet, KwargsAdd, KwargsRemove, KwargsDelete, KwargsInfo, OptionsSet, OptionsDelete}
 use Rattle.meson_rewrite.specs.RefusalLaws.{IsAmong, SubjectsAreWords, words_of}
-use Rattle.meson_rewrite.specs.Subjects.{folder_of, id_of, only, only_key, only_name, subject_in}
+use Rattle.meson_rewrite.specs.Subjects.{folder_of, id_of, subject_of}
 
 some-same : {X : Type 0} (x y : X) → Some x ≡ Some y → x ≡ y
 some-same x y e = cc
@@ -13,18 +16,21 @@ some-same x y e = cc
 not-none : (X : Type 0) (x : X) → None ≡ Some x → ⊥
 not-none X x e = cc
 
--- ---- one command
-
 module _ (name : List ℕ) where
-  only_among : (names : List (List ℕ)) → only names ≡ Some name → IsAmong names name
-  only_among [] e = absurd (not-none (List ℕ) name e)
-  only_among (x ∷ []) e = inl (some-same x name e)
-  only_among (x ∷ y ∷ more) e = absurd (not-none (List ℕ) name e)
+  -- the first name that passes a test is one of them
+  found_among : (test : List ℕ → Bool) (names : List (List ℕ)) → find test names ≡ Some name → IsAmong names name
+  found_among test [] e = absurd (not-none (List ℕ) name e)
+  found_among test (x ∷ names) e = go (test x) e where
+    go : (b : Bool) → cond b (Some x) (find test names) ≡ Some name → IsAmong (x ∷ names) name
+    go true e = inl (some-same x name e)
+    go false e = inr (found_among test names e)
 
-  key_among : {X : Type 0} (pairs : List (List ℕ × X)) → only_key pairs ≡ Some name → IsAmong (map (λ p. p.0) pairs) name
-  key_among [] e = absurd (not-none (List ℕ) name e)
-  key_among (p ∷ []) e = inl (some-same p.0 name e)
-  key_among (p ∷ q ∷ more) e = absurd (not-none (List ℕ) name e)
+  key_among : {X : Type 0} (test : List ℕ × X → Bool) (pairs : List (List ℕ × X)) → find_key test pairs ≡ Some name → IsAmong (map (λ p. p.0) pairs) name
+  key_among test [] e = absurd (not-none (List ℕ) name e)
+  key_among {X} test (p ∷ pairs) e = go (test p) e where
+    go : (b : Bool) → option_map (λ p. p.0) (cond b (Some p) (find test pairs)) ≡ Some name → IsAmong (p.0 ∷ map (λ p. p.0) pairs) name
+    go true e = inl (some-same p.0 name e)
+    go false e = inr (key_among test pairs e)
 
   id_among : (c : Command) → id_of c ≡ Some name → IsAmong (words_of c) name
   id_among (SourcesAdd target sources) e = inl (some-same target name e)
@@ -42,45 +48,43 @@ module _ (name : List ℕ) where
   id_among (OptionsSet pairs) e = absurd (not-none (List ℕ) name e)
   id_among (OptionsDelete names) e = absurd (not-none (List ℕ) name e)
 
-  new_among : (target subdir : List ℕ) (sources : List (List ℕ)) → only (target ∷ sources) ≡ Some name → IsAmong (target ∷ subdir ∷ sources) name
-  new_among target subdir [] e = inl (some-same target name e)
-  new_among target subdir (s ∷ more) e = absurd (not-none (List ℕ) name e)
+  new_among : (target subdir : List ℕ) (sources : List (List ℕ)) → find is_empty_name (target ∷ sources) ≡ Some name
+      → IsAmong (target ∷ subdir ∷ sources) name
+  new_among target subdir sources e = go (found_among is_empty_name (target ∷ sources) e) where
+    go : IsAmong (target ∷ sources) name → IsAmong (target ∷ subdir ∷ sources) name
+    go (inl is) = inl is
+    go (inr more) = inr (inr more)
 
-  name_among : (c : Command) → only_name c ≡ Some name → IsAmong (words_of c) name
-  name_among (SourcesAdd target sources) e = inr (only_among sources e)
-  name_among (SourcesRemove target sources) e = inr (only_among sources e)
-  name_among (ExtraAdd target sources) e = inr (only_among sources e)
-  name_among (ExtraRemove target sources) e = inr (only_among sources e)
-  name_among (TargetAdd target kind subdir sources) e = new_among target subdir sources e
-  name_among (TargetRemove target) e = absurd (not-none (List ℕ) name e)
-  name_among (TargetInfo target) e = absurd (not-none (List ℕ) name e)
-  name_among (KwargsSet role id pairs) e = inr (key_among pairs e)
-  name_among (KwargsAdd role id pairs) e = inr (key_among pairs e)
-  name_among (KwargsRemove role id pairs) e = inr (key_among pairs e)
-  name_among (KwargsDelete role id keys) e = inr (only_among keys e)
-  name_among (KwargsInfo role id) e = absurd (not-none (List ℕ) name e)
-  name_among (OptionsSet pairs) e = key_among pairs e
-  name_among (OptionsDelete names) e = only_among names e
+  bad_among : (c : Command) → bad_name c ≡ Some name → IsAmong (words_of c) name
+  bad_among (SourcesAdd target sources) e = inr (found_among is_empty_name sources e)
+  bad_among (SourcesRemove target sources) e = inr (found_among is_empty_name sources e)
+  bad_among (ExtraAdd target sources) e = inr (found_among is_empty_name sources e)
+  bad_among (ExtraRemove target sources) e = inr (found_among is_empty_name sources e)
+  bad_among (TargetAdd target kind subdir sources) e = new_among target subdir sources e
+  bad_among (KwargsSet role id pairs) e = inr (key_among (is_bad_pair role) pairs e)
+  bad_among (KwargsAdd role id pairs) e = inr (key_among (is_bad_pair role) pairs e)
+  bad_among (KwargsRemove role id pairs) e = inr (key_among (is_bad_pair role) pairs e)
+  bad_among (OptionsSet pairs) e = key_among (λ p. is_bad_option p.0) pairs e
+  bad_among (OptionsDelete names) e = found_among is_bad_option names e
+  bad_among _ e = absurd (not-none (List ℕ) name e)
+
+  missing_among : (found : Loaded) (c : Command) → missing_name found c ≡ Some name → IsAmong (words_of c) name
+  missing_among found (SourcesRemove target sources) e = inr (found_among (is_missing (sources_at found target)) sources e)
+  missing_among found (ExtraRemove target sources) e = inr (found_among (is_missing (extras_at found target)) sources e)
+  missing_among found _ e = absurd (not-none (List ℕ) name e)
 
   folder_among : (c : Command) → folder_of c ≡ Some name → IsAmong (words_of c) name
   folder_among (TargetAdd target kind subdir sources) e = inr (inl (some-same subdir name e))
   folder_among _ e = absurd (not-none (List ℕ) name e)
 
-  subject_among : (c : Command) (why : Refusal) → subject_in c why ≡ Some name → IsAmong (words_of c) name
-  subject_among c refusal.NotFound e = id_among c e
-  subject_among c refusal.Ambiguous e = id_among c e
-  subject_among c refusal.BadName e = name_among c e
-  subject_among c refusal.SourceNotFound e = name_among c e
-  subject_among c refusal.Unresolved e = name_among c e
-  subject_among c refusal.NameTaken e = id_among c e
-  subject_among c refusal.NoFile e = folder_among c e
-  subject_among c _ e = absurd (not-none (List ℕ) name e)
-
--- ---- the command of a number
+-- ---- by the reason
 
 pub subjects_are_words : SubjectsAreWords
-subjects_are_words [] index why name e = absurd (not-none (List ℕ) name e)
-subjects_are_words (c ∷ commands) zero why name e = (omega (arith), λ other. subject_among name c why e)
-subjects_are_words (c ∷ commands) (suc index) why name e =
-    let more = subjects_are_words commands index why name e in
-    (omega (arith, more.0), λ other. more.1 other)
+subjects_are_words found c refusal.NotFound name e = id_among name c e
+subjects_are_words found c refusal.Ambiguous name e = id_among name c e
+subjects_are_words found c refusal.NameTaken name e = id_among name c e
+subjects_are_words found c refusal.NoFile name e = folder_among name c e
+subjects_are_words found c refusal.BadName name e = bad_among name c e
+subjects_are_words found c refusal.SourceNotFound name e = missing_among name found c e
+subjects_are_words found c refusal.Unresolved name e = missing_among name found c e
+subjects_are_words found c _ name e = absurd (not-none (List ℕ) name e)

@@ -1,8 +1,9 @@
--- What explains a refused command, where the words ask for it.
-use Rattle.std.specs.Prelude.{◌≡◌, ◌≢◌, ℕ, zero, suc, Bool, true, false, List, [], ◌∷◌, map, take, Option, Some, None}
+-- What is said of a refused command beside its line.
+use Rattle.std.specs.Prelude.{◌≡◌, ℕ, zero, suc, Bool, true, false, List, [], ◌∷◌, map, take, Option, Some, None}
 use Rattle.serde_json.specs.Data.{Data}
 use Rattle.meson_splice.specs.declared.file_set.File.{File}
 use Rattle.meson_splice.specs.declared.splice.Splice.{Splice}
+use Rattle.meson_calls.specs.declared.refusal.Refusal.{Refusal}
 use Rattle.meson_calls.specs.declared.refusal.Refusal.TheVariants.{OutOfMemory}
 use Rattle.meson_calls.specs.Loading.{Loaded}
 use Rattle.meson_command.specs.declared.asked.Flags.{Flags}
@@ -37,22 +38,27 @@ command_at [] index = None
 command_at (c ∷ commands) zero = Some c
 command_at (c ∷ commands) (suc index) = command_at commands index
 
--- by what the project holds as the command of that number finds it
-pub data IsExplained (json : Bool) (old : Loaded) (commands : List Command) (fault : RunFault) : Advice → Type 0 where
-  no_command : command_at commands fault.index ≡ None → IsExplained json old commands fault Nothing
-  explained : (command : Command) → command_at commands fault.index ≡ Some command
-      → (found : Loaded) → Leaves old (take fault.index commands) found
-      → IsExplained json old commands fault (advice_of json found.files (explanation found command fault.refusal))
+-- the name that is meant, where the answer is an object
+abbrev pub subject_for : Flags → Loaded → Command → Refusal → Option (List ℕ)
+subject_for flags found c why = if flags.json then subject_of found c why else None
 
--- Nothing is said of memory that ran out, nor where the words do not ask for it.
-pub data IsAdvised (flags : Flags) (old : Loaded) (commands : List Command) (fault : RunFault) : Advice → Type 0 where
-  not_asked : flags.explain ≡ false → IsAdvised flags old commands fault Nothing
-  no_memory : fault.refusal ≡ OutOfMemory → IsAdvised flags old commands fault Nothing
-  asked : (advice : Advice) → flags.explain ≡ true → fault.refusal ≢ OutOfMemory → IsExplained flags.json old commands fault advice
-      → IsAdvised flags old commands fault advice
+-- what explains it, where the words ask for that
+abbrev pub advice_for : Flags → Loaded → Command → Refusal → Advice
+advice_for flags found c why = if flags.explain then advice_of flags.json found.files (explanation found c why) else Nothing
+
+-- What is said beside the line: by what the project holds as the command of that number finds it. Nothing is said of memory that ran out, nor where the words
+-- ask for no more than the line.
+pub data IsTold (flags : Flags) (old : Loaded) (commands : List Command) (fault : RunFault) : Option (List ℕ) → Advice → Type 0 where
+  not_asked : flags.json ≡ false → flags.explain ≡ false → IsTold flags old commands fault None Nothing
+  no_memory : fault.refusal ≡ OutOfMemory → IsTold flags old commands fault None Nothing
+  no_command : command_at commands fault.index ≡ None → IsTold flags old commands fault None Nothing
+  told : (command : Command) → command_at commands fault.index ≡ Some command
+      → (found : Loaded) → Leaves old (take fault.index commands) found
+      → IsTold flags old commands fault (subject_for flags found command fault.refusal) (advice_for flags found command fault.refusal)
 
 -- for private clauses: why a run stops at a command
 pub record IsRefusal (flags : Flags) (old : Loaded) (commands : List Command) (fault : RunFault) (stop : Stop) : Type 0 where
+  pub subject : Option (List ℕ)
   pub advice : Advice
-  pub is : stop ≡ Refused fault (subject_of commands fault.index fault.refusal) advice
-  pub advised : IsAdvised flags old commands fault advice
+  pub is : stop ≡ Refused fault subject advice
+  pub told : IsTold flags old commands fault subject advice

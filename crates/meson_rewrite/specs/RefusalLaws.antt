@@ -1,8 +1,9 @@
 -- What is promised of the object of a refusal, in the words of its line.
-use Rattle.std.specs.Prelude.{◌≡◌, ◌<◌, ◌⊎◌, ℕ, false, List, [], ◌∷◌, ◌++◌, ◌==◌, codes, decimal, length, map, slice_index_or, Option, None, Some}
+use Rattle.std.specs.Prelude.{◌≡◌, ◌⊎◌, ℕ, false, List, [], ◌∷◌, ◌++◌, ◌==◌, codes, decimal, map, Option, None, Some}
 use Rattle.std.specs.List.{list_any}
 use Rattle.serde_json.specs.Data.{object, string}
 use Rattle.serde_json.specs.Find.{get}
+use Rattle.meson_calls.specs.Loading.{Loaded}
 use Rattle.meson_calls.specs.declared.refusal.Refusal.{Refusal}
 use Rattle.meson_steps.specs.declared.command.Command.{Command}
 use Rattle.meson_steps.specs.declared.command.Command.TheVariants.{SourcesAdd, SourcesRemove, ExtraAdd, ExtraRemove, TargetAdd, TargetRemove, TargetInfo, KwargsSet, KwargsAdd, KwargsRemove, KwargsDelete, KwargsInfo, OptionsSet, OptionsDelete}
@@ -58,7 +59,6 @@ abbrev pub IsAmong : List (List ℕ) → List ℕ → Type 0
 IsAmong [] word = ⊥
 IsAmong (first ∷ more) word = (first ≡ word) ⊎ IsAmong more word
 
--- The subject of a refused command is a word of the command of that number.
+-- The name that is meant is a word of the command.
 abbrev pub SubjectsAreWords : Type 0
-SubjectsAreWords = (commands : List Command) (index : ℕ) (why : Refusal) (name : List ℕ) → subject_of commands index why ≡ Some name
-    → (index < length commands) × ((other : Command) → IsAmong (words_of (slice_index_or commands index other)) name)
+SubjectsAreWords = (found : Loaded) (c : Command) (why : Refusal) (name : List ℕ) → subject_of found c why ≡ Some name → IsAmong (words_of c) name

@@ -18,11 +18,10 @@ use Rattle.meson_script.specs.Running.{KeepsChange, MayStop}
 use Rattle.meson_script.specs.Undoing.{MayNotStep, Steps, StepsBack, StopsBack}
 use Rattle.meson_sums.specs.Sums.{sums}
 use Rattle.meson_command.specs.declared.asked.Flags.{Flags}
-use Rattle.meson_rewrite.specs.Advising.{IsAdvised}
+use Rattle.meson_rewrite.specs.Advising.{IsTold}
 use Rattle.meson_rewrite.specs.Lines.{done_line, forgot_line, line, title_line}
 use Rattle.meson_rewrite.specs.Objects.{SaysObject, changes_files}
 use Rattle.meson_rewrite.specs.Stops.{undo_stop}
-use Rattle.meson_rewrite.specs.Subjects.{subject_of}
 use Rattle.meson_rewrite.specs.declared.request.NamedFile.{NamedFile}
 use Rattle.meson_rewrite.specs.declared.request.Step.{Step}
 use Rattle.meson_rewrite.specs.declared.request.Step.TheVariants.{Run, Tell, Undo, UndoTo, UndoChecked, Redo, ForgetOldest, ForgetAll}
@@ -56,11 +55,10 @@ Does json (ForgetOldest count) old report new = Forgets count old.history new.hi
 Does json ForgetAll old report new = (new.history ≡ record { past = []; future = [] }) × Stays old report new
 Does json Redo old report new = Steps old old.history.future (redone old.history old.project.files) report new
 
--- a script is refused at a command, which gives the subject; it is explained where the words ask for that
+-- a script is refused at a command, of which more is said where the words ask for it
 abbrev pub StopsRun : Flags → Session → List Command → Stop → Type 0
 StopsRun flags old commands (Refused fault subject advice) =
-    (fault.refusal ≢ OutOfMemory → MayStop old.project commands fault.index fault.refusal) × (subject ≡ subject_of commands fault.index fault.refusal)
-    × IsAdvised flags old.project commands fault advice
+    (fault.refusal ≢ OutOfMemory → MayStop old.project commands fault.index fault.refusal) × IsTold flags old.project commands fault subject advice
 StopsRun flags old commands _ = ⊥
 
 -- a change is not taken back or done again

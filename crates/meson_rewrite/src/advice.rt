@@ -1,7 +1,7 @@
-//! What explains a refused command.
+//! What is said of a refused command beside its line.
 
 ghost use Rattle.std.specs.Prelude.{◌≡◌, ◌⊎◌, IfOk, OnOk};
-ghost use Rattle.meson_rewrite.specs.Advising.{IsAdvised, IsExplained, IsRefusal, Leaves, advice_of};
+ghost use Rattle.meson_rewrite.specs.Advising.{IsRefusal, IsTold, Leaves, advice_for, advice_of, subject_for};
 ghost use Rattle.meson_rewrite.specs.Stops.{WantsMemory};
 
 use crate::notes::{PlacedNote, placed_notes};
@@ -61,42 +61,93 @@ fn perform_again(
     }
 }
 
-/// What explains the refusal of a command. The project becomes that which the command finds.
-fn explained(
-    alloc: Global,
-    project: &mut Project,
-    commands: &[Command],
-    fault: &RunFault,
-    json: bool,
-) -> Result<Advice, AllocError>
-    ensures { IfOk result (IsExplained json project.old commands.now fault.now) }
-{
-    if fault.index >= commands.len() {
-        return Ok(Advice::Nothing);
-    }
-    perform_again(alloc, project, &commands[..fault.index])?;
-    let explanation = explain(alloc, project, &commands[fault.index], &fault.refusal)?;
-    advice_of(alloc, json, project.files(), explanation)
+/// What is said of a refused command beside its line.
+#[derive(Drop)]
+pub(crate) struct Told {
+    /// The name that is meant.
+    subject: Option<Text>,
+    advice: Advice,
 }
 
-/// What explains the refusal of a command, if the flags ask for it.
+impl Told {
+    /// No more than the line.
+    const NOTHING: Told = Told {
+        subject: None,
+        advice: Advice::Nothing,
+    };
+}
+
+/// The name that a refusal means, if the answer is an object.
+fn subject_for(
+    alloc: Global,
+    project: &Project,
+    command: &Command,
+    refusal: &Refusal,
+    flags: Flags,
+) -> Result<Option<Text>, AllocError>
+    ensures { IfOk result (λ name. name ≡ subject_for flags project.now command.now refusal.now) }
+{
+    if !flags.json {
+        return Ok(None);
+    }
+    subject_of(alloc, project, command, refusal)
+}
+
+/// What explains a refusal, if the words ask for that.
 fn advice_for(
+    alloc: Global,
+    project: &Project,
+    command: &Command,
+    refusal: &Refusal,
+    flags: Flags,
+) -> Result<Advice, AllocError>
+    ensures { IfOk result (λ advice. advice ≡ advice_for flags project.now command.now refusal.now) }
+{
+    if !flags.explain {
+        return Ok(Advice::Nothing);
+    }
+    let explanation = explain(alloc, project, command, refusal)?;
+    advice_of(alloc, flags.json, project.files(), explanation)
+}
+
+/// What is said of the refusal of a command by what the project holds as the command finds it, which the project becomes.
+fn told_there(
     alloc: Global,
     project: &mut Project,
     commands: &[Command],
     fault: &RunFault,
     flags: Flags,
-) -> Result<Advice, AllocError>
-    ensures { IfOk result (IsAdvised flags project.old commands.now fault.now) }
+) -> Result<Told, AllocError>
+    ensures { IfOk result (λ told. IsTold flags project.old commands.now fault.now told.subject told.advice) }
+{
+    if fault.index >= commands.len() {
+        return Ok(Told::NOTHING);
+    }
+    perform_again(alloc, project, &commands[..fault.index])?;
+    let command = &commands[fault.index];
+    let subject = subject_for(alloc, project, command, &fault.refusal, flags)?;
+    let advice = advice_for(alloc, project, command, &fault.refusal, flags)?;
+    Ok(Told { subject, advice })
+}
+
+/// What is said of the refusal of a command, if the answer is an object or the words ask for an explanation.
+fn told_of(
+    alloc: Global,
+    project: &mut Project,
+    commands: &[Command],
+    fault: &RunFault,
+    flags: Flags,
+) -> Result<Told, AllocError>
+    ensures { IfOk result (λ told. IsTold flags project.old commands.now fault.now told.subject told.advice) }
 {
     match fault.refusal {
-        Refusal::OutOfMemory => Ok(Advice::Nothing),
-        _ if flags.explain => explained(alloc, project, commands, fault, flags.json),
-        _ => Ok(Advice::Nothing),
+        Refusal::OutOfMemory => Ok(Told::NOTHING),
+        _ if flags.json || flags.explain => told_there(alloc, project, commands, fault, flags),
+        _ => Ok(Told::NOTHING),
     }
 }
 
-/// Why a command of a script is refused, with what explains it.
+/// Why a command of a script is refused, with what is said of it.
 fn refusal_of(
     alloc: Global,
     project: &mut Project,
@@ -106,8 +157,7 @@ fn refusal_of(
 ) -> Result<Stop, AllocError>
     ensures { IfOk result (IsRefusal flags project.old script.now.commands fault) }
 {
-    let subject = subject_of(alloc, script, &fault)?;
-    let advice = advice_for(alloc, project, script.commands.get(), &fault, flags)?;
+    let Told { subject, advice } = told_of(alloc, project, script.commands.get(), &fault, flags)?;
     Ok(Stop::Refused {
         fault,
         subject,
@@ -115,7 +165,7 @@ fn refusal_of(
     })
 }
 
-/// Why a run stops where a command of its script is refused. The project of the session becomes that which the command finds, if it is explained.
+/// Why a run stops where a command of its script is refused. The project of the session becomes that which the command finds, if more is said than the line.
 pub(crate) fn refused(
     alloc: Global,
     session: &mut Session,

@@ -46,7 +46,7 @@ pub fn members_are_words()
     ensures { MembersAreWords }
 {}
 
-/// What the subject of a refused command is: a word of the command of that number.
+/// The name that a refusal means is a word of the refused command.
 pub fn subjects_are_words()
     ensures { SubjectsAreWords }
 {}
