@@ -43,7 +43,7 @@ pub(crate) fn plain_note(text: String) -> Note
 }
 
 /// Adds the note of each call.
-fn add_each(
+pub(crate) fn add_each(
     alloc: Global,
     notes: &mut Vec<Note>,
     more: &str,

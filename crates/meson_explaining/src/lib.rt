@@ -3,6 +3,7 @@
 
 mod bad_names;
 mod calls;
+mod excerpts;
 mod explaining;
 mod explanation;
 mod keys;
@@ -13,13 +14,16 @@ mod nearest;
 mod printable;
 mod reasons;
 mod removals;
+mod side_effects;
 mod sources;
 mod subject;
 mod targets;
 mod unknown;
 mod values;
 
+pub use excerpts::{fault_help, fault_lines, fault_note};
 pub use explaining::explain;
 pub use explanation::{Explanation, Note, Spot};
 pub use lines::explanation_lines;
 pub use names::meant_name;
+pub use side_effects::warnings;

@@ -19,14 +19,14 @@ fn begins_character(byte: u8) -> bool
 }
 
 /// The bytes before an offset.
-fn before(bytes: &[u8], at: usize) -> &[u8]
+pub(crate) fn before(bytes: &[u8], at: usize) -> &[u8]
     ensures { result.now ≡ take at bytes.now }
 {
     &bytes[..at.min(bytes.len())]
 }
 
 /// The number of line feeds.
-fn line_feeds(bytes: &[u8]) -> usize
+pub(crate) fn line_feeds(bytes: &[u8]) -> usize
     ensures count { result ≡ length (filter (λ b. b == 10) bytes.now) }
     ensures few { result ≤ length bytes.now }
 {
@@ -34,7 +34,7 @@ fn line_feeds(bytes: &[u8]) -> usize
 }
 
 /// The number of characters after the last line feed.
-fn last_line_len(bytes: &[u8]) -> usize
+pub(crate) fn last_line_len(bytes: &[u8]) -> usize
     ensures count { result ≡ length (filter begins_character (last_line bytes.now)) }
     ensures few { result ≤ length bytes.now }
 {
@@ -47,7 +47,12 @@ fn last_line_len(bytes: &[u8]) -> usize
 }
 
 /// A place, as `FILE:LINE:COLUMN: `.
-fn place_words(alloc: Global, file: &str, line: usize, column: usize) -> Result<String, AllocError>
+pub(crate) fn place_words(
+    alloc: Global,
+    file: &str,
+    line: usize,
+    column: usize,
+) -> Result<String, AllocError>
     ensures { IfOk result (λ text. string_bytes text ≡ place_words file.now line column) }
 {
     format!(in alloc; "{file}:{line}:{column}: ")
@@ -79,7 +84,7 @@ fn place_part(alloc: Global, files: &FileSet, spot: &Option<Spot>) -> Result<Str
 }
 
 /// Adds a line, without control characters.
-fn add_line(alloc: Global, lines: &mut String, line: &str) -> Result<(), AllocError>
+pub(crate) fn add_line(alloc: Global, lines: &mut String, line: &str) -> Result<(), AllocError>
     ensures { OnOk result (string_bytes lines.new ≡ string_bytes lines.old ++ (printable line.now ++ codes "\n")) }
 {
     let shown = printable(alloc, line)?;

@@ -28,7 +28,7 @@ fn push_shown(text: &mut String, c: char) -> Result<(), AllocError>
 }
 
 /// The characters of a text.
-fn chars_of(alloc: Global, text: &str) -> Result<Vec<char>, AllocError>
+pub(crate) fn chars_of(alloc: Global, text: &str) -> Result<Vec<char>, AllocError>
     ensures { IfOk result (λ found. found.items ≡ chars text.now) }
 {
     text.chars().collect(alloc)

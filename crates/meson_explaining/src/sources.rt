@@ -92,7 +92,7 @@ fn has(items: &[SourceItem], name: &str) -> bool
 }
 
 /// Whether none of the items has this name.
-fn is_missing(items: &[SourceItem], name: &str) -> bool
+pub(crate) fn is_missing(items: &[SourceItem], name: &str) -> bool
     ensures { result ≡ is_missing items.now name.now }
 {
     !has(items, name)
