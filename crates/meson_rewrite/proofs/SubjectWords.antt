@@ -1,5 +1,5 @@
 -- The name that a refusal means is a word of its command.
-use Rattle.std.proofs.Common.{◌≡◌, ℕ, Bool, true, false, List, [], ◌∷◌, ◌×◌, cond, find, map, option_map, Option, None, Some, inl, inr}
+use Rattle.std.proofs.Common.{◌≡◌, ℕ, Bool, true, false, List, [], ◌∷◌, cond, find, map, option_map, Option, None, Some, inl, inr}
 use Rattle.meson_calls.specs.declared.refusal.Refusal.{Refusal}
 use Rattle.meson_calls.specs.declared.refusal.Refusal.TheVariants as refusal
 use Rattle.meson_calls.specs.Loading.{Loaded}
@@ -20,17 +20,18 @@ module _ (name : List ℕ) where
   -- the first name that passes a test is one of them
   found_among : (test : List ℕ → Bool) (names : List (List ℕ)) → find test names ≡ Some name → IsAmong names name
   found_among test [] e = absurd (not-none (List ℕ) name e)
-  found_among test (x ∷ names) e = go (test x) e where
-    go : (b : Bool) → cond b (Some x) (find test names) ≡ Some name → IsAmong (x ∷ names) name
-    go true e = inl (some-same x name e)
-    go false e = inr (found_among test names e)
+  found_among test (x ∷ names) e = go (test x) (found_among test names) e where
+    go : (b : Bool) → (find test names ≡ Some name → IsAmong names name) → cond b (Some x) (find test names) ≡ Some name → IsAmong (x ∷ names) name
+    go true more e = inl (some-same x name e)
+    go false more e = inr (more e)
 
   key_among : {X : Type 0} (test : List ℕ × X → Bool) (pairs : List (List ℕ × X)) → find_key test pairs ≡ Some name → IsAmong (map (λ p. p.0) pairs) name
   key_among test [] e = absurd (not-none (List ℕ) name e)
-  key_among {X} test (p ∷ pairs) e = go (test p) e where
-    go : (b : Bool) → option_map (λ p. p.0) (cond b (Some p) (find test pairs)) ≡ Some name → IsAmong (p.0 ∷ map (λ p. p.0) pairs) name
-    go true e = inl (some-same p.0 name e)
-    go false e = inr (key_among test pairs e)
+  key_among {X} test (p ∷ pairs) e = go (test p) (key_among test pairs) e where
+    go : (b : Bool) → (find_key test pairs ≡ Some name → IsAmong (map (λ p. p.0) pairs) name)
+        → option_map (λ p. p.0) (cond b (Some p) (find test pairs)) ≡ Some name → IsAmong (p.0 ∷ map (λ p. p.0) pairs) name
+    go true more e = inl (some-same p.0 name e)
+    go false more e = inr (more e)
 
   id_among : (c : Command) → id_of c ≡ Some name → IsAmong (words_of c) name
   id_among (SourcesAdd target sources) e = inl (some-same target name e)
