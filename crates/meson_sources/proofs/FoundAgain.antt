@@ -21,7 +21,7 @@ use Rattle.meson_calls.specs.Roles.{has_role, is_target_call, with_role}
 use Rattle.meson_calls.specs.Naming.{or_else, part_set_to, set_to, value_of_assignment, with_name}
 use Rattle.meson_calls.proofs.CallsReached.{InProject, every_chosen, every_part}
 use Rattle.meson_calls.proofs.PartsContained.{all_has}
-use Rattle.meson_calls.proofs.Reached.{any}
+use Rattle.meson_calls.proofs.nodes.PartsBelow.{any}
 use Rattle.meson_sources.proofs.Owners.{node_between}
 use Rattle.meson_sources.proofs.TargetNames.{Naming, a_target, a_variable, tell_call, tell_statement, told}
 

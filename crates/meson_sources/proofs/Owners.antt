@@ -19,7 +19,7 @@ use Rattle.meson_variables.specs.Variables.{Assigned, part_assigned, assigned_by
 use Rattle.meson_calls.specs.Notes.{is_set}
 use Rattle.meson_calls.proofs.CallsReached.{InProject, every_chosen, every_part}
 use Rattle.meson_calls.proofs.ExpressionsAt.{assigned_stands}
-use Rattle.meson_calls.proofs.Reached.{any}
+use Rattle.meson_calls.proofs.nodes.PartsBelow.{any}
 
 module _ {S : Type 0} where
   -- ---- all in an expression are expressions

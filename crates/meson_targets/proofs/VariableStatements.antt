@@ -13,7 +13,7 @@ use Rattle.meson_calls.specs.Parts.{Part}
 use Rattle.meson_calls.specs.Parts as part
 use Rattle.meson_calls.specs.Project.{Project, BuildFile, Placed, child, nth_file, place}
 use Rattle.meson_calls.proofs.CallsReached.{InProject}
-use Rattle.meson_calls.proofs.Reached.{any}
+use Rattle.meson_calls.proofs.nodes.PartsBelow.{any}
 use Rattle.meson_steps.specs.inside.Layers.{block_any}
 use Rattle.meson_steps.proofs.BlockNodes.{block_reached}
 use Rattle.meson_targets.specs.TargetEdits.{Holder, StatementPlace, held_by, name_set, set_to, statement_of, statement_path, statement_there, variable_of}
