@@ -191,9 +191,6 @@ pub record SetAt (p : Project Span) (id : List ℕ) (at : CallRef) : Type 0 wher
   pub is_name : bytes_eq name.text id ≡ true
 
 module _ (p : Project Span) (id : List ℕ) where
-  abbrev Any : {X : Type 0} → X → Type 0
-  Any x = Unit {0}
-
   every_any : {X : Type 0} (xs : List X) → Every (λ (x : X). Unit {0}) xs
   every_any [] = tt
   every_any (x ∷ xs) = (tt, every_any xs)

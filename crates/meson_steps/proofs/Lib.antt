@@ -38,4 +38,5 @@ mod OneStanding
 pub mod Keeping
 pub mod ErasedParts
 pub mod ToldAlike
+pub mod PartsPut
 pub mod ToldExpressions
