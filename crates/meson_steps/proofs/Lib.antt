@@ -39,4 +39,3 @@ pub mod Keeping
 pub mod ErasedParts
 pub mod ToldAlike
 pub mod PartsPut
-pub mod ToldExpressions

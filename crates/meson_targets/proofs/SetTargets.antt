@@ -24,7 +24,7 @@ use Rattle.meson_targets.specs.TargetEdits.{StatementPlace}
 use Rattle.meson_targets.proofs.ChosenParts.{chosen_its, chosen_told}
 use Rattle.meson_steps.proofs.ErasedParts.{bare_call, bare_part, bare_placed, role_alike}
 use Rattle.meson_targets.proofs.StatementTargets.{LineOf, statement_node}
-use Rattle.meson_targets.proofs.ToldAnywhere.{told}
+use Rattle.meson_targets.proofs.ToldParts.{told}
 
 -- ---- the front of a path
 
