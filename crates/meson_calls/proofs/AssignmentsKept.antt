@@ -25,7 +25,8 @@ use Rattle.meson_calls.specs.Project.{Placed, child, place, placed}
 use Rattle.meson_calls.specs.Setters.{AreAssignments, assignment_at, assignments_in, has_loop, is_among, is_loop, notes_asked}
 use Rattle.meson_calls.specs.inside.Setters.{kept_note, without_last}
 use Rattle.meson_calls.proofs.ListNodes.{node_below}
-use Rattle.meson_calls.proofs.Reached.{At, Each, any, file_each}
+use Rattle.meson_calls.proofs.Reached.{At, Each, file_each}
+use Rattle.meson_calls.proofs.nodes.PartsBelow.{any}
 use Rattle.meson_calls.proofs.SetterReadings.{neither}
 use Rattle.meson_calls.proofs.SettersApart.{setters_append, setters_of}
 use Rattle.meson_calls.proofs.StandingParts.{PartsStand, parts_stand, texts_of_part}

@@ -16,7 +16,7 @@ use Rattle.meson_syntax.specs.View.{view}
 use Rattle.meson_syntax.proofs.parsing.FileErased.{file-words-erased}
 use Rattle.meson_syntax.proofs.paths.Reaching.{and-then-some, reach-fits}
 use Rattle.meson_calls.specs.declared.call.CallRef.{CallRef}
-use Rattle.meson_calls.specs.Project.{Project, BuildFile, nth_file}
+use Rattle.meson_calls.specs.Project.{BuildFile, nth_file}
 use Rattle.meson_calls.specs.Calls.{call_of}
 use Rattle.meson_calls.specs.GoodLists.{GoodListing}
 use Rattle.meson_calls.specs.Loading.{AreParsed, named_trees, views}
@@ -63,9 +63,6 @@ call_good _ l is good = absurd (none_some is)
     none_some h = cc
 
 module _ (files : List File) (trees : List Parsed) (c : CallRef) (d : Parsed) (many : length trees ≡ length files) (within : c.file < length trees) where
-  abbrev pub the_project : Project Span
-  the_project = named_trees files (views files trees)
-
   abbrev pub the_tree : tree.File Span
   the_tree = view (bytes_at c.file files) (get_or trees c.file d)
 

@@ -10,7 +10,8 @@ use Rattle.meson_syntax.proofs.paths.Every.{Every, every-append}
 use Rattle.meson_calls.specs.Calls.{all_chosen}
 use Rattle.meson_calls.specs.Parts.{Part, parts_from, parts_of_file}
 use Rattle.meson_calls.specs.Project.{Project, BuildFile, Placed, placed, nth_file}
-use Rattle.meson_calls.proofs.Reached.{any, Each, file_each}
+use Rattle.meson_calls.proofs.Reached.{Each, file_each}
+use Rattle.meson_calls.proofs.nodes.PartsBelow.{any}
 
 pub every_chosen : {X Y : Type 0} (P : Placed X → Type 0) (Q : Placed Y → Type 0) (choose : X → Option Y) → ((q : Placed X) (y : Y) → P q → choose q.it ≡ Some y → Q (placed q.place y))
     → (qs : List (Placed X)) → Every P qs → Every Q (all_chosen choose qs)

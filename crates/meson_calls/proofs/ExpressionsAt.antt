@@ -17,7 +17,7 @@ use Rattle.meson_calls.specs.Project.{Project, BuildFile, Placed, child, nth_fil
 use Rattle.meson_calls.specs.CallPlaces.{ListThere}
 use Rattle.meson_calls.proofs.CallsReached.{InProject}
 use Rattle.meson_calls.proofs.ListNodes.{list_of, node_below, value_below}
-use Rattle.meson_calls.proofs.Reached.{any}
+use Rattle.meson_calls.proofs.nodes.PartsBelow.{any}
 
 -- ---- places of a project
 

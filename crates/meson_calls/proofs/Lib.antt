@@ -1,3 +1,4 @@
+pub mod nodes
 pub mod IdentifierTexts
 pub mod SlashParts
 pub mod FileNames
@@ -41,7 +42,7 @@ pub mod Spelled
 pub mod NoteTurns
 pub mod SetterTurns
 mod SpelledLiterals
-mod StandingParts
+pub mod StandingParts
 pub mod StandingNotes
 mod NothingRead
 pub mod NoteReadings

@@ -1,22 +1,29 @@
 -- The parts of a project stand in order, and so does what is chosen among them.
 use Rattle.std.specs.Prelude.{⊤}
-use Rattle.std.proofs.Common.{◌≡◌, ℕ, zero, suc, ◌+◌, ◌<◌, ◌≤◌, List, [], ◌∷◌, ◌++◌, append_assoc, append-nil, length, map, Bool, true, false, if◌then◌else◌, Option, Some, None, option_map, Ordering, Less, Equal, Greater, nat_cmp, refl, sym, ap, ap₂, ◌∙◌, arith}
+use Rattle.std.proofs.Common.{◌≡◌, ℕ, zero, suc, ◌+◌, ◌<◌, ◌≤◌, List, [], ◌∷◌, ◌++◌, append_assoc, append-nil, length, map, Bool, true, false, if◌then◌else◌, Option, Some, None, option_map, Ordering, Less, Equal, Greater, nat_cmp, refl, sym, subst, ap, ap₂, ◌∙◌, arith}
 use Rattle.std.specs.Cmp.{nat_cmp_is}
 use Rattle.std.specs.Cmp.Lexicographic.{slice_cmp}
 use Rattle.std.specs.List.{AllByRecursion, cons_option}
 use Rattle.std.specs.List.Sorted.{IsStrictlySortedBy}
 use Rattle.std.specs.Ordering.{ordering_then}
 use Rattle.meson_lex.specs.declared.kinds.Span.{Span}
-use Rattle.meson_syntax.specs.Tree.{Expression, identifier, boolean, integer, string, paren, array, dictionary, call, unary, row, postfix, conditional, Operands, no_operands, operand, Tail, method, index, Tails, no_tails, tail, Listing, listing, Argument, plain, named, pair, Arguments, no_arguments, argument, Statement, evaluate, assign, selection, iteration, breaks, continues, Branches, no_branches, branch, Otherwise, nothing_else, otherwise, Statements, no_statements, statement, Block, block, File, file}
+use Rattle.meson_syntax.specs.Tree.{File, file}
+use Rattle.meson_syntax.specs.Children.{Any}
+use Rattle.meson_syntax.specs.Children as syntax
+use Rattle.meson_syntax.specs.inside.Children.{child_nodes}
 use Rattle.meson_calls.specs.declared.call.CallRef.{CallRef}
 use Rattle.meson_calls.specs.declared.call.Role.{Role}
 use Rattle.meson_calls.specs.declared.call.Role.TheVariants as role
 use Rattle.meson_calls.specs.AllParts.{PlacesRise, PartsInOrder, address}
 use Rattle.meson_calls.specs.Calls.{all_chosen, call_of, calls, part_call}
-use Rattle.meson_calls.specs.Parts.{Part, an_expression, a_statement, parts_of_expression, parts_of_operands, parts_of_tail, parts_of_tails, parts_of_listing, parts_of_argument, parts_of_arguments, parts_of_statement, parts_of_branches, parts_of_otherwise, parts_of_statements, parts_of_block, parts_of_file, parts_from, parts, argument_child_count, arguments_child_count, listing_child_count, tail_child_count, branches_child_count}
+use Rattle.meson_calls.specs.Parts.{Part, an_expression, a_statement, parts_of_block, parts_of_file, parts_from, parts}
 use Rattle.meson_calls.specs.Project.{Placed, Project, child, place, placed}
 use Rattle.meson_calls.specs.Naming.{assigned_values, found, named_or_assigned, or_else, part_set_to, project_ids, value_of_assignment, with_name}
 use Rattle.meson_calls.specs.Roles.{one_of, places, role_calls, with_role}
+use Rattle.meson_calls.proofs.nodes.Induction as nodes
+use Rattle.meson_calls.proofs.nodes.Induction.{by_children}
+use Rattle.meson_calls.proofs.nodes.PartsBelow as nodes_below
+use Rattle.meson_calls.proofs.nodes.PartsBelow.{itself, parts_below, parts_of}
 
 -- ---- addresses
 
@@ -142,118 +149,26 @@ node c x m xs ordered = record {
 
 -- ---- node by node
 
-abbrev operands_count : Operands Span → ℕ
-operands_count no_operands = 0
-operands_count (operand o e more) = 1 + operands_count more
+children_ordered : (c : CallRef) (n : ℕ) (xs : List (Any Span)) → nodes.Each child (λ p x. Whole p (parts_of p x)) c n xs → Ordered (address c) n (n + length xs) (parts_below c n xs)
+children_ordered c n [] each = nothing (address c) n (n + 0)
+children_ordered c n (x ∷ xs) each =
+    let m = n + 1 + length xs in
+    joined (address c) n (n + 1) (n + 1) m (n + length (x ∷ xs)) (parts_of (child c n) x) (parts_below c (n + 1) xs) (omega arith) (omega arith) (omega arith) (omega arith)
+    (as_child c n (parts_of (child c n) x) each.0) (children_ordered c (n + 1) xs each.1)
 
-abbrev tails_count : Tails Span → ℕ
-tails_count no_tails = 0
-tails_count (tail t more) = tail_child_count t + tails_count more
-
-abbrev statements_count : Statements Span → ℕ
-statements_count no_statements = 0
-statements_count (statement s more) = 1 + statements_count more
-
-abbrev otherwise_count : Otherwise Span → ℕ
-otherwise_count nothing_else = 0
-otherwise_count (otherwise b) = 1
-
--- the n-th child, and behind it others up to the m-th
-child_then : (c : CallRef) (n m t : ℕ) (here later : List (Placed (Part Span))) → n + 1 ≤ t → m ≤ t → Whole (child c n) here → Ordered (address c) (n + 1) m later → Ordered (address c) n t (here ++ later)
-child_then c n m t here later first last whole others =
-    joined (address c) n (n + 1) (n + 1) m t here later (omega arith) (omega arith) first last (as_child c n here whole) others
-
-mutual
-  expression_ordered : (c : CallRef) (e : Expression Span) → Whole c (parts_of_expression c e)
-  expression_ordered c (identifier s x) = node c (an_expression (identifier s x)) 0 [] (nothing (address c) 0 0)
-  expression_ordered c (boolean s b) = node c (an_expression (boolean s b)) 0 [] (nothing (address c) 0 0)
-  expression_ordered c (integer s x) = node c (an_expression (integer s x)) 0 [] (nothing (address c) 0 0)
-  expression_ordered c (string s q x) = node c (an_expression (string s q x)) 0 [] (nothing (address c) 0 0)
-  expression_ordered c (paren s e) = node c (an_expression (paren s e)) _ _ (as_child c 0 _ (expression_ordered (child c 0) e))
-  expression_ordered c (array l) = node c (an_expression (array l)) _ _ (listing_ordered c 0 l)
-  expression_ordered c (dictionary l) = node c (an_expression (dictionary l)) _ _ (listing_ordered c 0 l)
-  expression_ordered c (call s x l) = node c (an_expression (call s x l)) _ _ (listing_ordered c 0 l)
-  expression_ordered c (unary s o e) = node c (an_expression (unary s o e)) _ _ (as_child c 0 _ (expression_ordered (child c 0) e))
-  expression_ordered c (row s e os) =
-      let m = 1 + operands_count os in
-      node c (an_expression (row s e os)) m _ (child_then c 0 m m _ _ (omega arith) (omega arith) (expression_ordered (child c 0) e) (operands_ordered c 1 os))
-  expression_ordered c (postfix s e ts) =
-      let m = 1 + tails_count ts in
-      node c (an_expression (postfix s e ts)) m _ (child_then c 0 m m _ _ (omega arith) (omega arith) (expression_ordered (child c 0) e) (tails_ordered c 1 ts))
-  expression_ordered c (conditional s e y n) =
-      node c (an_expression (conditional s e y n)) 3 _
-      (child_then c 0 3 3 _ _ (omega arith) (omega arith) (expression_ordered (child c 0) e)
-      (child_then c 1 3 3 _ _ (omega arith) (omega arith) (expression_ordered (child c 1) y) (as_child c 2 _ (expression_ordered (child c 2) n))))
-
-  operands_ordered : (c : CallRef) (n : ℕ) (os : Operands Span) → Ordered (address c) n (n + operands_count os) (parts_of_operands c n os)
-  operands_ordered c n no_operands = nothing (address c) n (n + 0)
-  operands_ordered c n (operand o e more) =
-      child_then c n ((n + 1) + operands_count more) (n + (1 + operands_count more)) _ _ (omega arith) (omega arith) (expression_ordered (child c n) e) (operands_ordered c (n + 1) more)
-
-  tail_ordered : (c : CallRef) (n : ℕ) (t : Tail Span) → Ordered (address c) n (n + tail_child_count t) (parts_of_tail c n t)
-  tail_ordered c n (method s x l) = listing_ordered c n l
-  tail_ordered c n (index s e) = as_child c n _ (expression_ordered (child c n) e)
-
-  tails_ordered : (c : CallRef) (n : ℕ) (ts : Tails Span) → Ordered (address c) n (n + tails_count ts) (parts_of_tails c n ts)
-  tails_ordered c n no_tails = nothing (address c) n (n + 0)
-  tails_ordered c n (tail t more) =
-      let k = n + tail_child_count t in
-      joined (address c) n k k (k + tails_count more) (n + (tail_child_count t + tails_count more)) _ _ (omega arith) (omega arith) (omega arith) (omega arith) (tail_ordered c n t) (tails_ordered c k more)
-
-  listing_ordered : (c : CallRef) (n : ℕ) (l : Listing Span) → Ordered (address c) n (n + listing_child_count l) (parts_of_listing c n l)
-  listing_ordered c n (listing s trailing list) = arguments_ordered c n list
-
-  argument_ordered : (c : CallRef) (n : ℕ) (a : Argument Span) → Ordered (address c) n (n + argument_child_count a) (parts_of_argument c n a)
-  argument_ordered c n (plain e) = as_child c n _ (expression_ordered (child c n) e)
-  argument_ordered c n (named s x e) = as_child c n _ (expression_ordered (child c n) e)
-  argument_ordered c n (pair s e f) =
-      child_then c n ((n + 1) + 1) (n + 2) _ _ (omega arith) (omega arith) (expression_ordered (child c n) e) (as_child c (n + 1) _ (expression_ordered (child c (n + 1)) f))
-
-  arguments_ordered : (c : CallRef) (n : ℕ) (list : Arguments Span) → Ordered (address c) n (n + arguments_child_count list) (parts_of_arguments c n list)
-  arguments_ordered c n no_arguments = nothing (address c) n (n + 0)
-  arguments_ordered c n (argument a more) =
-      let k = n + argument_child_count a in
-      joined (address c) n k k (k + arguments_child_count more) (n + (argument_child_count a + arguments_child_count more)) _ _ (omega arith) (omega arith) (omega arith) (omega arith)
-      (argument_ordered c n a) (arguments_ordered c k more)
-
-mutual
-  statement_ordered : (c : CallRef) (s : Statement Span) → Whole c (parts_of_statement c s)
-  statement_ordered c (evaluate e) = node c (a_statement (evaluate e)) _ _ (as_child c 0 _ (expression_ordered (child c 0) e))
-  statement_ordered c (assign s x a e) = node c (a_statement (assign s x a e)) _ _ (as_child c 0 _ (expression_ordered (child c 0) e))
-  statement_ordered c (selection s bs o) =
-      let m = branches_child_count bs in
-      let t = m + otherwise_count o in
-      node c (a_statement (selection s bs o)) t _ (joined (address c) 0 (0 + m) m t t _ _ (omega arith) (omega arith) (omega arith) (omega arith) (branches_ordered c 0 bs) (otherwise_ordered c m o))
-  statement_ordered c (iteration s xs e b) =
-      node c (a_statement (iteration s xs e b)) 2 _ (child_then c 0 2 2 _ _ (omega arith) (omega arith) (expression_ordered (child c 0) e) (as_child c 1 _ (block_ordered (child c 1) b)))
-  statement_ordered c (breaks s) = node c (a_statement (breaks s)) 0 [] (nothing (address c) 0 0)
-  statement_ordered c (continues s) = node c (a_statement (continues s)) 0 [] (nothing (address c) 0 0)
-
-  branches_ordered : (c : CallRef) (n : ℕ) (bs : Branches Span) → Ordered (address c) n (n + branches_child_count bs) (parts_of_branches c n bs)
-  branches_ordered c n no_branches = nothing (address c) n (n + 0)
-  branches_ordered c n (branch e b more) =
-      let t = n + (2 + branches_child_count more) in
-      child_then c n t t _ _ (omega arith) (omega arith) (expression_ordered (child c n) e)
-      (joined (address c) (n + 1) ((n + 1) + 1) (n + 2) ((n + 2) + branches_child_count more) t _ _ (omega arith) (omega arith) (omega arith) (omega arith)
-      (as_child c (n + 1) _ (block_ordered (child c (n + 1)) b)) (branches_ordered c (n + 2) more))
-
-  otherwise_ordered : (c : CallRef) (n : ℕ) (o : Otherwise Span) → Ordered (address c) n (n + otherwise_count o) (parts_of_otherwise c n o)
-  otherwise_ordered c n nothing_else = nothing (address c) n (n + 0)
-  otherwise_ordered c n (otherwise b) = as_child c n _ (block_ordered (child c n) b)
-
-  statements_ordered : (c : CallRef) (n : ℕ) (list : Statements Span) → Ordered (address c) n (n + statements_count list) (parts_of_statements c n list)
-  statements_ordered c n no_statements = nothing (address c) n (n + 0)
-  statements_ordered c n (statement s more) =
-      child_then c n ((n + 1) + statements_count more) (n + (1 + statements_count more)) _ _ (omega arith) (omega arith) (statement_ordered (child c n) s) (statements_ordered c (n + 1) more)
-
-  block_ordered : (c : CallRef) (b : Block Span) → Whole c (parts_of_block c b)
-  block_ordered c (block s list) = of_block c _ _ (statements_ordered c 0 list)
+node_ordered : (c : CallRef) (x : Any Span) → Whole c (parts_of c x)
+node_ordered = by_children child (λ c x. Whole c (parts_of c x)) (λ c x each. subst (Whole c) (sym (nodes_below.parts_are c x)) (of_itself c x (children_ordered c 0 (child_nodes x) each)))
+  where
+    of_itself : (c : CallRef) (x : Any Span) → Ordered (address c) 0 (0 + length (child_nodes x)) (parts_below c 0 (child_nodes x)) → Whole c (itself c x ++ parts_below c 0 (child_nodes x))
+    of_itself c (syntax.an_expression e) ordered = node c (an_expression e) (0 + length (child_nodes (syntax.an_expression e))) (parts_below c 0 (child_nodes (syntax.an_expression e))) ordered
+    of_itself c (syntax.a_statement s) ordered = node c (a_statement s) (0 + length (child_nodes (syntax.a_statement s))) (parts_below c 0 (child_nodes (syntax.a_statement s))) ordered
+    of_itself c (syntax.a_block b) ordered = of_block c (0 + length (child_nodes (syntax.a_block b))) (parts_below c 0 (child_nodes (syntax.a_block b))) ordered
 
 -- ---- files
 
 file_ordered : (n : ℕ) (f : File Span) → Ordered [] n (n + 1) (parts_of_file n f)
 file_ordered n (file s b) =
-    let whole = block_ordered (place n []) b in
+    let whole = node_ordered (place n []) (syntax.a_block b) in
     record {
       inside = each_also (λ x. (rest : List ℕ) × x ≡ (n ∷ []) ++ rest) (Within [] n (n + 1)) (parts_of_block (place n []) b) (λ x w. record { number = n; rest = w.0; from = omega arith; to = omega arith; is = w.1 }) whole.inside;
       rise = whole.rise;

@@ -74,11 +74,7 @@ module _ (t : Call Span → Bool) where
 
   statement_step : (s : Statement Span) (p : CallRef) (ns : List (Placed (Note Span))) → places_that (note_test t) (cons_option (option_map (placed p) (note_of (a_statement s))) ns) ≡ places_that (note_test t) ns
   statement_step (evaluate e) p ns = refl
-  statement_step (assign s x a e) p ns = refl
-  statement_step (selection s bs o) p ns = refl
-  statement_step (iteration s xs e b) p ns = refl
-  statement_step (breaks s) p ns = refl
-  statement_step (continues s) p ns = refl
+  statement_step _ p ns = refl
 
   part_step : (q : Part Span) (p : CallRef) (ns : List (Placed (Note Span))) (cs : List (Placed (Call Span))) → places_that (note_test t) ns ≡ places (all_chosen (keep t) cs) →
       places_that (note_test t) (cons_option (option_map (placed p) (note_of q)) ns) ≡ places (all_chosen (keep t) (cons_option (option_map (placed p) (part_call q)) cs))

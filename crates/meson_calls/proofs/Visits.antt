@@ -20,10 +20,6 @@ use Rattle.meson_calls.proofs.SettersApart.{setters_append, setters_of, stays_wi
 pub two_parts : (before middle after : KeptParts) (a b : List (Placed (Part Span))) → middle ≡ with_parts before a → after ≡ with_parts middle b → after ≡ with_parts before (a ++ b)
 two_parts before middle after a b first last = last ∙ ap (λ m. with_parts m b) first ∙ sym (fold-append with_part before a b)
 
-pub three_parts : (before middle later after : KeptParts) (a b c : List (Placed (Part Span))) →
-    middle ≡ with_parts before a → later ≡ with_parts middle b → after ≡ with_parts later c → after ≡ with_parts before (a ++ (b ++ c))
-three_parts before middle later after a b c first second last = two_parts before middle after a (b ++ c) first (two_parts middle later after b c second last)
-
 -- The parts of a list from its n-th child on are those of its first element, which has so many children, and then those of the others.
 module _ {X : Type 0} (parts : ℕ → List X → List (Placed (Part Span))) (part : ℕ → X → List (Placed (Part Span))) (size : X → ℕ)
     (more : (n : ℕ) (x : X) (xs : List X) → parts n (x ∷ xs) ≡ part n x ++ parts (n + size x) xs) where

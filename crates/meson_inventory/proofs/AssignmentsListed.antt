@@ -37,8 +37,9 @@ use Rattle.meson_calls.proofs.FileTurns.{left, one_file}
 use Rattle.meson_calls.proofs.GoodParts.{file_good}
 use Rattle.meson_calls.proofs.GoodTexts.{text_good}
 use Rattle.meson_calls.proofs.ListNodes.{node_below}
-use Rattle.meson_calls.proofs.Reached.{At, Each, any, file_each}
-use Rattle.meson_inventory.proofs.StandingParts.{PartsStand, parts_stand, texts_of_part}
+use Rattle.meson_calls.proofs.Reached.{At, Each, file_each}
+use Rattle.meson_calls.proofs.nodes.PartsBelow.{any}
+use Rattle.meson_calls.proofs.StandingParts.{PartsStand, parts_stand, texts_of_part}
 use Rattle.meson_inventory.specs.Assignments.{assignment_of, assignments_among}
 use Rattle.meson_inventory.specs.inside.Assignments.{AreNamed, held_at}
 use Rattle.meson_inventory.specs.declared.assignments.HeldAssignment.{HeldAssignment}

@@ -17,7 +17,7 @@ use Rattle.meson_calls.specs.Parts as part
 use Rattle.meson_calls.specs.Project.{BuildFile, Placed, Project, nth_file, place, placed}
 use Rattle.meson_calls.proofs.CallsReached.{InProject, every_part}
 use Rattle.meson_calls.proofs.PartsContained.{Names, all_has}
-use Rattle.meson_calls.proofs.Reached.{any}
+use Rattle.meson_calls.proofs.nodes.PartsBelow.{any}
 use Rattle.meson_inventory.specs.Assignments.{assignment_of, assignments_among}
 use Rattle.meson_inventory.specs.Laws.{AssignmentsAreListed, StandsIn, statement_in}
 use Rattle.meson_inventory.specs.declared.assignments.HeldAssignment.{HeldAssignment}

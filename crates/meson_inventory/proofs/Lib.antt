@@ -1,4 +1,3 @@
-mod StandingParts
 mod AssignmentsListed
 mod CallsHeld
 mod CallPlacesListed

@@ -7,7 +7,7 @@ use Rattle.meson_syntax.specs.Children.{Any, an_expression, a_statement, a_block
 use Rattle.meson_syntax.specs.inside.Children.{child_nodes, node_at}
 use Rattle.meson_syntax.specs.Paths.{nth, block_of}
 use Rattle.meson_syntax.specs.Paths as paths
-use Rattle.meson_syntax.specs.Tree.{Nowhere, Plain, Name, Expression, call, listing, Argument, Arguments, assign, iteration, erase_name}
+use Rattle.meson_syntax.specs.Tree.{Nowhere, Plain, Name, Expression, call, listing, Argument, Arguments, assign, erase_name}
 use Rattle.meson_syntax.proofs.parsing.Steps.{some-injective}
 use Rattle.meson_syntax.proofs.paths.Every.{Every}
 use Rattle.meson_syntax.proofs.paths.Reaching.{and-then-some}
@@ -28,7 +28,7 @@ use Rattle.meson_sources.proofs.MarkLists.{below, below_child, below_itself}
 use Rattle.meson_sources.proofs.Kins.{node_level, placed_of}
 use Rattle.meson_sources.proofs.Outcomes.{Clear, Either, as_before, grown, How, stays, comes, Outcome, Along}
 use Rattle.meson_sources.proofs.Owners.{no_statement, node_between, owner, owner_is, single_named}
-use Rattle.meson_sources.proofs.PartsPut.{Differ}
+use Rattle.meson_steps.proofs.PartsPut.{Differ}
 use Rattle.meson_sources.proofs.PathTrees.{files_alike}
 use Rattle.meson_sources.proofs.PlacesBelow.{Far, IsIt, far_deeper, far_apart, aside_far, above_it, under, without_last}
 use Rattle.meson_sources.proofs.SceneKins.{kin_v, kin_c}
@@ -52,7 +52,6 @@ pub call_shape : (x : Any Nowhere) (f : List ℕ) (bs : List (Argument Nowhere))
 call_shape (an_expression (call r g (listing z t ys))) f bs is = record { r = r; name = g; z = z; trailing = t; list = ys; is = refl; same_name = let s : g.text ≡ f = cc in s; same_blanks = let s : blanks ys ≡ bs = cc in s }
 call_shape (an_expression _) f bs is = absurd cc
 call_shape (a_statement (assign r x a e)) f bs is = absurd cc
-call_shape (a_statement (iteration r xs e b)) f bs is = absurd cc
 call_shape (a_statement _) f bs is = absurd cc
 call_shape (a_block b) f bs is = absurd cc
 

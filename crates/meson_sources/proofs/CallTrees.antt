@@ -15,7 +15,7 @@ use Rattle.meson_variables.specs.TargetSources.{list_of_slot}
 use Rattle.meson_calls.specs.NamedArguments.{rest, sources_key}
 use Rattle.meson_sources.proofs.MarkLists.{below, below_child}
 use Rattle.meson_sources.proofs.Outcomes.{Outcome, Along, joined, nothing_both, still, along_same, along_first, along_behind}
-use Rattle.meson_sources.proofs.PartsPut.{Differ}
+use Rattle.meson_steps.proofs.PartsPut.{Differ}
 use Rattle.meson_sources.proofs.Shapes.{Becomes, blanks, differ_none, differ_here, differ_there, same_arguments}
 
 abbrev pub Expand : Type 0

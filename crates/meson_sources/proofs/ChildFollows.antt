@@ -6,14 +6,14 @@ use Rattle.meson_lex.specs.Significant.{Word, new_line}
 use Rattle.meson_syntax.specs.declared.operator.Bracket.{Bracket}
 use Rattle.meson_syntax.specs.declared.operator.Bracket.TheVariants as bracket
 use Rattle.meson_syntax.specs.Operators.{opens, closes}
-use Rattle.meson_syntax.specs.Tree.{Nowhere, Expression, identifier, boolean, integer, string, paren, array, dictionary, call, unary, row, postfix, conditional, Operands, no_operands, operand, Tail, method, index, Tails, no_tails, tail, Listing, listing, plain, named, pair, Arguments, no_arguments, argument, arguments_of, Statement, evaluate, assign, selection, iteration, breaks, continues, Branches, no_branches, branch, Otherwise, nothing_else, otherwise, Statements, no_statements, statement, Block, block}
+use Rattle.meson_syntax.specs.Tree.{Nowhere, Expression, paren, array, dictionary, call, unary, row, postfix, conditional, Operands, no_operands, operand, Tail, method, index, Tails, no_tails, tail, Listing, listing, plain, named, pair, Arguments, no_arguments, argument, arguments_of, Statement, evaluate, assign, selection, iteration, Branches, no_branches, branch, Otherwise, nothing_else, otherwise, Statements, no_statements, statement, Block, block}
 use Rattle.meson_syntax.specs.Grammar.{mark, argument_words, block_words, branches_words, comma_words, expression_words, operator_words, otherwise_words, statement_words, tail_words, tails_words}
 use Rattle.meson_syntax.specs.Paths.{Sort, of_expression, of_statement, of_block, Node, Hole, around, all_around, children, arguments_children, listing_children, operands_children, tail_children, tails_children, expression_children, branches_children, otherwise_children, statement_children, statements_children, block_children}
 use Rattle.meson_syntax.specs.Children.{arguments_parts, branches_parts, tail_parts}
 use Rattle.meson_edit.specs.Edits.{with_elements}
 use Rattle.meson_edit.proofs.paths.Positions.{EveryAt, every-at-append, length-around}
 use Rattle.meson_sources.specs.Without.{Gone, arguments_without, block_without, branches_without, but, expression_without, from_child, listing_without, operands_without, otherwise_without, statement_without, statements_without, tail_without, tails_without}
-use Rattle.meson_sources.proofs.PartsPut.{branches_count, tail_count}
+use Rattle.meson_steps.proofs.PartsPut.{branches_count, tail_count}
 
 abbrev pub node_without : (sort : Sort) → Gone → Node sort Nowhere → Node sort Nowhere
 node_without of_expression g e = expression_without g e
@@ -194,10 +194,6 @@ module _ (old new : Gone) (here : new [] ≡ old []) where
   ExpressionSame e z = expression_without new z ≡ expression_without old e
 
   expression_follows : (e : Expression Nowhere) → EveryAt (Follows (ExpressionSame e)) 0 (expression_children e)
-  expression_follows (identifier s x) = tt
-  expression_follows (boolean s b) = tt
-  expression_follows (integer s x) = tt
-  expression_follows (string s q x) = tt
   expression_follows (paren s e) = (λ others y is. ap (paren s) is, tt)
   expression_follows (array l) = in_part (ListingSame l) (ExpressionSame (array l)) [] [] array 0 (listing_children l bracket.Square) (λ c low high others z is. ap array is) (listing_follows l bracket.Square)
   expression_follows (dictionary l) =
@@ -225,6 +221,7 @@ module _ (old new : Gone) (here : new [] ≡ old []) where
     where
       three : {a b d e f g : Expression Nowhere} → a ≡ b → d ≡ e → f ≡ g → conditional s a d f ≡ conditional s b e g
       three p q r = ap₂ (λ h x. h x) (ap₂ (conditional s) p q) r
+  expression_follows _ = tt
 
   -- ---- statements
 
@@ -279,8 +276,7 @@ module _ (old new : Gone) (here : new [] ≡ old []) where
     λ others y is. ap₂ (iteration s xs) is (block_same 1 b (others 1 (λ same. omega (arith, same)))),
     (λ others y is. ap₂ (iteration s xs) (expression_same 0 e (others 0 (λ same. omega (arith, same)))) is, tt),
   )
-  statement_follows (breaks s) = tt
-  statement_follows (continues s) = tt
+  statement_follows _ = tt
 
   statements_follow : (n : ℕ) (list : Statements Nowhere) → EveryAt (Follows (λ z. statements_without new n z ≡ statements_without old n list)) n (statements_children list)
   statements_follow n no_statements = tt

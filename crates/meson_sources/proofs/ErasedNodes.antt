@@ -1,35 +1,41 @@
--- A path names the same expression in the tree without spans.
+-- A path names the same node in the tree without spans, without its own.
 use Rattle.std.specs.Prelude.{option_and_then, option_map}
-use Rattle.std.proofs.Common.{◌≡◌, ℕ, List, Option, Some, None, refl, sym, ap, ◌∙◌}
+use Rattle.std.proofs.Common.{◌≡◌, ℕ, List, [], ◌∷◌, Option, Some, None, refl, sym, ap, ◌∙◌}
 use Rattle.meson_lex.specs.declared.kinds.Span.{Span}
-use Rattle.meson_lex.specs.Significant.{Word}
-use Rattle.meson_edit.specs.Holes.{words_around, erase_front, WordsAround}
 use Rattle.meson_syntax.specs.Children.{Any, an_expression, a_statement, a_block}
-use Rattle.meson_syntax.specs.inside.Children.{expression_any, node_at}
-use Rattle.meson_syntax.specs.Paths.{Sort, of_expression, of_statement, of_block, Node, Hole, reach, block_of, expression_of, expression_on_path}
-use Rattle.meson_syntax.specs.Tree.{Nowhere, Expression, Block, File, erase, erase_expression}
+use Rattle.meson_syntax.specs.inside.Children.{child_nodes, expression_any, node_at}
+use Rattle.meson_syntax.specs.Paths.{block_of, expression_on_path, nth}
+use Rattle.meson_syntax.specs.Tree.{Nowhere, Expression, File, file, erase, erase_expression}
 use Rattle.meson_syntax.proofs.PathNodes.{expression-reached}
 use Rattle.meson_syntax.proofs.parsing.Steps.{some-injective}
-use Rattle.meson_edit.proofs.paths.Erased.{nodes-erase}
 use Rattle.meson_syntax.proofs.paths.Reaching.{and-then-some, map-some}
+use Rattle.meson_edit.proofs.paths.Mapped.{nth_map}
+use Rattle.meson_calls.proofs.nodes.Erased.{children_erased, erase_any}
 
-abbrev of_words : {S : Type 0} → WordsAround S → Option (Expression S)
-of_words {S} w = expression_of S w.sort w.inside
+module _ {S : Type 0} where
+  through : (path : List ℕ) (o : Option (Any S)) → ((x : Any S) → node_at (erase_any x) path ≡ option_map erase_any (node_at x path))
+      → option_and_then (λ y. node_at y path) (option_map erase_any o) ≡ option_map erase_any (option_and_then (λ y. node_at y path) o)
+  through path None each = refl
+  through path (Some x) each = each x
 
-words_erased : (sort : Sort) (x : Node sort Span) (before behind : List Word) → of_words (erase_front (record { sort = sort; inside = x; before = before; behind = behind })) ≡ option_map erase_expression (expression_of Span sort x)
-words_erased of_expression e before behind = refl
-words_erased of_statement s before behind = refl
-words_erased of_block b before behind = refl
+  pub node_bare : (path : List ℕ) (x : Any S) → node_at (erase_any x) path ≡ option_map erase_any (node_at x path)
+  node_bare [] x = refl
+  node_bare (n ∷ path) x =
+      ap (λ l. option_and_then (λ y. node_at y path) (nth l n)) (children_erased x) ∙ ap (option_and_then (λ y. node_at y path)) (nth_map erase_any (child_nodes x) n) ∙ through path (nth (child_nodes x) n) (node_bare path)
 
-reached_erased : (r : Option (Hole Nowhere (Block Nowhere))) (s : Option (Hole Span (Block Span))) → option_map words_around r ≡ option_map (λ h. erase_front (words_around h)) s
-    → option_and_then (λ (h : Hole Nowhere (Block Nowhere)). expression_of Nowhere h.sort h.inside) r ≡ option_map erase_expression (option_and_then (λ (h : Hole Span (Block Span)). expression_of Span h.sort h.inside) s)
-reached_erased None None is = refl
-reached_erased None (Some h) is = absurd cc
-reached_erased (Some g) None is = absurd cc
-reached_erased (Some g) (Some h) is = ap of_words (some-injective _ _ is) ∙ words_erased h.sort h.inside h.before h.behind
+  pub root_bare : (f : File S) → a_block (block_of (erase f)) ≡ erase_any (a_block (block_of f))
+  root_bare (file s b) = refl
 
-expression_erased : (f : File Span) (path : List ℕ) → expression_on_path (erase f) path ≡ option_map erase_expression (expression_on_path f path)
-expression_erased f path = reached_erased (reach Nowhere of_block (block_of (erase f)) path) (reach Span of_block (block_of f) path) (nodes-erase f path)
+  expression_bare : (o : Option (Any S)) → option_and_then expression_any (option_map erase_any o) ≡ option_map erase_expression (option_and_then expression_any o)
+  expression_bare None = refl
+  expression_bare (Some (an_expression e)) = refl
+  expression_bare (Some _) = refl
+
+  expression_erased : (f : File S) (path : List ℕ) → expression_on_path (erase f) path ≡ option_map erase_expression (expression_on_path f path)
+  expression_erased f path =
+      expression-reached Nowhere (erase f) path ∙ ap (λ r. option_and_then expression_any (node_at r path)) (root_bare f)
+      ∙ ap (option_and_then expression_any) (node_bare path (a_block (block_of f))) ∙ expression_bare (node_at (a_block (block_of f)) path)
+      ∙ ap (option_map erase_expression) (sym (expression-reached S f path))
 
 only_expression : {S : Type 0} (x : Any S) (e : Expression S) → expression_any x ≡ Some e → x ≡ an_expression e
 only_expression (an_expression y) e is = ap an_expression (some-injective y e is)

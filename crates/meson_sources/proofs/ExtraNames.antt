@@ -3,6 +3,7 @@ use Rattle.std.specs.Prelude.{bytes_eq, if◌then◌else◌, option_and_then, op
 use Rattle.std.specs.List.{cons_option}
 use Rattle.std.proofs.Common.{◌≡◌, ℕ, ◌+◌, List, [], ◌∷◌, ◌++◌, append-nil, Some, None, false, refl, sym, ap, ◌∙◌, inr}
 use Rattle.meson_lex.specs.declared.kinds.Span.{Span}
+use Rattle.meson_syntax.specs.Children.{an_expression, argument_parts, arguments_parts}
 use Rattle.meson_syntax.specs.Paths.{ListAt, ListIn, list_at, list_in, value_of}
 use Rattle.meson_syntax.specs.Tree.{Nowhere, Expression, array, dictionary, call, Listing, listing, Argument, plain, named, pair, arguments_of}
 use Rattle.meson_syntax.proofs.parsing.Complete.{list-of-arguments}
@@ -23,7 +24,7 @@ use Rattle.meson_sources.proofs.NamedStays.{KeepsNames, named_stays}
 use Rattle.meson_sources.proofs.NamesStay.{FirstKept, first_in, lists_alike}
 use Rattle.meson_sources.proofs.PlacesBelow.{below_steps}
 use Rattle.meson_sources.proofs.Shapes.{list_becomes}
-use Rattle.meson_sources.proofs.TargetNames.{first_plain, in_argument, in_arguments, in_expression, in_listing}
+use Rattle.meson_sources.proofs.TargetNames.{all_both, first_plain, in_argument, in_arguments, in_expression, in_listing, node_tells}
 
 -- ---- a list by its elements
 
@@ -70,8 +71,10 @@ strings_silent [] = refl
 strings_silent (name ∷ names) = strings_silent names
 
 pub argument_tells : (us : List (Argument Nowhere)) (names : List (List ℕ)) → in_arguments (arguments_of (us ++ extra_argument names ∷ [])) ≡ in_arguments (arguments_of us)
-argument_tells [] names = append-nil _ ∙ append-nil _ ∙ strings_silent names
-argument_tells (u ∷ us) names = ap (λ l. in_argument u ++ l) (argument_tells us names)
+argument_tells [] names = append-nil _ ∙ node_tells (an_expression (array_holding (strings names))) ∙ strings_silent names
+argument_tells (u ∷ us) names =
+    all_both (argument_parts u) (arguments_parts (arguments_of (us ++ extra_argument names ∷ []))) ∙ ap (λ l. in_argument u ++ l) (argument_tells us names)
+    ∙ sym (all_both (argument_parts u) (arguments_parts (arguments_of us)))
 
 pub argument_first : (us : List (Argument Nowhere)) (names : List (List ℕ)) → first_plain (arguments_of (us ++ extra_argument names ∷ [])) ≡ first_plain (arguments_of us)
 argument_first [] names = refl
@@ -85,7 +88,7 @@ abbrev wrapped : Expression Nowhere → List (List ℕ) → Expression Nowhere
 wrapped value names = array_holding (plain value ∷ strings names)
 
 wrapped_tells : (value : Expression Nowhere) (names : List (List ℕ)) → in_expression (wrapped value names) ≡ in_expression value
-wrapped_tells value names = ap (λ l. (in_expression value ++ []) ++ l) (strings_silent names) ∙ append-nil _ ∙ append-nil _
+wrapped_tells value names = node_tells (an_expression (wrapped value names)) ∙ ap (λ l. in_expression value ++ l) (strings_silent names) ∙ append-nil _
 
 value_tells : (value : Expression Nowhere) (names : List (List ℕ)) (it : Argument Nowhere) → value_of it ≡ Some value → in_argument (with_value (wrapped value names) it) ≡ in_argument it
 value_tells value names (plain e) is = ap (λ l. l ++ []) (wrapped_tells value names ∙ ap in_expression (sym (some-injective e value is)))
@@ -94,8 +97,12 @@ value_tells value names (pair s e f) is = ap (λ l. in_expression e ++ (l ++ [])
 
 pub grown_argument_tells : (value : Expression Nowhere) (names : List (List ℕ)) (front : List (Argument Nowhere)) (it : Argument Nowhere) (back : List (Argument Nowhere)) → value_of it ≡ Some value
     → in_arguments (arguments_of (front ++ with_value (wrapped value names) it ∷ back)) ≡ in_arguments (arguments_of (front ++ it ∷ back))
-grown_argument_tells value names [] it back is = ap (λ l. l ++ in_arguments (arguments_of back)) (value_tells value names it is)
-grown_argument_tells value names (u ∷ front) it back is = ap (λ l. in_argument u ++ l) (grown_argument_tells value names front it back is)
+grown_argument_tells value names [] it back is =
+    all_both (argument_parts (with_value (wrapped value names) it)) (arguments_parts (arguments_of back)) ∙ ap (λ l. l ++ in_arguments (arguments_of back)) (value_tells value names it is)
+    ∙ sym (all_both (argument_parts it) (arguments_parts (arguments_of back)))
+grown_argument_tells value names (u ∷ front) it back is =
+    all_both (argument_parts u) (arguments_parts (arguments_of (front ++ with_value (wrapped value names) it ∷ back))) ∙ ap (λ l. in_argument u ++ l) (grown_argument_tells value names front it back is)
+    ∙ sym (all_both (argument_parts u) (arguments_parts (arguments_of (front ++ it ∷ back))))
 
 first_by : (front : List (Argument Nowhere)) (a b : Argument Nowhere) (back : List (Argument Nowhere)) → is_plain a ≡ false → is_plain b ≡ false → first_plain (arguments_of (front ++ a ∷ back)) ≡ first_plain (arguments_of (front ++ b ∷ back))
 first_by [] (plain e) b back one other = absurd cc

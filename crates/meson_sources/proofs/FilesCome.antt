@@ -1,6 +1,6 @@
 -- All files of a target after another list than its call's has got strings.
 use Rattle.std.specs.Prelude.{All}
-use Rattle.std.proofs.Common.{◌≡◌, ℕ, ◌≤◌, Bool, true, false, List, [], ◌∷◌, ◌++◌, length, Some, refl, ◌∙◌, subst, inl, IsUtf8}
+use Rattle.std.proofs.Common.{◌≡◌, ℕ, ◌≤◌, Bool, true, false, List, [], ◌∷◌, ◌++◌, length, Some, refl, sym, ◌∙◌, subst, inl, IsUtf8}
 use Rattle.meson_syntax.specs.declared.operator.Bracket.TheVariants as bracket
 use Rattle.meson_syntax.specs.Children.{Any, an_expression, a_block}
 use Rattle.meson_syntax.specs.inside.Children.{node_at}
@@ -28,6 +28,7 @@ use Rattle.meson_sources.proofs.Kins.{node_level}
 use Rattle.meson_sources.proofs.ListTurns.{ListTurns, Turn, an_array, a_call, a_dictionary, below_first, new_list, none_by_files, none_by_level, old_list}
 use Rattle.meson_sources.proofs.NamedStays.{KeepsNames, named_stays}
 use Rattle.meson_sources.proofs.NamesStay.{Alike, calls_alike, grown_tells}
+use Rattle.meson_sources.proofs.TargetNames.{node_tells}
 use Rattle.meson_sources.proofs.NeverMet.{never_met}
 use Rattle.meson_sources.proofs.PathTrees.{operand_alike}
 use Rattle.meson_sources.proofs.Scenes.{NodeIn, same_places}
@@ -71,7 +72,8 @@ module _ (what : FileKind) (old new : Loaded) (is : IsProject old) (same_names :
       let newer = array (after [] z2) in
       let places = same_places old new same_names h l.tree l.now l.was l.is_now l.others older newer w
       (λ p. told_along (an_expression older) (an_expression newer) refl (λ q. array_told q new_t l.front [] tt tt z z2) h.path.steps (a_block (block_of l.tree)) (a_block (block_of l.now)) w p) in
-      let named = named_by older newer w (record { seen = refl; tells = grown_tells new_t l.front []; owns = refl }) (λ m rest y. below_first l.front (strings new_t ++ []) m rest y) in
+      let tells = node_tells (an_expression newer) ∙ grown_tells new_t l.front [] ∙ sym (node_tells (an_expression older)) in
+      let named = named_by older newer w (record { seen = refl; tells = tells; owns = refl }) (λ m rest y. below_first l.front (strings new_t ++ []) m rest y) in
       let grows = from_grows (arrives what new_t old new same_names h l.tree l.now l.was l.is_now l.others older newer w stand places l.file l.is_file (λ holds holds2. refl) (λ m m2. refl)
       (λ bad seen holds holds2 alike follow follow2 follows u v g k equal behind.
       array_brings new_t bad seen (is_operand_by holds) (is_operand_by holds2) (operand_alike holds holds2 alike) follow follow2 follows [] utf8 l.front tt tt z z2 u v g k equal behind)

@@ -21,7 +21,7 @@ use Rattle.meson_calls.specs.Roles.{has_role, is_target_call, with_role}
 use Rattle.meson_calls.specs.Naming.{or_else, part_set_to, set_to, value_of_assignment, with_name}
 use Rattle.meson_calls.proofs.CallsReached.{InProject, every_chosen, every_part}
 use Rattle.meson_calls.proofs.PartsContained.{all_has}
-use Rattle.meson_calls.proofs.Reached.{any}
+use Rattle.meson_calls.proofs.nodes.PartsBelow.{any}
 use Rattle.meson_sources.proofs.Owners.{node_between}
 use Rattle.meson_sources.proofs.TargetNames.{Naming, a_target, a_variable, tell_call, tell_statement, told}
 
@@ -191,9 +191,6 @@ pub record SetAt (p : Project Span) (id : List ℕ) (at : CallRef) : Type 0 wher
   pub is_name : bytes_eq name.text id ≡ true
 
 module _ (p : Project Span) (id : List ℕ) where
-  abbrev Any : {X : Type 0} → X → Type 0
-  Any x = Unit {0}
-
   every_any : {X : Type 0} (xs : List X) → Every (λ (x : X). Unit {0}) xs
   every_any [] = tt
   every_any (x ∷ xs) = (tt, every_any xs)

@@ -1,7 +1,7 @@
 -- Elements go from the lists of a node, and then others from those of what is left: the node is what it is without all of them.
 use Rattle.std.specs.Prelude.{◌||◌, ◌⊎◌, if◌then◌else◌}
 use Rattle.std.proofs.Common.{◌≡◌, ℕ, suc, ◌+◌, Bool, true, false, List, [], ◌∷◌, ◌++◌, length, Some, None, refl, sym, ap, ap₂, ◌∙◌, subst, arith, inl, inr}
-use Rattle.meson_syntax.specs.Tree.{Nowhere, Expression, identifier, boolean, integer, string, paren, array, dictionary, call, unary, row, postfix, conditional, Operands, no_operands, operand, Tail, method, index, Tails, no_tails, tail, Listing, listing, Argument, plain, named, pair, Arguments, no_arguments, argument, argument_list, arguments_of, Statement, evaluate, assign, selection, iteration, breaks, continues, Branches, no_branches, branch, Otherwise, nothing_else, otherwise, Statements, no_statements, statement, Block, block}
+use Rattle.meson_syntax.specs.Tree.{Nowhere, Expression, paren, array, dictionary, call, unary, row, postfix, conditional, Operands, no_operands, operand, Tail, method, index, Tails, no_tails, tail, Listing, listing, Argument, plain, named, pair, Arguments, no_arguments, argument, argument_list, arguments_of, Statement, evaluate, assign, selection, iteration, Branches, no_branches, branch, Otherwise, nothing_else, otherwise, Statements, no_statements, statement, Block, block}
 use Rattle.meson_syntax.specs.Children.{an_expression, a_statement, a_block, arguments_parts, branches_parts, listing_parts, tail_parts}
 use Rattle.meson_syntax.specs.inside.Children.{child_nodes, operands_parts, otherwise_parts, statements_parts, tails_parts}
 use Rattle.meson_syntax.specs.Paths.{nth}
@@ -190,10 +190,6 @@ module _ (f g h : Gone) where
   Children x = (m n : ℕ) (y : Node) → nth (child_nodes x) n ≡ Some y → g [] n ≡ false → m ≡ left_before (g []) n → ChildThen m n y
 
   pub node_then : (x : Node) → Fits g x → ((l : Listing Nowhere) → list_any x ≡ Some l → InAll (f []) (g []) (h [])) → Children x → any_without f (any_without g x) ≡ any_without h x
-  node_then (an_expression (identifier s x)) fits same children = refl
-  node_then (an_expression (boolean s b)) fits same children = refl
-  node_then (an_expression (integer s x)) fits same children = refl
-  node_then (an_expression (string s q x)) fits same children = refl
   node_then (an_expression (paren s e)) fits same children =
       let all = all_stay (an_expression (paren s e)) fits same children refl in ap (λ d. an_expression (paren s d)) (expression_then 0 0 e all.0)
   node_then (an_expression (array l)) fits same children = ap (λ m. an_expression (array m)) (list_then (an_expression (array l)) fits same children l refl refl)
@@ -208,6 +204,7 @@ module _ (f g h : Gone) where
   node_then (an_expression (conditional s c y n)) fits same children =
       let all = all_stay (an_expression (conditional s c y n)) fits same children refl in
       ap₂ (λ p e. an_expression (p e)) (ap₂ (conditional s) (expression_then 0 0 c all.0) (expression_then 1 1 y all.1.0)) (expression_then 2 2 n all.1.1.0)
+  node_then (an_expression _) fits same children = refl
   node_then (a_statement (evaluate e)) fits same children =
       let all = all_stay (a_statement (evaluate e)) fits same children refl in ap (λ d. a_statement (evaluate d)) (expression_then 0 0 e all.0)
   node_then (a_statement (assign s x a e)) fits same children =
@@ -222,7 +219,6 @@ module _ (f g h : Gone) where
   node_then (a_statement (iteration s xs e b)) fits same children =
       let all = all_stay (a_statement (iteration s xs e b)) fits same children refl in
       ap₂ (λ d c. a_statement (iteration s xs d c)) (expression_then 0 0 e all.0) (block_then 1 b all.1.0)
-  node_then (a_statement (breaks s)) fits same children = refl
-  node_then (a_statement (continues s)) fits same children = refl
+  node_then (a_statement _) fits same children = refl
   node_then (a_block (block s list)) fits same children =
       let all = all_stay (a_block (block s list)) fits same children refl in ap (λ l. a_block (block s l)) (statements_then 0 list all)

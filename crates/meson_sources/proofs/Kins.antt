@@ -24,7 +24,7 @@ use Rattle.meson_sources.proofs.Bares.{bare_value, values_of}
 use Rattle.meson_sources.proofs.Follows.{Kin, Equal, OnTheWay, neither, equal, on_the_way}
 use Rattle.meson_sources.proofs.MarkLists.{below}
 use Rattle.meson_sources.proofs.Owners.{node_between, single_stands}
-use Rattle.meson_sources.proofs.PartsPut.{Differ, here, there}
+use Rattle.meson_steps.proofs.PartsPut.{Differ, here, there}
 use Rattle.meson_sources.proofs.Scenes.{NodeIn, bare_in}
 use Rattle.meson_sources.proofs.Shapes.{Becomes}
 

@@ -18,7 +18,6 @@ mod NamedSpots
 mod NewLists
 mod OnlyLists
 mod OneGone
-mod PartsPut
 mod PlainCounts
 mod Plains
 mod Planned
@@ -42,7 +41,6 @@ mod TreesTwice
 mod WithoutPlaces
 mod WithoutLoses
 mod NodesMoved
-mod NodeInduction
 mod TellsKept
 mod StringsThere
 mod TargetCalls
@@ -89,7 +87,6 @@ mod NamedGone
 mod SpotsHeld
 mod TargetNames
 mod NamesStay
-mod BareNodes
 mod FoundAgain
 mod NamedAgain
 mod NamedStays

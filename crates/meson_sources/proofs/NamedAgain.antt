@@ -10,7 +10,7 @@ use Rattle.meson_syntax.specs.declared.tree.Parsed.{Parsed}
 use Rattle.meson_syntax.specs.Children.{Any, an_expression, a_statement, a_block}
 use Rattle.meson_syntax.specs.inside.Children.{node_at}
 use Rattle.meson_syntax.specs.Paths.{block_of, nth}
-use Rattle.meson_syntax.specs.Tree.{Nowhere, Plain, Name, Expression, identifier, string, array, call, row, assign, evaluate, selection, iteration, breaks, continues, erase, erase_expression, erase_name, file}
+use Rattle.meson_syntax.specs.Tree.{Nowhere, Plain, Name, Expression, array, assign, erase, erase_expression, erase_name, file}
 use Rattle.meson_syntax.specs.View.{view}
 use Rattle.meson_syntax.proofs.paths.Reaching.{map-some}
 use Rattle.meson_calls.specs.declared.call.CallRef.{CallRef}
@@ -23,9 +23,9 @@ use Rattle.meson_calls.specs.Project.{Placed, child}
 use Rattle.meson_calls.proofs.CallsFound.{role_found}
 use Rattle.meson_steps.specs.ResultLimits.{plain_trees}
 use Rattle.meson_steps.proofs.PlainTrees.{tree_there}
-use Rattle.meson_sources.proofs.BareNodes.{bare, node_bare, root_bare}
+use Rattle.meson_calls.proofs.nodes.Erased.{erase_any}
 use Rattle.meson_sources.proofs.ElementsThere.{root}
-use Rattle.meson_sources.proofs.ErasedNodes.{expression_node, node_with_spans}
+use Rattle.meson_sources.proofs.ErasedNodes.{expression_node, node_bare, node_with_spans, root_bare}
 use Rattle.meson_sources.proofs.FoundAgain.{Names, SetAt, again}
 use Rattle.meson_sources.proofs.Scenes.{NodeIn}
 use Rattle.meson_sources.proofs.Shapes.{an_assignment, shape}
@@ -59,7 +59,7 @@ set_bare : (l : Loaded) (id : List ℕ) (at : CallRef) (s : SetAt (project l) id
 set_bare l id at s = record {
   tree = erase s.file.tree;
   is_tree = tree_there l.files l.parsed at.file s.file s.is_file;
-  is_node = ap (λ x. node_at x at.path.steps) (root_bare s.file.tree) ∙ node_bare at.path.steps (a_block (block_of s.file.tree)) ∙ ap (option_map bare) s.is_node;
+  is_node = ap (λ x. node_at x at.path.steps) (root_bare s.file.tree) ∙ node_bare at.path.steps (a_block (block_of s.file.tree)) ∙ ap (option_map erase_any) s.is_node;
 }
 
 record Assigns (y : Any Span) (text : List ℕ) : Type 0 where
@@ -69,23 +69,18 @@ record Assigns (y : Any Span) (text : List ℕ) : Type 0 where
   is : y ≡ a_statement (assign s name assignment.Set value)
   same : name.text ≡ text
 
-assigns : (y : Any Span) (r : Nowhere) (x : Name Nowhere) (v : Expression Nowhere) → bare y ≡ a_statement (assign r x assignment.Set v) → Assigns y x.text
+assigns : (y : Any Span) (r : Nowhere) (x : Name Nowhere) (v : Expression Nowhere) → erase_any y ≡ a_statement (assign r x assignment.Set v) → Assigns y x.text
 assigns (a_statement (assign s name assignment.Set value)) r x v is = record { s = s; name = name; value = value; is = refl; same = let same : erase_name name ≡ x = cc in ap (λ (z : Name Nowhere). z.text) same }
-assigns (a_statement (assign s name assignment.Add value)) r x v is = absurd cc
-assigns (a_statement (evaluate e)) r x v is = absurd cc
-assigns (a_statement (selection s bs o)) r x v is = absurd cc
-assigns (a_statement (iteration s xs e b)) r x v is = absurd cc
-assigns (a_statement (breaks s)) r x v is = absurd cc
-assigns (a_statement (continues s)) r x v is = absurd cc
+assigns (a_statement _) r x v is = absurd cc
 assigns (an_expression e) r x v is = absurd cc
 assigns (a_block b) r x v is = absurd cc
 
 set_with_spans : (l : Loaded) (id : List ℕ) (at : CallRef) (r : Nowhere) (x : Name Nowhere) (v : Expression Nowhere) → bytes_eq x.text id ≡ true → NodeIn (plain_trees l) at (a_statement (assign r x assignment.Set v)) → SetAt (project l) id at
 set_with_spans l id at r x v named n =
     let tree_at = span_tree l.files l.parsed at.file n.tree n.is_tree in
-    let there : node_at (bare (a_block (block_of tree_at.0.tree))) at.path.steps ≡ Some (a_statement (assign r x assignment.Set v)) =
+    let there : node_at (erase_any (a_block (block_of tree_at.0.tree))) at.path.steps ≡ Some (a_statement (assign r x assignment.Set v)) =
     sym (ap (λ z. node_at z at.path.steps) (root_bare tree_at.0.tree)) ∙ ap (λ u. node_at (root u) at.path.steps) tree_at.2 ∙ n.is_node in
-    let y = map-some bare (node_at (a_block (block_of tree_at.0.tree)) at.path.steps) _ (sym (node_bare at.path.steps (a_block (block_of tree_at.0.tree))) ∙ there) in
+    let y = map-some erase_any (node_at (a_block (block_of tree_at.0.tree)) at.path.steps) _ (sym (node_bare at.path.steps (a_block (block_of tree_at.0.tree))) ∙ there) in
     let a = assigns y.0 r x v y.2 in
     record { file = tree_at.0; is_file = tree_at.1; s = a.s; name = a.name; value = a.value; is_node = y.1 ∙ ap Some a.is; is_name = ap (λ t. bytes_eq t id) a.same ∙ named }
 
@@ -101,13 +96,8 @@ pub assigned_shape : (y : Any Nowhere) (text : List ℕ) (how : Assignment) → 
 assigned_shape (a_statement (assign r name a value)) text how is =
     let hows : a ≡ how = cc in
     record { r = r; name = name; value = value; is = ap (λ b. a_statement (assign r name b value)) hows; same = let same : name.text ≡ text = cc in same }
-assigned_shape (a_statement (iteration r xs e b)) text how is = absurd cc
 assigned_shape (a_statement _) text how is = absurd cc
 assigned_shape (an_expression (array l)) text how is = absurd cc
-assigned_shape (an_expression (call r f l)) text how is = absurd cc
-assigned_shape (an_expression (row r e os)) text how is = absurd cc
-assigned_shape (an_expression (identifier r x)) text how is = absurd cc
-assigned_shape (an_expression (string r q x)) text how is = absurd cc
 assigned_shape (an_expression _) text how is = absurd cc
 assigned_shape (a_block b) text how is = absurd cc
 

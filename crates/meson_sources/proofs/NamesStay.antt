@@ -6,13 +6,13 @@ use Rattle.meson_syntax.specs.declared.operator.Assignment.TheVariants as assign
 use Rattle.meson_syntax.specs.Children.{Any, an_expression, a_statement, a_block, arguments_parts}
 use Rattle.meson_syntax.specs.inside.Children.{child_nodes}
 use Rattle.meson_syntax.specs.Paths.{ListIn, list_in}
-use Rattle.meson_syntax.specs.Tree.{Nowhere, Name, Expression, identifier, string, array, dictionary, call, Listing, listing, Argument, plain, named, pair, Arguments, no_arguments, argument, arguments_of, assign, iteration}
+use Rattle.meson_syntax.specs.Tree.{Nowhere, Name, Expression, identifier, string, array, dictionary, call, Listing, listing, Argument, plain, named, pair, Arguments, no_arguments, argument, arguments_of, assign}
 use Rattle.meson_syntax.proofs.parsing.Steps.{some-injective}
 use Rattle.meson_calls.specs.Calls.{literal_of}
 use Rattle.meson_calls.specs.Roles.{is_target_call, one_of, target_functions}
 use Rattle.meson_sources.specs.Effects.{strings}
 use Rattle.meson_sources.specs.SourceEdits.{is_plain}
-use Rattle.meson_sources.proofs.PartsPut.{Differ, here, there}
+use Rattle.meson_steps.proofs.PartsPut.{Differ, here, there}
 use Rattle.meson_sources.proofs.Shapes.{Shape, a_call, an_assignment, a_leaf, shape, blanks, Becomes}
 use Rattle.meson_sources.proofs.TargetNames.{Naming, a_target, a_variable, in_any, in_all, in_arguments, in_expression, in_listing, own, node_tells, first_plain, first_is, call_by, call_tells}
 use Rattle.meson_sources.proofs.TellsStay.{no_leaf}
@@ -88,7 +88,6 @@ sight_is (an_expression (identifier s x)) inner = absurd (inner refl)
 sight_is (an_expression (string s q x)) inner = absurd (inner refl)
 sight_is (an_expression _) inner = refl
 sight_is (a_statement (assign s x a e)) inner = refl
-sight_is (a_statement (iteration s xs e b)) inner = refl
 sight_is (a_statement _) inner = refl
 sight_is (a_block b) inner = refl
 
@@ -159,7 +158,7 @@ module _ (s : Nowhere) (f : Name Nowhere) (r r2 : Nowhere) (trailing trailing2 :
       let owns : own (an_expression newer) ≡ own (an_expression older) = call_tells f.text r2 trailing2 ys ∙ call_owned kept ∙ sym (call_tells f.text r trailing xs) in
       record {
         seen = ap (λ o. call_seen f.text (is_some o)) (first_is 0 ys) ∙ call_viewed kept ∙ sym (ap (λ o. call_seen f.text (is_some o)) (first_is 0 xs));
-        tells = ap₂ cons_option owns told;
+        tells = node_tells (an_expression newer) ∙ ap₂ cons_option owns told ∙ sym (node_tells (an_expression older));
         owns = owns;
       }
 
@@ -168,9 +167,11 @@ calls_alike s f (listing r trailing xs) (listing r2 trailing2 ys) told kept = ca
 
 pub lists_alike : (e : Expression Nowhere) (o : ListIn Nowhere) → list_in e ≡ Some o → (m : Listing Nowhere) → in_listing m ≡ in_listing o.list → FirstKept e m → Alike (an_expression e) (an_expression (o.back m))
 lists_alike (array l) o is m told kept =
-    subst (λ (u : ListIn Nowhere). in_listing m ≡ in_listing u.list → Alike (an_expression (array l)) (an_expression (u.back m))) (some-injective _ _ is) (λ same. record { seen = refl; tells = same; owns = refl }) told
+    subst (λ (u : ListIn Nowhere). in_listing m ≡ in_listing u.list → Alike (an_expression (array l)) (an_expression (u.back m))) (some-injective _ _ is)
+    (λ same. record { seen = refl; tells = node_tells (an_expression (array m)) ∙ same ∙ sym (node_tells (an_expression (array l))); owns = refl }) told
 lists_alike (dictionary l) o is m told kept =
-    subst (λ (u : ListIn Nowhere). in_listing m ≡ in_listing u.list → Alike (an_expression (dictionary l)) (an_expression (u.back m))) (some-injective _ _ is) (λ same. record { seen = refl; tells = same; owns = refl }) told
+    subst (λ (u : ListIn Nowhere). in_listing m ≡ in_listing u.list → Alike (an_expression (dictionary l)) (an_expression (u.back m))) (some-injective _ _ is)
+    (λ same. record { seen = refl; tells = node_tells (an_expression (dictionary m)) ∙ same ∙ sym (node_tells (an_expression (dictionary l))); owns = refl }) told
 lists_alike (call s f l) o is m told kept =
     subst (λ (u : ListIn Nowhere). in_listing m ≡ in_listing u.list → Alike (an_expression (call s f l)) (an_expression (u.back m))) (some-injective _ _ is) (λ same. calls_alike s f l m same kept) told
 lists_alike _ o is m told kept = absurd cc
@@ -180,9 +181,9 @@ lists_alike _ o is m told kept = absurd cc
 pub grown_tells : (names : List (List ℕ)) (front back : List (Argument Nowhere)) → in_arguments (arguments_of (front ++ (strings names ++ back))) ≡ in_arguments (arguments_of (front ++ back))
 grown_tells [] [] back = refl
 grown_tells (name ∷ names) [] back = grown_tells names [] back
-grown_tells names (plain e ∷ front) back = ap (λ l. (in_expression e ++ []) ++ l) (grown_tells names front back)
-grown_tells names (named s x e ∷ front) back = ap (λ l. (in_expression e ++ []) ++ l) (grown_tells names front back)
-grown_tells names (pair s e f ∷ front) back = ap (λ l. (in_expression e ++ (in_expression f ++ [])) ++ l) (grown_tells names front back)
+grown_tells names (plain e ∷ front) back = ap (λ l. in_expression e ++ l) (grown_tells names front back)
+grown_tells names (named s x e ∷ front) back = ap (λ l. in_expression e ++ l) (grown_tells names front back)
+grown_tells names (pair s e f ∷ front) back = ap (λ l. in_expression e ++ (in_expression f ++ l)) (grown_tells names front back)
 
 -- where an argument without a name stands before them
 pub first_grown : (front more back : List (Argument Nowhere)) → list_any is_plain front ≡ true → first_plain (arguments_of (front ++ more)) ≡ first_plain (arguments_of (front ++ back))

@@ -20,7 +20,7 @@ use Rattle.meson_sources.proofs.Functions.{target_no_files}
 use Rattle.meson_sources.proofs.Kins.{becomes_same, node_below, node_level}
 use Rattle.meson_sources.proofs.MarkLists.{below, below_child, below_itself}
 use Rattle.meson_sources.proofs.Outcomes.{Clear, Either, as_before, grown, How, stays, comes, Outcome, Along, along_same, opaque_both}
-use Rattle.meson_sources.proofs.PartsPut.{Differ}
+use Rattle.meson_steps.proofs.PartsPut.{Differ}
 use Rattle.meson_sources.proofs.PlacesBelow.{Far, IsIt, below_steps, under}
 use Rattle.meson_sources.proofs.SceneKins.{kin_x}
 use Rattle.meson_sources.proofs.Scenes.{NodeIn}

@@ -3,7 +3,7 @@ use Rattle.std.proofs.Common.{◌≡◌, ℕ, suc, Bool, true, false, [], ◌∷
 use Rattle.meson_syntax.specs.declared.operator.Bracket.{Bracket}
 use Rattle.meson_syntax.specs.declared.operator.Bracket.TheVariants as bracket
 use Rattle.meson_syntax.specs.Grammar.{Flagged, LevelArguments, LevelBlock, LevelBranches, LevelExpression, LevelFile, LevelListing, LevelOperands, LevelOtherwise, LevelStatement, LevelStatements, LevelTail, LevelTails}
-use Rattle.meson_syntax.specs.Tree.{Nowhere, Plain, Expression, identifier, boolean, integer, string, paren, array, dictionary, call, unary, row, postfix, conditional, Operands, no_operands, operand, Tail, method, index, Tails, no_tails, tail, Listing, listing, plain, named, pair, Arguments, no_arguments, argument, argument_list, arguments_of, Statement, evaluate, assign, selection, iteration, breaks, continues, Branches, no_branches, branch, Otherwise, nothing_else, otherwise, Statements, no_statements, statement, Block, block, file}
+use Rattle.meson_syntax.specs.Tree.{Nowhere, Plain, Expression, paren, array, dictionary, call, unary, row, postfix, conditional, Operands, no_operands, operand, Tail, method, index, Tails, no_tails, tail, Listing, listing, plain, named, pair, Arguments, no_arguments, argument, argument_list, arguments_of, Statement, evaluate, assign, selection, iteration, Branches, no_branches, branch, Otherwise, nothing_else, otherwise, Statements, no_statements, statement, Block, block, file}
 use Rattle.meson_syntax.proofs.parsing.Complete.{list-of-arguments}
 use Rattle.meson_edit.specs.Edits.{with_elements}
 use Rattle.meson_sources.specs.Without.{Gone, arguments_without, block_without, branches_without, expression_without, listing_without, operands_without, otherwise_without, statement_without, statements_without, tail_without, tails_without, tree_without}
@@ -19,10 +19,6 @@ as_it_was s trailing (argument a more) flagged = ap (listing s trailing) (list-o
 
 mutual
   expression_stays : (e : Expression Nowhere) → LevelExpression e → expression_without nothing e ≡ e
-  expression_stays (identifier s x) level = refl
-  expression_stays (boolean s b) level = refl
-  expression_stays (integer s x) level = refl
-  expression_stays (string s q x) level = refl
   expression_stays (paren s e) level = ap (paren s) (expression_stays e level)
   expression_stays (array l) level = ap array (listing_stays l bracket.Square level)
   expression_stays (dictionary l) level = ap dictionary (listing_stays l bracket.Curly level)
@@ -32,6 +28,7 @@ mutual
   expression_stays (postfix s e ts) level = ap₂ (postfix s) (expression_stays e level.2) (tails_stay 1 ts level.3)
   expression_stays (conditional s c y n) level =
       ap₂ (λ f g. f g) (ap₂ (conditional s) (expression_stays c level.1) (expression_stays y level.2)) (expression_stays n level.3)
+  expression_stays _ level = refl
 
   listing_stays : (l : Listing Nowhere) (b : Bracket) → LevelListing l b → listing_without nothing l ≡ l
   listing_stays (listing s trailing list) b level =
@@ -64,8 +61,7 @@ mutual
   statement_stays (assign s x a e) level = ap (assign s x a) (expression_stays e level)
   statement_stays (selection s bs o) level = ap₂ (selection s) (branches_stay 0 bs level.1) (otherwise_stays _ o level.2)
   statement_stays (iteration s xs e b) level = ap₂ (iteration s xs) (expression_stays e level.1) (block_stays b level.2)
-  statement_stays (breaks s) level = refl
-  statement_stays (continues s) level = refl
+  statement_stays _ level = refl
 
   branches_stay : (n : ℕ) (bs : Branches Nowhere) → LevelBranches bs → branches_without nothing n bs ≡ bs
   branches_stay n no_branches level = refl

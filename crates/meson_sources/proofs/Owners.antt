@@ -3,12 +3,12 @@ use Rattle.std.specs.Prelude.{not, ◌&&◌, if◌then◌else◌, bytes_eq, opti
 use Rattle.std.proofs.Common.{◌≡◌, ℕ, zero, suc, ◌+◌, Bool, true, false, List, [], ◌∷◌, ◌++◌, Option, Some, None, refl, sym, ap, ◌∙◌, subst, arith}
 use Rattle.meson_lex.specs.declared.kinds.Span.{Span}
 use Rattle.meson_syntax.specs.declared.operator.Assignment.{Assignment}
-use Rattle.meson_syntax.specs.Children.{Any, an_expression, a_statement, a_block, arguments_parts, tail_parts}
-use Rattle.meson_syntax.specs.inside.Children.{child_nodes, node_at, operands_parts, tails_parts, expression_parts}
+use Rattle.meson_syntax.specs.Children.{Any, an_expression, a_statement, a_block}
+use Rattle.meson_syntax.specs.inside.Children.{child_nodes, node_at}
 use Rattle.meson_syntax.specs.Paths.{nth, block_of}
-use Rattle.meson_syntax.specs.Tree.{Name, Expression, paren, array, dictionary, call, unary, row, postfix, conditional, Operands, no_operands, operand, Tail, method, index, Tails, no_tails, tail, listing, plain, named, pair, Arguments, no_arguments, argument, Statement, evaluate, assign, selection, iteration, breaks, continues}
+use Rattle.meson_syntax.specs.Tree.{Name, Expression, Statement, assign}
 use Rattle.meson_syntax.proofs.parsing.Steps.{some-injective}
-use Rattle.meson_syntax.proofs.paths.Every.{Every, every-append, every-nth}
+use Rattle.meson_syntax.proofs.paths.Every.{Every, every-nth}
 use Rattle.meson_syntax.proofs.paths.Reaching.{and-then-some}
 use Rattle.meson_calls.specs.declared.call.CallRef.{CallRef}
 use Rattle.meson_calls.specs.Parts.{Part, parts}
@@ -19,52 +19,20 @@ use Rattle.meson_variables.specs.Variables.{Assigned, part_assigned, assigned_by
 use Rattle.meson_calls.specs.Notes.{is_set}
 use Rattle.meson_calls.proofs.CallsReached.{InProject, every_chosen, every_part}
 use Rattle.meson_calls.proofs.ExpressionsAt.{assigned_stands}
-use Rattle.meson_calls.proofs.Reached.{any}
+use Rattle.meson_calls.proofs.nodes.PartsBelow.{any}
+use Rattle.meson_calls.proofs.nodes.Sorts.{IsExpression, may_stand}
 
 module _ {S : Type 0} where
-  -- ---- all in an expression are expressions
-
-  abbrev IsExpression : Any S → Type 0
-  IsExpression x = (e : Expression S) × (x ≡ an_expression e)
-
-  abbrev AllExpressions : List (Any S) → Type 0
-  AllExpressions xs = Every IsExpression xs
-
-  arguments_all : (list : Arguments S) → AllExpressions (arguments_parts list)
-  arguments_all no_arguments = tt
-  arguments_all (argument (plain e) more) = ((e, refl), arguments_all more)
-  arguments_all (argument (named s x e) more) = ((e, refl), arguments_all more)
-  arguments_all (argument (pair s e f) more) = ((e, refl), ((f, refl), arguments_all more))
-
-  operands_all : (os : Operands S) → AllExpressions (operands_parts os)
-  operands_all no_operands = tt
-  operands_all (operand o e more) = ((e, refl), operands_all more)
-
-  tail_all : (t : Tail S) → AllExpressions (tail_parts t)
-  tail_all (method s x (listing r trailing list)) = arguments_all list
-  tail_all (index s e) = ((e, refl), tt)
-
-  tails_all : (ts : Tails S) → AllExpressions (tails_parts ts)
-  tails_all no_tails = tt
-  tails_all (tail t more) = every-append IsExpression (tail_parts t) (tails_parts more) (tail_all t) (tails_all more)
-
-  expression_all : (e : Expression S) → AllExpressions (expression_parts e)
-  expression_all (paren s e) = ((e, refl), tt)
-  expression_all (array (listing r trailing list)) = arguments_all list
-  expression_all (dictionary (listing r trailing list)) = arguments_all list
-  expression_all (call s x (listing r trailing list)) = arguments_all list
-  expression_all (unary s o e) = ((e, refl), tt)
-  expression_all (row s e os) = ((e, refl), operands_all os)
-  expression_all (postfix s e ts) = ((e, refl), tails_all ts)
-  expression_all (conditional s c y n) = ((c, refl), ((y, refl), ((n, refl), tt)))
-  expression_all _ = tt
-
   pub no_statement : (path : List ℕ) (e : Expression S) (s : Statement S) → node_at (an_expression e) path ≡ Some (a_statement s) → ⊥
   no_statement [] e s is = cc
   no_statement (n ∷ path) e s is =
-      let o = and-then-some (λ y. node_at y path) (nth (expression_parts e) n) (a_statement s) is in
-      let d = every-nth IsExpression (expression_parts e) n o.0 (expression_all e) o.1 in
-      no_statement path d.0 s (sym (ap (λ y. node_at y path) d.1) ∙ o.2)
+      let o = and-then-some (λ y. node_at y path) (nth (child_nodes (an_expression e)) n) (a_statement s) is in
+      below o.0 (every-nth IsExpression (child_nodes (an_expression e)) n o.0 (may_stand (an_expression e)) o.1) (λ d. no_statement path d s) o.2
+    where
+      below : (y : Any S) → IsExpression y → ((d : Expression S) → node_at (an_expression d) path ≡ Some (a_statement s) → ⊥) → node_at y path ≡ Some (a_statement s) → ⊥
+      below (an_expression d) is_one deeper there = deeper d there
+      below (a_statement t) is_one deeper there = is_one
+      below (a_block b) is_one deeper there = is_one
 
   -- a node that stands on the way to another
   pub node_between : (path rest : List ℕ) (x y : Any S) → node_at x path ≡ Some y → node_at x (path ++ rest) ≡ node_at y rest
@@ -85,15 +53,11 @@ module _ {S : Type 0} where
 
   -- an assignment has no statement within it
   none_within : (x : Any S) (n : ℕ) (path : List ℕ) (s : Statement S) → node_at x (n ∷ path) ≡ Some (a_statement s) → assigned_name x ≡ None
-  none_within (an_expression e) n path s is = refl
-  none_within (a_block b) n path s is = refl
-  none_within (a_statement (evaluate e)) n path s is = refl
   none_within (a_statement (assign r x a e)) zero path s is = absurd (no_statement path e s is)
   none_within (a_statement (assign r x a e)) (suc n) path s is = absurd cc
-  none_within (a_statement (selection r bs o)) n path s is = refl
-  none_within (a_statement (iteration r xs e b)) n path s is = refl
-  none_within (a_statement (breaks r)) n path s is = refl
-  none_within (a_statement (continues r)) n path s is = refl
+  none_within (a_statement _) n path s is = refl
+  none_within (an_expression e) n path s is = refl
+  none_within (a_block b) n path s is = refl
 
   pub owner_is : (path : List ℕ) (n : ℕ) (rest : List ℕ) (x : Any S) (s : S) (y : Name S) (a : Assignment) (e : Expression S) → node_at x path ≡ Some (a_statement (assign s y a e)) → owner x (path ++ n ∷ rest) ≡ Some y.text
   owner_is [] n rest x s y a e is =

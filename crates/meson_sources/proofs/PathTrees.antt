@@ -15,7 +15,7 @@ use Rattle.meson_calls.specs.Project.{child}
 use Rattle.meson_calls.specs.Roles.{one_of}
 use Rattle.meson_sources.proofs.MarkLists.{below, below_child}
 use Rattle.meson_sources.proofs.Outcomes.{Outcome, Along, joined, opaque_both, still, along_same, along_first, along_behind, along_within}
-use Rattle.meson_sources.proofs.PartsPut.{Differ}
+use Rattle.meson_steps.proofs.PartsPut.{Differ}
 use Rattle.meson_sources.proofs.SameTrees.{expression_same, operands_same, each_same, slot_clear}
 use Rattle.meson_sources.proofs.Shapes.{Shape, an_array, a_call, a_leaf, another, shape, blanks, list_blanks, operators, Becomes, differ_none, differ_here, differ_there, same_arguments, same_operands}
 

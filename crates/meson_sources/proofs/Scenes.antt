@@ -21,7 +21,7 @@ use Rattle.meson_steps.proofs.PlainTrees.{tree_there}
 use Rattle.meson_sources.proofs.ErasedNodes.{bare_node, expression_node, node_with_spans}
 use Rattle.meson_sources.proofs.MarkLists.{below}
 use Rattle.meson_sources.proofs.Owners.{no_statement, node_between, single_named}
-use Rattle.meson_sources.proofs.PartsPut.{differ_old, differ_new, differ_other}
+use Rattle.meson_steps.proofs.PartsPut.{differ_old, differ_new, differ_other}
 use Rattle.meson_sources.proofs.PlacesBelow.{Far, without_last}
 use Rattle.meson_sources.proofs.Shapes.{Becomes, OnPath, on_path}
 use Rattle.meson_sources.proofs.Tells.{of_any, told, told_both}

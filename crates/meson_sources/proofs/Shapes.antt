@@ -9,7 +9,7 @@ use Rattle.meson_syntax.specs.declared.operator.Bracket.TheVariants as bracket
 use Rattle.meson_lex.specs.declared.kinds.Kind.TheVariants as k
 use Rattle.meson_syntax.specs.Operators.{opens, closes}
 use Rattle.meson_syntax.specs.Grammar.{mark, comma_words, argument_words, arguments_words, expression_words, operator_words, otherwise_words, branches_words}
-use Rattle.meson_syntax.specs.Tree.{Nowhere, Plain, Name, Expression, boolean, identifier, integer, string, paren, array, dictionary, call, unary, row, postfix, conditional, Operands, no_operands, operand, Listing, listing, Argument, plain, named, pair, Arguments, no_arguments, argument, Statement, evaluate, assign, selection, iteration, breaks, continues, Block, file}
+use Rattle.meson_syntax.specs.Tree.{Nowhere, Plain, Name, Expression, boolean, identifier, string, paren, array, dictionary, call, unary, row, postfix, conditional, Operands, no_operands, operand, Listing, listing, Argument, plain, named, pair, Arguments, no_arguments, argument, Statement, evaluate, assign, selection, iteration, Block, file}
 use Rattle.meson_syntax.specs.Paths.{Sort, of_expression, of_statement, of_block, Node, Hole, around, all_around, children, nth_hole, reach, block_of, ListIn, list_in, ListAt, list_at, list_within, list_of_node, argument_children, arguments_children, listing_children, operands_children, tails_children, expression_children, branches_children, otherwise_children, statement_children}
 use Rattle.meson_syntax.specs.Children.{Any, an_expression, a_statement, a_block, arguments_parts}
 use Rattle.meson_syntax.specs.inside.Children.{any_of, child_nodes, node_at, operands_parts}
@@ -17,7 +17,7 @@ use Rattle.meson_syntax.proofs.parsing.Steps.{some-injective}
 use Rattle.meson_syntax.proofs.paths.Every.{Every, every-append, every-around, every-nth}
 use Rattle.meson_syntax.proofs.paths.Reaching.{map-some, and-then-some}
 use Rattle.meson_edit.proofs.paths.Positions.{every-at-nth}
-use Rattle.meson_sources.proofs.PartsPut.{Differ, here, there, PutsAmong, children_put, differ_old, differ_new}
+use Rattle.meson_steps.proofs.PartsPut.{Differ, here, there, PutsAmong, children_put, differ_old, differ_new}
 
 -- ---- shapes
 
@@ -107,10 +107,6 @@ operands_stay (operand o e more) = (
 )
 
 expression_stays : (e : Expression Nowhere) → Every (ShapeStays of_expression e) (expression_children e)
-expression_stays (identifier s x) = tt
-expression_stays (boolean s b) = tt
-expression_stays (integer s x) = tt
-expression_stays (string s q x) = tt
 expression_stays (paren s e) = (λ y. refl, tt)
 expression_stays (array l) = every-around (BlanksStay (Listing Nowhere) list_blanks l) (ShapeStays of_expression (array l)) [] [] array (λ h stays y. ap an_array (stays y)) (listing_children l bracket.Square) (listing_stays l bracket.Square)
 expression_stays (dictionary l) = another_around of_expression (dictionary l) refl [] [] dictionary (λ z. refl) (listing_children l bracket.Curly)
@@ -123,6 +119,7 @@ expression_stays (row s e os) = (
 )
 expression_stays (postfix s e ts) = (λ y. refl, another_around of_expression (postfix s e ts) refl (expression_words e) [] (postfix s e) (λ z. refl) (tails_children ts))
 expression_stays (conditional s c y n) = (λ z. refl, (λ z. refl, (λ z. refl, tt)))
+expression_stays _ = tt
 
 statement_stays : (s : Statement Nowhere) → Every (ShapeStays of_statement s) (statement_children s)
 statement_stays (evaluate e) = (λ y. refl, tt)
@@ -133,8 +130,7 @@ statement_stays (selection s bs o) =
     (another_around of_statement (selection s bs o) refl [] (otherwise_words o ++ mark k.WordEndif) (λ x. selection s x o) (λ z. refl) (branches_children bs k.WordIf))
     (another_around of_statement (selection s bs o) refl (branches_words bs k.WordIf) (mark k.WordEndif) (selection s bs) (λ z. refl) (otherwise_children o))
 statement_stays (iteration s xs e b) = (λ y. refl, (λ y. refl, tt))
-statement_stays (breaks s) = tt
-statement_stays (continues s) = tt
+statement_stays _ = tt
 
 every_one : {A : Type 0} (P : A → Type 0) → ((x : A) → P x) → (xs : List A) → Every P xs
 every_one P each [] = tt

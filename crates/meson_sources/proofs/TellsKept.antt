@@ -11,6 +11,7 @@ use Rattle.meson_calls.specs.declared.call.CallRef.{CallRef}
 use Rattle.meson_calls.specs.Calls.{call_of, first_literal, literal_of}
 use Rattle.meson_calls.specs.Parts.{parts_of_file}
 use Rattle.meson_calls.specs.Project.{child, place}
+use Rattle.meson_calls.proofs.nodes.Induction.{by_each_child}
 use Rattle.meson_calls.specs.Roles.{has_role, is_target_call, one_of, target_functions}
 use Rattle.meson_calls.specs.declared.call.Role.TheVariants as role
 use Rattle.meson_steps.specs.ListSteps.{MayStandBetween}
@@ -21,7 +22,6 @@ use Rattle.meson_sources.proofs.Kins.{node_level}
 use Rattle.meson_sources.proofs.ListsBut.{but_none}
 use Rattle.meson_sources.proofs.Losses.{EachLoses}
 use Rattle.meson_sources.proofs.LostArguments.{FirstStays}
-use Rattle.meson_sources.proofs.NodeInduction.{by_children}
 use Rattle.meson_sources.proofs.NodesMoved.{IsExpression, children_are, fits, gone_string, nth_without, root_without}
 use Rattle.meson_sources.proofs.NodeLists.{Node}
 use Rattle.meson_sources.proofs.SameCalls.{first_literal_left, own_left}
@@ -152,7 +152,7 @@ module _ (trees : List Plain) (stand : All MayStandBetween trees) (gone : CallRe
       (node_tells (any_without (at c) x) ∙ ap₂ cons_option owns (ap in_all (children_left (at c) x (fits trees stand gone (strings_lost trees gone lost) c x h)) ∙ all) ∙ sym (node_tells x), owns)
 
   pub names_kept : (c : CallRef) (x : Node) → NodeIn trees c x → in_any (any_without (at c) x) ≡ in_any x
-  names_kept c x h = (by_children NamesSame names_step c x h).0
+  names_kept c x h = (by_each_child child NamesSame names_step c x h).0
 
   -- ---- of variables
 
@@ -226,7 +226,7 @@ module _ (trees : List Plain) (stand : All MayStandBetween trees) (gone : CallRe
           ∙ list_told c (at c) (at c []) 0 0 0 refl (child_nodes x) (children_are x w.0 w.1 w.2) (λ j y is goes. (gone_tells c x y j h is goes).1) same
 
   pub told_kept : (c : CallRef) (x : Node) → NodeIn trees c x → of_any c (any_without (at c) x) ≡ of_any c x
-  told_kept c x h = by_children Tells told_step c x h
+  told_kept c x h = by_each_child child Tells told_step c x h
 
   -- ---- of all files
 

@@ -9,7 +9,7 @@ use Rattle.meson_calls.specs.declared.call.CallRef.{CallRef}
 use Rattle.meson_calls.specs.Calls.{first_literal, literal_of}
 use Rattle.meson_calls.specs.Project.{child}
 use Rattle.meson_sources.specs.Effects.{strings}
-use Rattle.meson_sources.proofs.PartsPut.{Differ, here, there}
+use Rattle.meson_steps.proofs.PartsPut.{Differ, here, there}
 use Rattle.meson_sources.proofs.Shapes.{Shape, a_leaf, shape, blanks, Step, Becomes, differ_none, differ_here, differ_there, same_arguments}
 use Rattle.meson_sources.proofs.Shapes as shapes
 use Rattle.meson_sources.proofs.TargetNames.{first_is, first_plain}
@@ -82,7 +82,6 @@ own_is : (p : CallRef) (x : Any Nowhere) → own p x ≡ own_by p (shape x) (lit
 own_is p (an_expression (call s f (listing r trailing list))) = ap (λ l. if matters f.text then Some (tells.a_call p.file f.text l) else None) (literal_is f.text r trailing list)
 own_is p (an_expression _) = refl
 own_is p (a_statement (assign s x a e)) = refl
-own_is p (a_statement (iteration s xs e b)) = refl
 own_is p (a_statement _) = refl
 own_is p (a_block b) = refl
 
@@ -127,7 +126,6 @@ no_leaf (an_expression (identifier s x)) old new n ys d is = differ_none old new
 no_leaf (an_expression (string s q x)) old new n ys d is = differ_none old new n ys d
 no_leaf (an_expression _) old new n ys d is = absurd cc
 no_leaf (a_statement (assign s x a e)) old new n ys d is = absurd cc
-no_leaf (a_statement (iteration s zs e b)) old new n ys d is = absurd cc
 no_leaf (a_statement _) old new n ys d is = absurd cc
 no_leaf (a_block b) old new n ys d is = absurd cc
 

@@ -12,6 +12,7 @@ use Rattle.meson_syntax.proofs.paths.Reaching.{and-then-some}
 use Rattle.meson_edit.specs.Edits.{elements}
 use Rattle.meson_calls.specs.declared.call.CallRef.{CallRef}
 use Rattle.meson_calls.specs.Project.{child, place}
+use Rattle.meson_calls.proofs.nodes.Induction.{by_each_child}
 use Rattle.meson_steps.specs.ListSteps.{MayStandBetween}
 use Rattle.meson_sources.specs.Effects.{goes, same_spot, element_spot, trees_without}
 use Rattle.meson_sources.specs.SourceEdits.{Spot}
@@ -21,7 +22,6 @@ use Rattle.meson_sources.proofs.GoneTwice.{ChildThen, node_then}
 use Rattle.meson_sources.proofs.ListParts.{with_them}
 use Rattle.meson_sources.proofs.ListsBut.{same_one}
 use Rattle.meson_sources.proofs.NamedGone.{some_of}
-use Rattle.meson_sources.proofs.NodeInduction.{by_children}
 use Rattle.meson_sources.proofs.NodeLists.{Node, element_any, list_any}
 use Rattle.meson_sources.proofs.NodesMoved.{child_place, fits, node_moved, place_left, stands}
 use Rattle.meson_sources.proofs.NumbersLeft.{left_same}
@@ -165,7 +165,7 @@ module _ (trees : List Plain) (stand : All MayStandBetween trees) (gone : List S
     twice c x children h = node_then (later c) (at c) (gone_at all c) x (fits trees stand (goes gone) lost c x h) (in_all c x h) (child_twice c x h children)
 
     tree_twice : (i : ℕ) (t : Plain) → nth trees i ≡ Some t → tree_without (gone_in_file (map (moved_spot gone) more) i) (tree_without (gone_in_file gone i) t) ≡ tree_without (gone_in_file (more ++ gone) i) t
-    tree_twice i (file s b) is = ap (file s) (same_block _ _ (by_children Twice twice (place i []) (a_block b) (record { tree = file s b; is_tree = is; is_node = refl })))
+    tree_twice i (file s b) is = ap (file s) (same_block _ _ (by_each_child child Twice twice (place i []) (a_block b) (record { tree = file s b; is_tree = is; is_node = refl })))
 
     pub trees_twice : trees_without (map (moved_spot gone) more) (trees_without gone trees) ≡ trees_without (more ++ gone) trees
     trees_twice = all_twice trees (gone_in_file (map (moved_spot gone) more)) (gone_in_file gone) (gone_in_file (more ++ gone)) tree_twice

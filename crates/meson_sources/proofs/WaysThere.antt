@@ -16,7 +16,7 @@ use Rattle.meson_sources.proofs.Follows.{Kin, Level, followed, levels, same_hold
 use Rattle.meson_sources.proofs.MarkLists.{below, below_itself}
 use Rattle.meson_sources.proofs.Outcomes.{Outcome, Along, along_same, opaque_both}
 use Rattle.meson_sources.proofs.PathTrees.{along}
-use Rattle.meson_sources.proofs.PartsPut.{Differ}
+use Rattle.meson_steps.proofs.PartsPut.{Differ}
 use Rattle.meson_sources.proofs.PlacesBelow.{Far, IsIt, far_deeper, far_apart, aside_far, above_it}
 use Rattle.meson_sources.proofs.Shapes.{Becomes, blanks}
 

@@ -1,7 +1,7 @@
 -- Where a node stands in a tree without some elements of its lists, and what it is there.
 use Rattle.std.specs.Prelude.{◌⊎◌, if◌then◌else◌, option_and_then}
 use Rattle.std.proofs.Common.{◌≡◌, ℕ, zero, suc, ◌+◌, Bool, true, false, List, [], ◌∷◌, ◌++◌, length, Some, None, refl, sym, ap, ap₂, ◌∙◌, subst, arith, inl, inr}
-use Rattle.meson_syntax.specs.Tree.{Nowhere, identifier, boolean, integer, string, paren, array, dictionary, call, unary, row, postfix, conditional, Operands, no_operands, operand, Tail, method, index, Tails, no_tails, tail, Listing, listing, plain, named, pair, Arguments, no_arguments, argument, argument_list, arguments_of, evaluate, assign, selection, iteration, breaks, continues, Branches, no_branches, branch, Otherwise, nothing_else, otherwise, Statements, no_statements, statement, block}
+use Rattle.meson_syntax.specs.Tree.{Nowhere, paren, array, dictionary, call, unary, row, postfix, conditional, Operands, no_operands, operand, Tail, method, index, Tails, no_tails, tail, Listing, listing, plain, named, pair, Arguments, no_arguments, argument, argument_list, arguments_of, evaluate, assign, selection, iteration, Branches, no_branches, branch, Otherwise, nothing_else, otherwise, Statements, no_statements, statement, block}
 use Rattle.meson_syntax.specs.Children.{an_expression, a_statement, a_block, arguments_parts, branches_parts, listing_parts, tail_parts}
 use Rattle.meson_syntax.specs.inside.Children.{child_nodes, node_at, operands_parts, otherwise_parts, statements_parts, tails_parts}
 use Rattle.meson_syntax.specs.Paths.{nth}
@@ -142,10 +142,6 @@ module _ (g : Gone) where
   no_list x is (inr w) ys same = let none : None ≡ Some w.0 = sym is ∙ w.1 in absurd cc
 
   pub children_left : (x : Node) → Fits x → ChildrenLeft x
-  children_left (an_expression (identifier s x)) fits = refl
-  children_left (an_expression (boolean s b)) fits = refl
-  children_left (an_expression (integer s x)) fits = refl
-  children_left (an_expression (string s q x)) fits = refl
   children_left (an_expression (paren s e)) fits = no_list (an_expression (paren s e)) refl fits _ refl
   children_left (an_expression (array l)) fits = list_left l (by_list (an_expression (array l)) l refl fits)
   children_left (an_expression (dictionary l)) fits = list_left l (by_list (an_expression (dictionary l)) l refl fits)
@@ -154,14 +150,14 @@ module _ (g : Gone) where
   children_left (an_expression (row s e os)) fits = no_list (an_expression (row s e os)) refl fits _ (ap (λ l. an_expression (expression_without (from_child 0 g) e) ∷ l) (operands_each 1 os))
   children_left (an_expression (postfix s e ts)) fits = no_list (an_expression (postfix s e ts)) refl fits _ (ap (λ l. an_expression (expression_without (from_child 0 g) e) ∷ l) (tails_each 1 ts))
   children_left (an_expression (conditional s c y n)) fits = no_list (an_expression (conditional s c y n)) refl fits _ refl
+  children_left (an_expression _) fits = refl
   children_left (a_statement (evaluate e)) fits = no_list (a_statement (evaluate e)) refl fits _ refl
   children_left (a_statement (assign s x a e)) fits = no_list (a_statement (assign s x a e)) refl fits _ refl
   children_left (a_statement (selection s bs o)) fits =
       no_list (a_statement (selection s bs o)) refl fits _
       (ap₂ (λ l m. l ++ m) (branches_each 0 bs) (otherwise_each (length (branches_parts bs)) o ∙ ap (λ k. each_child k (otherwise_parts o)) (omega arith)) ∙ sym (each_append 0 (branches_parts bs) (otherwise_parts o)))
   children_left (a_statement (iteration s xs e b)) fits = no_list (a_statement (iteration s xs e b)) refl fits _ refl
-  children_left (a_statement (breaks s)) fits = refl
-  children_left (a_statement (continues s)) fits = refl
+  children_left (a_statement _) fits = refl
   children_left (a_block (block s list)) fits = no_list (a_block (block s list)) refl fits _ (statements_each 0 list)
 
   -- where none of its own children goes

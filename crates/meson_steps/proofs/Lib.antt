@@ -37,4 +37,5 @@ pub mod OneMaking
 mod OneStanding
 pub mod Keeping
 pub mod ErasedParts
-pub mod ToldExpressions
+pub mod ToldAlike
+pub mod PartsPut

@@ -34,21 +34,11 @@ edit_by f path (code.Append new) of = absurd cc
 
 by_list : (p : ListAt Span) (e : ListEdit) → placed_by (Some p) e ≡ placed_in p.list e
 by_list p (code.First new) = refl
-by_list p (code.After n new) = refl
-by_list p (code.Remove n) = refl
-by_list p (code.Replace n new) = refl
-by_list p (code.Wrap n) = refl
-by_list p (code.RemoveStatement n) = refl
-by_list p (code.Append new) = refl
+by_list p _ = refl
 
 by_none : (e : ListEdit) → placed_by None e ≡ None
 by_none (code.First new) = refl
-by_none (code.After n new) = refl
-by_none (code.Remove n) = refl
-by_none (code.Replace n new) = refl
-by_none (code.Wrap n) = refl
-by_none (code.RemoveStatement n) = refl
-by_none (code.Append new) = refl
+by_none _ = refl
 
 pub placed_at : (f : File Span) (path : List ℕ) (p : ListAt Span) (e : ListEdit) → edits_list e ≡ true → list_at f path ≡ Some p → placed_edit f path e ≡ placed_in p.list e
 placed_at f path p e of is = edit_by f path e of ∙ ap (λ o. placed_by o e) is ∙ by_list p e

@@ -21,13 +21,6 @@ module _ {X : Type 0} where
   changed_there (z ∷ xs) zero x y here = refl
   changed_there (z ∷ xs) (suc i) x y here = changed_there xs i x y here
 
-  pub others_there : (xs : List X) (i k : ℕ) (y : X) → (i ≡ k → ⊥) → nth (slice_set xs i y) k ≡ nth xs k
-  others_there [] i k y other = refl
-  others_there (z ∷ xs) zero zero y other = absurd (other refl)
-  others_there (z ∷ xs) zero (suc k) y other = refl
-  others_there (z ∷ xs) (suc i) zero y other = refl
-  others_there (z ∷ xs) (suc i) (suc k) y other = others_there xs i k y (λ same. other (ap suc same))
-
   pub all_nth : (P : X → Type 0) (xs : List X) (i : ℕ) (x : X) → All P xs → nth xs i ≡ Some x → P x
   all_nth P [] i x all here = absurd cc
   all_nth P (z ∷ xs) zero x all here = subst P (some-injective z x here) (All-head P z xs all)

@@ -1,6 +1,5 @@
 pub mod AddedTargets
 mod ChosenParts
-mod ToldAnywhere
 mod ToldParts
 mod GoneStatements
 mod StatementTargets

@@ -39,8 +39,7 @@ use Rattle.meson_targets.proofs.GoneStatements.{gone, made, only_step, removed}
 use Rattle.meson_targets.proofs.SetTargets.{SetAt, all_set, set_targets, set_tells, set_told, tell_set, told_alike}
 use Rattle.meson_targets.proofs.StatementTargets.{IsOf, alone, holds_it, line_of, set}
 use Rattle.meson_targets.proofs.TargetsDoable.{some_there, statement_erased}
-use Rattle.meson_targets.proofs.ToldAnywhere.{told}
-use Rattle.meson_targets.proofs.ToldParts.{Cut, project_cut}
+use Rattle.meson_targets.proofs.ToldParts.{Cut, project_cut, told}
 
 -- ---- calls of the name
 

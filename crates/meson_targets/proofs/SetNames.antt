@@ -57,13 +57,8 @@ block_good (file s c) path b is good =
 -- ---- the variable that is set
 
 set_good : (s : Statement Span) (x : List ℕ) → held_by s ≡ Some (set_to x) → AreGood (statement_words s) → IsIdentifier x
-set_good (evaluate e) x is good = absurd cc
 set_good (assign s name assignment.Set e) x is good = let same : name.text ≡ x = cc in subst IsIdentifier same good.0
-set_good (assign s name assignment.Add e) x is good = absurd cc
-set_good (selection s bs o) x is good = absurd cc
-set_good (iteration s xs e b) x is good = absurd cc
-set_good (breaks s) x is good = absurd cc
-set_good (continues s) x is good = absurd cc
+set_good _ x is good = absurd cc
 
 words_good : (files : List File) (trees : List Parsed) (i : ℕ) (f : BuildFile Span) → AreParsed files trees → nth_file (named_trees files (views files trees)) i ≡ Some f → AreGood (file_words f.tree)
 words_good [] trees i f are is = absurd cc

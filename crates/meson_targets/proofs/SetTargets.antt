@@ -19,12 +19,12 @@ use Rattle.meson_calls.specs.Project.{BuildFile, Placed, Project, child, nth_fil
 use Rattle.meson_calls.specs.Naming.{assigned_values, part_set_to, value_of_assignment}
 use Rattle.meson_calls.specs.Roles.{has_role, with_role}
 use Rattle.meson_calls.proofs.CallsReached.{InProject, every_chosen, every_part}
-use Rattle.meson_calls.proofs.Reached.{any}
+use Rattle.meson_calls.proofs.nodes.PartsBelow.{any}
 use Rattle.meson_targets.specs.TargetEdits.{StatementPlace}
 use Rattle.meson_targets.proofs.ChosenParts.{chosen_its, chosen_told}
 use Rattle.meson_steps.proofs.ErasedParts.{bare_call, bare_part, bare_placed, role_alike}
 use Rattle.meson_targets.proofs.StatementTargets.{LineOf, statement_node}
-use Rattle.meson_targets.proofs.ToldAnywhere.{told}
+use Rattle.meson_targets.proofs.ToldParts.{told}
 
 -- ---- the front of a path
 

@@ -3,7 +3,7 @@ use Rattle.std.proofs.Common.{◌≡◌, ℕ, List, [], ◌∷◌, true, false, 
 use Rattle.std.specs.Prelude.{Bool, ◌&&◌, ◌||◌, bytes_eq, if◌then◌else◌, Some, None, option_map}
 use Rattle.std.specs.List.{list_any, cons_option}
 use Rattle.meson_lex.specs.declared.kinds.Span.{Span}
-use Rattle.meson_syntax.specs.Tree.{identifier, boolean, integer, string, paren, array, dictionary, call, unary, row, postfix, conditional, evaluate, assign, selection, iteration, breaks, continues}
+use Rattle.meson_syntax.specs.Tree.{identifier, call, assign, iteration}
 use Rattle.meson_calls.specs.declared.call.CallRef.{CallRef}
 use Rattle.meson_calls.specs.Project.{Project, Placed, placed}
 use Rattle.meson_calls.specs.Parts.{Part, an_expression, a_statement, parts}
@@ -48,22 +48,10 @@ module _ (line : StatementPlace) (x : List ℕ) where
   part_step : (p : CallRef) (y : Part Span) (ns : List (Placed (Note Span))) (cs : List CallRef) → ((is_outside line p && part_uses x y) || told ns cs) ≡ with_part p y ns cs
   part_step p (an_expression (identifier s y)) ns cs = identifier_step p ns cs (bytes_eq y x)
   part_step p (an_expression (call s f l)) ns cs = note_use (is_outside line p) (call_uses x (record { function = f.text; arguments = l })) (is_noted_outside line x ns) (is_read_outside line cs)
-  part_step p (an_expression (boolean s b)) ns cs = no_use (is_outside line p) (is_noted_outside line x ns) (is_read_outside line cs)
-  part_step p (an_expression (integer s t)) ns cs = no_use (is_outside line p) (is_noted_outside line x ns) (is_read_outside line cs)
-  part_step p (an_expression (string s q t)) ns cs = no_use (is_outside line p) (is_noted_outside line x ns) (is_read_outside line cs)
-  part_step p (an_expression (paren s e)) ns cs = no_use (is_outside line p) (is_noted_outside line x ns) (is_read_outside line cs)
-  part_step p (an_expression (array l)) ns cs = no_use (is_outside line p) (is_noted_outside line x ns) (is_read_outside line cs)
-  part_step p (an_expression (dictionary l)) ns cs = no_use (is_outside line p) (is_noted_outside line x ns) (is_read_outside line cs)
-  part_step p (an_expression (unary s o e)) ns cs = no_use (is_outside line p) (is_noted_outside line x ns) (is_read_outside line cs)
-  part_step p (an_expression (row s e os)) ns cs = no_use (is_outside line p) (is_noted_outside line x ns) (is_read_outside line cs)
-  part_step p (an_expression (postfix s e ts)) ns cs = no_use (is_outside line p) (is_noted_outside line x ns) (is_read_outside line cs)
-  part_step p (an_expression (conditional s a b c)) ns cs = no_use (is_outside line p) (is_noted_outside line x ns) (is_read_outside line cs)
+  part_step p (an_expression _) ns cs = no_use (is_outside line p) (is_noted_outside line x ns) (is_read_outside line cs)
   part_step p (a_statement (assign s y a e)) ns cs = note_use (is_outside line p) (bytes_eq y.text x) (is_noted_outside line x ns) (is_read_outside line cs)
   part_step p (a_statement (iteration s xs e b)) ns cs = note_use (is_outside line p) (one_of_names xs x) (is_noted_outside line x ns) (is_read_outside line cs)
-  part_step p (a_statement (evaluate e)) ns cs = no_use (is_outside line p) (is_noted_outside line x ns) (is_read_outside line cs)
-  part_step p (a_statement (selection s bs o)) ns cs = no_use (is_outside line p) (is_noted_outside line x ns) (is_read_outside line cs)
-  part_step p (a_statement (breaks s)) ns cs = no_use (is_outside line p) (is_noted_outside line x ns) (is_read_outside line cs)
-  part_step p (a_statement (continues s)) ns cs = no_use (is_outside line p) (is_noted_outside line x ns) (is_read_outside line cs)
+  part_step p (a_statement _) ns cs = no_use (is_outside line p) (is_noted_outside line x ns) (is_read_outside line cs)
 
   all_told : (ps : List (Placed (Part Span))) → used ps ≡ told (noted ps) (read_in x ps)
   all_told [] = refl

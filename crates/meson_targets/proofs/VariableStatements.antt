@@ -4,96 +4,24 @@ use Rattle.std.specs.Prelude.{option_map, option_and_then}
 use Rattle.meson_lex.specs.declared.kinds.Span.{Span}
 use Rattle.meson_syntax.specs.declared.operator.Assignment.TheVariants as assignment
 use Rattle.meson_edit.specs.Blocks.{BlockAt, block_at, statement_in}
-use Rattle.meson_syntax.specs.Children.{Any, an_expression, a_statement, a_block, argument_parts, arguments_parts, listing_parts, tail_parts, branches_parts}
-use Rattle.meson_syntax.specs.inside.Children.{operands_parts, tails_parts, expression_parts, otherwise_parts, statement_parts, statements_parts, child_nodes, node_at}
+use Rattle.meson_syntax.specs.Children.{Any, an_expression, a_statement, a_block}
+use Rattle.meson_syntax.specs.inside.Children.{child_nodes, node_at, statements_parts}
 use Rattle.meson_syntax.specs.Paths.{block_of, nth}
-use Rattle.meson_syntax.specs.Tree.{Name, Expression, identifier, boolean, integer, string, paren, array, dictionary, call, unary, row, postfix, conditional, Operands, no_operands, operand, Tail, method, index, Tails, no_tails, tail, Listing, listing, Argument, plain, named, pair, Arguments, no_arguments, argument, Statement, evaluate, assign, selection, iteration, breaks, continues, Branches, no_branches, branch, Otherwise, nothing_else, otherwise, Statements, no_statements, statement, statement_list, Block, block}
+use Rattle.meson_syntax.specs.Tree.{Name, Expression, Statement, assign, Statements, no_statements, statement, statement_list, Block, block}
+use Rattle.meson_syntax.proofs.paths.Every.{every-nth}
 use Rattle.meson_syntax.proofs.paths.Reaching.{and-then-some}
 use Rattle.meson_calls.specs.Parts.{Part}
 use Rattle.meson_calls.specs.Parts as part
 use Rattle.meson_calls.specs.Project.{Project, BuildFile, Placed, child, nth_file, place}
 use Rattle.meson_calls.proofs.CallsReached.{InProject}
-use Rattle.meson_calls.proofs.Reached.{any}
+use Rattle.meson_calls.proofs.nodes.PartsBelow.{any}
+use Rattle.meson_calls.proofs.nodes.Sorts.{IsExpression, IsOther, may_stand}
 use Rattle.meson_steps.specs.inside.Layers.{block_any}
 use Rattle.meson_steps.proofs.BlockNodes.{block_reached}
 use Rattle.meson_targets.specs.TargetEdits.{Holder, StatementPlace, held_by, name_set, set_to, statement_of, statement_path, statement_there, variable_of}
 use Rattle.meson_targets.proofs.Holders.{on_line}
 
 -- ---- a statement stands in a block, and in nothing else
-
-abbrev IsOther : Any Span → Type 0
-IsOther (an_expression e) = Unit {0}
-IsOther (a_statement s) = ⊥
-IsOther (a_block b) = Unit {0}
-
-abbrev AllOthers : List (Any Span) → Type 0
-AllOthers [] = Unit {0}
-AllOthers (x ∷ xs) = IsOther x × AllOthers xs
-
-both : (xs ys : List (Any Span)) → AllOthers xs → AllOthers ys → AllOthers (xs ++ ys)
-both [] ys a b = b
-both (x ∷ xs) ys a b = (a.0, both xs ys a.1 b)
-
-in_argument : (a : Argument Span) → AllOthers (argument_parts a)
-in_argument (plain e) = (tt, tt)
-in_argument (named s x e) = (tt, tt)
-in_argument (pair s e f) = (tt, (tt, tt))
-
-in_arguments : (list : Arguments Span) → AllOthers (arguments_parts list)
-in_arguments no_arguments = tt
-in_arguments (argument a more) = both (argument_parts a) (arguments_parts more) (in_argument a) (in_arguments more)
-
-in_listing : (l : Listing Span) → AllOthers (listing_parts l)
-in_listing (listing s trailing list) = in_arguments list
-
-in_operands : (os : Operands Span) → AllOthers (operands_parts os)
-in_operands no_operands = tt
-in_operands (operand o e more) = (tt, in_operands more)
-
-in_tail : (t : Tail Span) → AllOthers (tail_parts t)
-in_tail (method s x l) = in_listing l
-in_tail (index s e) = (tt, tt)
-
-in_tails : (ts : Tails Span) → AllOthers (tails_parts ts)
-in_tails no_tails = tt
-in_tails (tail t more) = both (tail_parts t) (tails_parts more) (in_tail t) (in_tails more)
-
-in_expression : (e : Expression Span) → AllOthers (expression_parts e)
-in_expression (identifier s x) = tt
-in_expression (boolean s b) = tt
-in_expression (integer s x) = tt
-in_expression (string s q x) = tt
-in_expression (paren s e) = (tt, tt)
-in_expression (array l) = in_listing l
-in_expression (dictionary l) = in_listing l
-in_expression (call s x l) = in_listing l
-in_expression (unary s o e) = (tt, tt)
-in_expression (row s e os) = (tt, in_operands os)
-in_expression (postfix s e ts) = (tt, in_tails ts)
-in_expression (conditional s c y n) = (tt, (tt, (tt, tt)))
-
-in_branches : (bs : Branches Span) → AllOthers (branches_parts bs)
-in_branches no_branches = tt
-in_branches (branch e b more) = (tt, (tt, in_branches more))
-
-in_otherwise : (o : Otherwise Span) → AllOthers (otherwise_parts o)
-in_otherwise nothing_else = tt
-in_otherwise (otherwise b) = (tt, tt)
-
-in_statement : (s : Statement Span) → AllOthers (statement_parts s)
-in_statement (evaluate e) = (tt, tt)
-in_statement (assign s x a e) = (tt, tt)
-in_statement (selection s bs o) = both (branches_parts bs) (otherwise_parts o) (in_branches bs) (in_otherwise o)
-in_statement (iteration s xs e b) = (tt, (tt, tt))
-in_statement (breaks s) = tt
-in_statement (continues s) = tt
-
-none_among : (xs : List (Any Span)) (n : ℕ) (s : Statement Span) → AllOthers xs → nth xs n ≡ Some (a_statement s) → ⊥
-none_among [] n s all is = cc
-none_among (an_expression e ∷ xs) zero s all is = cc
-none_among (a_statement t ∷ xs) zero s all is = all.0
-none_among (a_block b ∷ xs) zero s all is = cc
-none_among (x ∷ xs) (suc n) s all is = none_among xs n s all.1 is
 
 among : (list : Statements Span) (n : ℕ) (s : Statement Span) → nth (statements_parts list) n ≡ Some (a_statement s) → nth (statement_list list) n ≡ Some s
 among no_statements n s is = absurd (let no : ⊥ = cc in no)
@@ -106,8 +34,8 @@ record InBlock (x : Any Span) (n : ℕ) (s : Statement Span) : Type 0 where
   is_there : statement_in inside n ≡ Some s
 
 in_block : (x : Any Span) (n : ℕ) (s : Statement Span) → nth (child_nodes x) n ≡ Some (a_statement s) → InBlock x n s
-in_block (an_expression e) n s is = absurd (none_among (expression_parts e) n s (in_expression e) is)
-in_block (a_statement t) n s is = absurd (none_among (statement_parts t) n s (in_statement t) is)
+in_block (an_expression e) n s is = absurd (every-nth IsExpression (child_nodes (an_expression e)) n (a_statement s) (may_stand (an_expression e)) is)
+in_block (a_statement t) n s is = absurd (every-nth IsOther (child_nodes (a_statement t)) n (a_statement s) (may_stand (a_statement t)) is)
 in_block (a_block (block t list)) n s is = record { inside = block t list; is_block = refl; is_there = among list n s is }
 
 -- ---- the node above

@@ -153,10 +153,6 @@ module _ (S : Type 0) where
       part_puts (Listing S) (Expression S) listing_parts expression_parts l before [] make [] [] (λ z. append-nil _ ∙ are z) 0 0 refl (listing_children l b) (listing_puts l b)
 
   expression_puts : (e : Expression S) → EveryAt (Puts (Expression S) expression_parts e) 0 (expression_children e)
-  expression_puts (identifier s x) = tt
-  expression_puts (boolean s b) = tt
-  expression_puts (integer s x) = tt
-  expression_puts (string s q x) = tt
   expression_puts (paren s e) = (λ y. here, tt)
   expression_puts (array l) = lists_put l bracket.Square [] array (λ z. refl)
   expression_puts (dictionary l) = lists_put l bracket.Curly [] dictionary (λ z. refl)
@@ -173,6 +169,7 @@ module _ (S : Type 0) where
         0 1 (omega arith) (tails_children ts) (tails_put ts),
   )
   expression_puts (conditional s c y n) = (λ z. here, (λ z. there here, (λ z. there (there here), tt)))
+  expression_puts _ = tt
 
   -- ---- statements
 
@@ -212,8 +209,7 @@ module _ (S : Type 0) where
       (λ z. ap (λ ps. branches_parts bs ++ ps) (append-nil _))
       0 count (omega (arith, branches_count bs k.WordIf)) (otherwise_children o) (otherwise_puts o))
   statement_puts (iteration s xs e b) = (λ y. here, (λ y. there here, tt))
-  statement_puts (breaks s) = tt
-  statement_puts (continues s) = tt
+  statement_puts _ = tt
 
   statements_put : (list : Statements S) → EveryAt (Puts (Statements S) statements_parts list) 0 (statements_children list)
   statements_put no_statements = tt
