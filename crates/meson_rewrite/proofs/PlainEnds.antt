@@ -33,7 +33,7 @@ use Rattle.meson_script.specs.Messages.{refused_text}
 use Rattle.meson_rewrite.specs.Logs.{log_use}
 use Rattle.meson_rewrite.specs.Opening.{OpensNone, bad_log, log_unread, no_log, no_project}
 use Rattle.meson_rewrite.specs.Refused.{refusal_subject, refused_command, with_notes, with_number, with_text, with_texts}
-use Rattle.meson_rewrite.specs.Runs.{Ends, RunEnds, StepEnds, asks_for_none, done, helped, lists, memory_ran_out, misused, no_memory, not_opened, refused, shown, steps, told, told_version, unwritten, with_texts, without_texts}
+use Rattle.meson_rewrite.specs.Runs.{Ends, RunEnds, StepEnds, asks_for_none, done, helped, lists, memory_ran_out, misused, no_memory, not_opened, refused, shown, steps, told, told_version, unwritten, with_texts as asked_with_texts, without_texts}
 use Rattle.meson_rewrite.specs.Steps.{MayRefuseStep, StopsRun, StopsStep, StopsStepsBack}
 use Rattle.meson_rewrite.specs.Stops.{WantsMemory, gathering_stop, undo_stop}
 use Rattle.meson_rewrite.specs.declared.advice.Advice.{Advice}
@@ -120,7 +120,7 @@ misused-plain asked fault before after _ refused_for (memory_ran_out stop u want
 pub misuse_ends_as_plain : MisuseEndsAsPlain
 misuse_ends_as_plain asked fault before after _ refused_for (without_texts end none ends) =
     without_texts (end_unexplained end) none (misused-plain asked fault before after end refused_for ends)
-misuse_ends_as_plain asked fault before after _ refused_for (with_texts a name end is named ends) = absurd (let no : ⊥ = cc in no)
+misuse_ends_as_plain asked fault before after _ refused_for (asked_with_texts a name end is named ends) = absurd (let no : ⊥ = cc in no)
 
 -- ---- what is written
 

@@ -74,9 +74,10 @@ pub(crate) fn misuse_advice(
 {
     match fault {
         UsageFault::OutOfMemory => Advice::Nothing,
-        _ if asks_to_explain(words) => {
-            words_explained(alloc, words, fault, json).unwrap_or(Advice::Nothing)
-        }
+        _ if asks_to_explain(words) => match words_explained(alloc, words, fault, json) {
+            Ok(advice) => advice,
+            Err(AllocError) => Advice::Nothing,
+        },
         _ => Advice::Nothing,
     }
 }
