@@ -30,7 +30,7 @@ pub(crate) const DRY_RUN: &str = "Show the changes as a unified diff, and write 
 
 pub(crate) const ANSWER_JSON: &str = "Print what is done, or the refusal, as one line of JSON";
 
-pub(crate) const EXPLAIN: &str = "Explain a refused command in further lines";
+pub(crate) const EXPLAIN: &str = "Explain a refusal in further lines";
 
 pub(crate) const EXIT_CODE: &str = "End with status 4 if a build file is changed";
 

@@ -2,19 +2,27 @@
 #![tactic(auto)]
 
 mod asked;
+mod choices;
+mod clap_faults;
 mod count;
 mod fault;
 mod help;
 mod history;
+mod keys;
 mod kwargs;
 pub mod laws;
+mod misuse;
 mod operations;
 mod options;
 mod pairs;
 mod program;
 mod script;
+mod shell;
+mod subcommands;
 mod target;
+mod word_faults;
 mod words;
 
 pub use asked::{Action, Asked, Flags, command_of, wants_json};
 pub use fault::UsageFault;
+pub use misuse::explain_words;

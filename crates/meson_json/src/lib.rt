@@ -1,6 +1,7 @@
 //! Scripts and the undo log as JSON.
 #![tactic(auto)]
 
+mod choices;
 mod entry;
 mod fault;
 pub mod laws;
@@ -8,16 +9,19 @@ mod log;
 mod member_check;
 mod members;
 pub mod names;
+mod remarks;
 pub mod script;
 pub mod target;
 mod texts_file;
 mod title;
 mod version;
 
+pub use choices::Choice;
 pub use fault::ScriptFault;
 pub use log::{empty_log, history_text, read_log};
 pub use member_check::UnknownMembers;
 pub use members::owned;
+pub use remarks::Remarks;
 pub use script::Script;
 pub use texts_file::read_texts;
 pub use title::is_title;

@@ -41,13 +41,13 @@ of_script (script.UnknownMember n name) = inr (record { meaning = codes "unknown
 of_script script.BadLog = inr (record { meaning = codes "bad log"; words = refl; one_word = refl })
 of_script script.OutOfMemory = inl (refl, refl)
 
-of_usage : (fault : UsageFault) → Known (Usage fault)
-of_usage usage.Usage = inr (record { meaning = codes "usage"; words = refl; one_word = refl })
-of_usage usage.OddWords = inr (record { meaning = codes "odd words"; words = refl; one_word = refl })
-of_usage usage.RepeatedKey = inr (record { meaning = codes "repeated key"; words = refl; one_word = refl })
-of_usage usage.Unsupported = inr (record { meaning = codes "unsupported"; words = refl; one_word = refl })
-of_usage usage.BadTitle = inr (record { meaning = codes "bad title"; words = refl; one_word = refl })
-of_usage usage.OutOfMemory = inl (refl, refl)
+of_usage : (fault : UsageFault) (advice : Advice) → Known (Usage fault advice)
+of_usage usage.Usage advice = inr (record { meaning = codes "usage"; words = refl; one_word = refl })
+of_usage usage.OddWords advice = inr (record { meaning = codes "odd words"; words = refl; one_word = refl })
+of_usage usage.RepeatedKey advice = inr (record { meaning = codes "repeated key"; words = refl; one_word = refl })
+of_usage usage.Unsupported advice = inr (record { meaning = codes "unsupported"; words = refl; one_word = refl })
+of_usage usage.BadTitle advice = inr (record { meaning = codes "bad title"; words = refl; one_word = refl })
+of_usage usage.OutOfMemory advice = inl (refl, refl)
 
 -- of a file
 in_file : (name meaning : List ℕ) → name ++ (codes ": " ++ meaning) ≡ (name ++ codes ": ") ++ meaning
@@ -116,7 +116,7 @@ of_store store.OutputFailed = inr (record { meaning = codes "output failed"; wor
 of_store store.OutOfMemory = inl (refl, refl)
 
 pub codes_are_words : CodesAreWords
-codes_are_words (Usage fault) = of_usage fault
+codes_are_words (Usage fault advice) = of_usage fault advice
 codes_are_words (Script fault) = of_script fault
 codes_are_words (Parse name fault) = of_parse name fault
 codes_are_words TooManyFiles = inr (record { meaning = codes "too many files"; words = refl; one_word = refl })

@@ -37,6 +37,7 @@ use Rattle.meson_rewrite.specs.declared.request.Step.{Step}
 use Rattle.meson_rewrite.specs.declared.request.Step.TheVariants.{Tell}
 use Rattle.meson_rewrite.specs.declared.said.Said.{Said}
 use Rattle.meson_rewrite.specs.declared.stop.Stop.{Stop}
+use Rattle.meson_rewrite.specs.declared.advice.Advice.{Advice}
 use Rattle.meson_rewrite.specs.declared.stop.Stop.TheVariants.{Usage, Store}
 
 -- ---- what was read before a step, by the same program
@@ -256,7 +257,7 @@ module _ (exit_code : Bool) (asked : Result Asked UsageFault) (before after : Se
 
 pub status-keeps : (exit_code : Bool) (asked : Result Asked UsageFault) (before after : Seen) (end : Result Said Stop) → Ends asked before after end → Refusing (status exit_code end)
     → KeepsFiles asked before after (status exit_code end)
-status-keeps exit_code asked before after _ (misused fault u is) s = untouched-keeps exit_code asked before after (usage_status fault) u
+status-keeps exit_code asked before after _ (misused fault advice u is) s = untouched-keeps exit_code asked before after (usage_status fault) u
 status-keeps exit_code asked before after _ (helped a text u is shows) s = untouched-keeps exit_code asked before after (done_status exit_code (shown_text text)) u
 status-keeps exit_code asked before after _ (told_version a u is shows) s = untouched-keeps exit_code asked before after (done_status exit_code (shown_text version_line)) u
 status-keeps exit_code asked before after _ (asks_for_none a stop u is none) s = untouched-keeps exit_code asked before after (stop_status stop) u
@@ -295,9 +296,10 @@ pub not-asked : (a : Asked) (b c : Seen) → Untouched b c → (stop : Stop) →
 not-asked a b c u stop (inl m) = memory_ran_out stop u m
 not-asked a b c u stop (inr none) = asks_for_none a stop u refl none
 
-pub not-used : (asked : Result Asked UsageFault) (b c : Seen) → Untouched b c → (fault : UsageFault) → WantsMemory (Usage fault) ⊎ (asked ≡ Err fault) → Ends asked b c (Err (Usage fault))
-not-used asked b c u fault (inl m) = memory_ran_out (Usage fault) u m
-not-used asked b c u fault (inr is) = misused fault u is
+pub not-used : (asked : Result Asked UsageFault) (b c : Seen) → Untouched b c → (fault : UsageFault) (advice : Advice)
+    → WantsMemory (Usage fault advice) ⊎ (asked ≡ Err fault) → Ends asked b c (Err (Usage fault advice))
+not-used asked b c u fault advice (inl m) = memory_ran_out (Usage fault advice) u m
+not-used asked b c u fault advice (inr is) = misused fault advice u is
 
 -- ---- help, the version, a listing and what an info command tells leave the store as it is
 
@@ -360,7 +362,7 @@ one-true true y t = inl refl
 one-true false y t = inr t
 
 pub asking-keeps : (asked : Result Asked UsageFault) (before after : Seen) (end : Result Said Stop) → Ends asked before after end → OnlyAsks asked → IsUnchanged before after
-asking-keeps asked before after _ (misused fault u is) t = untouched-same before after u
+asking-keeps asked before after _ (misused fault advice u is) t = untouched-same before after u
 asking-keeps asked before after _ (helped a text u is shows) t = untouched-same before after u
 asking-keeps asked before after _ (told_version a u is shows) t = untouched-same before after u
 asking-keeps asked before after _ (asks_for_none a stop u is none) t = untouched-same before after u

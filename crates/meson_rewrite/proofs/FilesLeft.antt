@@ -83,7 +83,7 @@ module _ (dir : Option (List ℕ)) (step : Step) (flags : Flags) (before after :
 
 pub run-leaves-files : (asked : Result Asked UsageFault) (before after : Seen) (end : Result Said Stop) → Ends asked before after end → status true end ≡ 0
     → LeavesFiles (dir_of asked) before after
-run-leaves-files asked before after _ (misused fault u is_asked) is_0 = same-leaves (dir_of asked) before after u.kept
+run-leaves-files asked before after _ (misused fault advice u is_asked) is_0 = same-leaves (dir_of asked) before after u.kept
 run-leaves-files asked before after _ (helped a text u is_asked shows) is_0 = same-leaves (dir_of asked) before after u.kept
 run-leaves-files asked before after _ (told_version a u is_asked shows) is_0 = same-leaves (dir_of asked) before after u.kept
 run-leaves-files asked before after _ (asks_for_none a stop u is_asked none) is_0 = same-leaves (dir_of asked) before after u.kept

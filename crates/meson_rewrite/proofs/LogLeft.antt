@@ -86,7 +86,7 @@ module _ (dir : Option (List ℕ)) (old new : Content) where
 -- ---- a run
 
 pub run-leaves : (asked : Result Asked UsageFault) (before after : Seen) (end : Result Said Stop) → Ends asked before after end → LeavesLog asked before after
-run-leaves asked before after _ (misused fault u is_asked) ignored old new is now = same-stays (dir_of asked) old new before.content after.content u.kept is now
+run-leaves asked before after _ (misused fault advice u is_asked) ignored old new is now = same-stays (dir_of asked) old new before.content after.content u.kept is now
 run-leaves asked before after _ (helped a text u is_asked shows) ignored old new is now = same-stays (dir_of asked) old new before.content after.content u.kept is now
 run-leaves asked before after _ (told_version a u is_asked shows) ignored old new is now = same-stays (dir_of asked) old new before.content after.content u.kept is now
 run-leaves asked before after _ (asks_for_none a stop u is_asked none) ignored old new is now =

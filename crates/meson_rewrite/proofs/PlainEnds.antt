@@ -8,7 +8,10 @@ use Rattle.std.specs.Ordering.{match_ordering, nat_cmp}
 use Rattle.serde_json.specs.Data.{Data, Members, array, member, no_members, string}
 use Rattle.serde_json.specs.View.{items_of}
 use Rattle.serde_json.specs.Find.{get_member}
+use Rattle.meson_command.specs.Messages.{usage_fault_text}
+use Rattle.meson_command.specs.declared.asked.Asked.{Asked}
 use Rattle.meson_command.specs.declared.asked.Flags.{Flags}
+use Rattle.meson_command.specs.declared.fault.UsageFault.{UsageFault}
 use Rattle.meson_gathering.specs.declared.fault.GatherFault.{GatherFault}
 use Rattle.meson_gathering.specs.declared.fault.GatherFault.TheVariants as gather
 use Rattle.meson_calls.specs.declared.load_fault.LoadFault.TheVariants as load
@@ -22,15 +25,15 @@ use Rattle.meson_splice.specs.Past.{redone, undone}
 use Rattle.meson_steps.specs.declared.command.Command.{Command}
 use Rattle.meson_store.specs.Seen.{Seen}
 use Rattle.meson_rewrite.proofs.ToldPlain.{told-plain}
-use Rattle.meson_rewrite.specs.AdviceLaws.{ExplainedEndsAsPlain, LinesArePlain, MembersArePlain, StatusIsPlain, end_unexplained, plain_flags, unexplained}
-use Rattle.meson_rewrite.specs.Codes.{refusal_code}
+use Rattle.meson_rewrite.specs.AdviceLaws.{ExplainedEndsAsPlain, LinesArePlain, MembersArePlain, MisuseEndsAsPlain, StatusIsPlain, end_unexplained, plain_flags, unexplained}
+use Rattle.meson_rewrite.specs.Codes.{refusal_code, usage_code}
 use Rattle.meson_rewrite.specs.Lines.{line, stop_lines, stop_text}
 use Rattle.meson_rewrite.specs.Notes.{note_data}
 use Rattle.meson_script.specs.Messages.{refused_text}
 use Rattle.meson_rewrite.specs.Logs.{log_use}
 use Rattle.meson_rewrite.specs.Opening.{OpensNone, bad_log, log_unread, no_log, no_project}
 use Rattle.meson_rewrite.specs.Refused.{refusal_subject, refused_command, with_notes, with_number, with_text, with_texts}
-use Rattle.meson_rewrite.specs.Runs.{StepEnds, done, no_memory, not_opened, refused, shown, told, unwritten}
+use Rattle.meson_rewrite.specs.Runs.{Ends, RunEnds, StepEnds, asks_for_none, done, helped, lists, memory_ran_out, misused, no_memory, not_opened, refused, shown, steps, told, told_version, unwritten, with_texts as asked_with_texts, without_texts}
 use Rattle.meson_rewrite.specs.Steps.{MayRefuseStep, StopsRun, StopsStep, StopsStepsBack}
 use Rattle.meson_rewrite.specs.Stops.{WantsMemory, gathering_stop, undo_stop}
 use Rattle.meson_rewrite.specs.declared.advice.Advice.{Advice}
@@ -40,7 +43,7 @@ use Rattle.meson_rewrite.specs.declared.request.Step.{Step}
 use Rattle.meson_rewrite.specs.declared.request.Step.TheVariants.{Run, Tell, Undo, UndoTo, UndoChecked, Redo, ForgetOldest, ForgetAll}
 use Rattle.meson_rewrite.specs.declared.said.Said.{Said}
 use Rattle.meson_rewrite.specs.declared.stop.Stop.{Stop}
-use Rattle.meson_rewrite.specs.declared.stop.Stop.TheVariants.{Refused}
+use Rattle.meson_rewrite.specs.declared.stop.Stop.TheVariants.{Refused, Usage}
 
 -- ---- stops that nothing explains
 
@@ -63,6 +66,7 @@ undo-plain files (undo.Load (load.Parse place fault)) = refl
 undo-plain files (undo.Load load.OutOfMemory) = refl
 
 memory-plain : (stop : Stop) → WantsMemory stop → WantsMemory (unexplained stop)
+memory-plain (Usage fault advice_) (wants, none) = (wants, refl)
 memory-plain (Refused fault subject advice_) (wants, none) = (wants, refl)
 memory-plain _ m = m
 
@@ -101,14 +105,35 @@ explained_ends_as_plain dir step flags before after _ (done edits said writes we
 explained_ends_as_plain dir step flags before after _ (unwritten edits fault writes wet taken) = unwritten edits fault writes wet taken
 explained_ends_as_plain dir step flags before after _ (no_memory stop u wants) = no_memory (unexplained stop) u (memory-plain stop wants)
 
+-- ---- words that are not a request
+
+misused-plain : (asked : Result Asked UsageFault) (fault : UsageFault) (before after : Seen) (end : Result Said Stop) → asked ≡ Err fault → Ends asked before after end
+    → Ends asked before after (end_unexplained end)
+misused-plain asked fault before after _ refused_for (misused other advice_ u is) = misused other advice.Nothing u is
+misused-plain asked fault before after _ refused_for (helped a text u is shows) = helped a text u is shows
+misused-plain asked fault before after _ refused_for (told_version a u is shows) = told_version a u is shows
+misused-plain asked fault before after _ refused_for (asks_for_none a stop u is none) = absurd (let no : ⊥ = cc in no)
+misused-plain asked fault before after _ refused_for (steps a step end is asks ends) = absurd (let no : ⊥ = cc in no)
+misused-plain asked fault before after _ refused_for (lists a listing end is asks ends) = absurd (let no : ⊥ = cc in no)
+misused-plain asked fault before after _ refused_for (memory_ran_out stop u wants) = memory_ran_out (unexplained stop) u (memory-plain stop wants)
+
+pub misuse_ends_as_plain : MisuseEndsAsPlain
+misuse_ends_as_plain asked fault before after _ refused_for (without_texts end none ends) =
+    without_texts (end_unexplained end) none (misused-plain asked fault before after end refused_for ends)
+misuse_ends_as_plain asked fault before after _ refused_for (asked_with_texts a name end is named ends) = absurd (let no : ⊥ = cc in no)
+
 -- ---- what is written
 
 pub status_is_plain : StatusIsPlain
 status_is_plain exit_code (Ok said) = refl
+status_is_plain exit_code (Err (Usage fault advice_)) = refl
 status_is_plain exit_code (Err (Refused fault subject advice_)) = refl
 status_is_plain exit_code (Err _) = refl
 
 pub lines_are_plain : LinesArePlain
+lines_are_plain (Usage fault (advice.Lines text)) =
+    (text, ap (λ (l : List ℕ). l ++ text) (sym (append-nil (line (codes "error: " ++ stop_text (Usage fault (advice.Lines text)))))))
+lines_are_plain (Usage fault advice_) = ([], sym (append-nil _))
 lines_are_plain (Refused fault subject (advice.Lines text)) =
     (text, ap (λ (l : List ℕ). l ++ text) (sym (append-nil (line (codes "error: " ++ stop_text (Refused fault subject (advice.Lines text)))))))
 lines_are_plain (Refused fault subject advice_) = ([], sym (append-nil _))
@@ -145,6 +170,15 @@ module _ (key : List ℕ) where
   after-text k (Some text) more others same = after k _ more others same
 
 pub members_are_plain : MembersArePlain
+members_are_plain (Usage fault (advice.Members notes help)) key h n =
+    let told = array (items_of (map note_data notes)) in
+    let helps = array (items_of (map string help)) in
+    let message = string (usage_fault_text fault) in
+    let rest = member (codes "message") message (member (codes "notes") told no_members) in
+    let plain = member (codes "message") message no_members in
+    let same = after key (codes "message") message (member (codes "notes") told no_members) no_members (passes key (codes "notes") told no_members n) in
+    after key (codes "code") (string (usage_code fault)) (member (codes "help") helps rest) plain (passes key (codes "help") helps rest h ∙ same)
+members_are_plain (Usage fault advice_) key h n = refl
 members_are_plain (Refused fault subject (advice.Members notes help)) key h n =
     let told = array (items_of (map note_data notes)) in
     let helps = array (items_of (map string help)) in

@@ -215,7 +215,7 @@ store-not-done store.OutOfMemory is = not-1 is
 store-not-done _ is = not-3 is
 
 pub stop-not-done : (stop : Stop) → IsDone (stop_status stop) → ⊥
-stop-not-done (Usage fault) is = usage-not-done fault is
+stop-not-done (Usage fault advice) is = usage-not-done fault is
 stop-not-done (Store fault) is = store-not-done fault is
 stop-not-done _ is = not-1 is
 

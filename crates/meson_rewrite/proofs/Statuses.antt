@@ -10,6 +10,7 @@ use Rattle.meson_rewrite.proofs.TextEnds.{run-status-keeps}
 use Rattle.meson_rewrite.proofs.Reading.{IsDone, done-by-status, stop-not-done}
 use Rattle.meson_rewrite.specs.Lines.{status}
 use Rattle.meson_rewrite.specs.Runs.{KeepsFiles, RunEnds, Tells}
+use Rattle.meson_rewrite.specs.declared.advice.Advice.TheVariants.{Nothing}
 use Rattle.meson_rewrite.specs.declared.said.Said.{Said}
 use Rattle.meson_rewrite.specs.declared.stop.Stop.{Stop}
 use Rattle.meson_rewrite.specs.declared.stop.Stop.TheVariants.{Usage}
@@ -52,13 +53,13 @@ module _ (exit_code json : Bool) (code : ℕ) (out out' err err' : Heard) (end :
 -- ---- where memory ran out while the words were read, the same is said, whether they want JSON or not
 
 module _ (exit_code : Bool) (code : ℕ) (out out' err err' : Heard) where
-  either-form : (json wanted : Bool) → Tells exit_code json code out out' err err' (Err (Usage OutOfMemory)) → Tells exit_code wanted code out out' err err' (Err (Usage OutOfMemory))
+  either-form : (json wanted : Bool) → Tells exit_code json code out out' err err' (Err (Usage OutOfMemory Nothing)) → Tells exit_code wanted code out out' err err' (Err (Usage OutOfMemory Nothing))
   either-form true true t = t
   either-form true false t = t
   either-form false true t = t
   either-form false false t = t
 
-  pub told-wanted : (json wanted : Bool) (end : Result Said Stop) → (json ≡ wanted) ⊎ (end ≡ Err (Usage OutOfMemory)) → Tells exit_code json code out out' err err' end → Tells exit_code wanted code out out' err err' end
+  pub told-wanted : (json wanted : Bool) (end : Result Said Stop) → (json ≡ wanted) ⊎ (end ≡ Err (Usage OutOfMemory Nothing)) → Tells exit_code json code out out' err err' end → Tells exit_code wanted code out out' err err' end
   told-wanted json wanted end (inl same) t = subst (λ j. Tells exit_code j code out out' err err' end) same t
   told-wanted json wanted end (inr is) t =
       subst (Tells exit_code wanted code out out' err err') (sym is) (either-form json wanted (subst (Tells exit_code json code out out' err err') is t))

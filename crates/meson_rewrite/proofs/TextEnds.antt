@@ -28,6 +28,7 @@ use Rattle.meson_rewrite.specs.Runs.{Ends, IsUnchanged, KeepsFiles, KeepsUntold,
 use Rattle.meson_rewrite.specs.StoreReads.{AskedMayRead, ReadsOver, RunMayRead}
 use Rattle.meson_rewrite.specs.Stops.{WantsMemory, unread_by}
 use Rattle.meson_rewrite.specs.Texts.{laid, placed, plain}
+use Rattle.meson_rewrite.specs.declared.advice.Advice.{Advice}
 use Rattle.meson_rewrite.specs.declared.said.Said.{Said}
 use Rattle.meson_rewrite.specs.declared.stop.Stop.{Stop}
 use Rattle.meson_rewrite.specs.declared.stop.Stop.TheVariants.{BadTexts, Usage}
@@ -117,10 +118,11 @@ module _ (asked : Result Asked UsageFault) (before after : Seen) (u : Untouched 
       go (Err fault) is = subst (λ r. RunEnds r before after (Err stop)) (sym is) (without_texts (Err stop) refl (memory_ran_out stop u m))
       go (Ok a) is = of-asked a is a.texts refl
 
-  pub unasked-ends : (fault : UsageFault) → WantsMemory (Usage fault) ⊎ (asked ≡ Err fault) → RunEnds asked before after (Err (Usage fault))
-  unasked-ends fault (inl m) = memory-ends (Usage fault) m
-  unasked-ends fault (inr is) =
-      subst (λ r. RunEnds r before after (Err (Usage fault))) (sym is) (without_texts (Err (Usage fault)) refl (not-used (Err fault) before after u fault (inr refl)))
+  pub unasked-ends : (fault : UsageFault) (advice : Advice) → WantsMemory (Usage fault advice) ⊎ (asked ≡ Err fault) → RunEnds asked before after (Err (Usage fault advice))
+  unasked-ends fault advice (inl m) = memory-ends (Usage fault advice) m
+  unasked-ends fault advice (inr is) =
+      subst (λ r. RunEnds r before after (Err (Usage fault advice))) (sym is)
+      (without_texts (Err (Usage fault advice)) refl (not-used (Err fault) before after u fault advice (inr refl)))
 
 asked-nothing-read : (a : Asked) (texts : Option (List ℕ)) (before : Option Content) (reads : ℕ) → AskedMayRead a texts before reads reads None
 asked-nothing-read a None before reads = nothing-read (Ok a) before reads

@@ -143,7 +143,7 @@ listing-untold how dir folder listing flags before after _ (listed session log u
 listing-untold how dir folder listing flags before after _ (wants_memory stop u wants) = same-keeps how dir before.content after.content stop u.kept
 
 pub run-untold : (asked : Result Asked UsageFault) (before after : Seen) (end : Result Said Stop) → Ends asked before after end → IfErr end (KeepsUntold (log_use_of asked) (dir_of asked) before.content after.content)
-run-untold asked before after _ (misused fault u is) = same-keeps (log_use_of asked) (dir_of asked) before.content after.content (Usage fault) u.kept
+run-untold asked before after _ (misused fault advice u is) = same-keeps (log_use_of asked) (dir_of asked) before.content after.content (Usage fault advice) u.kept
 run-untold asked before after _ (helped a text u is shows) = tt
 run-untold asked before after _ (told_version a u is shows) = tt
 run-untold asked before after _ (asks_for_none a stop u is none) = same-keeps (log_use_of asked) (dir_of asked) before.content after.content stop u.kept

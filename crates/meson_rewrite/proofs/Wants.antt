@@ -6,6 +6,7 @@ use Rattle.meson_json.specs.declared.fault.ScriptFault.TheVariants as script
 use Rattle.meson_command.specs.declared.fault.UsageFault.{UsageFault}
 use Rattle.meson_command.specs.declared.fault.UsageFault.TheVariants as usage
 use Rattle.meson_rewrite.specs.Stops.{WantsMemory}
+use Rattle.meson_rewrite.specs.declared.advice.Advice.TheVariants.{Nothing}
 use Rattle.meson_rewrite.specs.declared.stop.Stop.TheVariants.{Script, Usage}
 
 pub script-or-memory : (P : ScriptFault → Type 0) (fault : ScriptFault) → (fault ≢ script.OutOfMemory → P fault) → WantsMemory (Script fault) ⊎ P fault
@@ -21,10 +22,10 @@ script-or-memory P (script.UnknownMember i name) h = inr (h (λ e. cc))
 script-or-memory P script.BadLog h = inr (h (λ e. cc))
 script-or-memory P script.OutOfMemory h = inl refl
 
-pub usage-or-memory : (P : UsageFault → Type 0) (fault : UsageFault) → (fault ≢ usage.OutOfMemory → P fault) → WantsMemory (Usage fault) ⊎ P fault
+pub usage-or-memory : (P : UsageFault → Type 0) (fault : UsageFault) → (fault ≢ usage.OutOfMemory → P fault) → WantsMemory (Usage fault Nothing) ⊎ P fault
 usage-or-memory P usage.Usage h = inr (h (λ e. cc))
 usage-or-memory P usage.OddWords h = inr (h (λ e. cc))
 usage-or-memory P usage.RepeatedKey h = inr (h (λ e. cc))
 usage-or-memory P usage.Unsupported h = inr (h (λ e. cc))
 usage-or-memory P usage.BadTitle h = inr (h (λ e. cc))
-usage-or-memory P usage.OutOfMemory h = inl refl
+usage-or-memory P usage.OutOfMemory h = inl (refl, refl)

@@ -2,19 +2,22 @@
 use Rattle.std.specs.Prelude.{◌≡◌, ◌≢◌, ℕ, Bool, false, List, ◌++◌, codes, Option, Result, Ok, Err}
 use Rattle.serde_json.specs.Data.{object}
 use Rattle.serde_json.specs.Find.{get}
+use Rattle.meson_command.specs.declared.asked.Asked.{Asked}
 use Rattle.meson_command.specs.declared.asked.Flags.{Flags}
+use Rattle.meson_command.specs.declared.fault.UsageFault.{UsageFault}
 use Rattle.meson_store.specs.Seen.{Seen}
 use Rattle.meson_rewrite.specs.Lines.{status, stop_lines}
 use Rattle.meson_rewrite.specs.Refused.{stop_members}
-use Rattle.meson_rewrite.specs.Runs.{StepEnds}
+use Rattle.meson_rewrite.specs.Runs.{RunEnds, StepEnds}
 use Rattle.meson_rewrite.specs.declared.advice.Advice.TheVariants.{Nothing}
 use Rattle.meson_rewrite.specs.declared.request.Step.{Step}
 use Rattle.meson_rewrite.specs.declared.said.Said.{Said}
 use Rattle.meson_rewrite.specs.declared.stop.Stop.{Stop}
-use Rattle.meson_rewrite.specs.declared.stop.Stop.TheVariants.{Refused}
+use Rattle.meson_rewrite.specs.declared.stop.Stop.TheVariants.{Refused, Usage}
 
 -- the stop without what explains it
 abbrev pub unexplained : Stop → Stop
+unexplained (Usage fault advice) = Usage fault Nothing
 unexplained (Refused fault subject advice) = Refused fault subject Nothing
 unexplained stop = stop
 
@@ -31,6 +34,11 @@ plain_flags flags = record flags { explain = false }
 abbrev pub ExplainedEndsAsPlain : Type 0
 ExplainedEndsAsPlain = (dir : Option (List ℕ)) (step : Step) (flags : Flags) (before after : Seen) (end : Result Said Stop)
     → StepEnds dir step flags before after end → StepEnds dir step (plain_flags flags) before after (end_unexplained end)
+
+-- However a run ends for words that are not a request, it may end so without what explains them: the store is then as after that.
+abbrev pub MisuseEndsAsPlain : Type 0
+MisuseEndsAsPlain = (asked : Result Asked UsageFault) (fault : UsageFault) (before after : Seen) (end : Result Said Stop) → asked ≡ Err fault
+    → RunEnds asked before after end → RunEnds asked before after (end_unexplained end)
 
 -- The status is the same.
 abbrev pub StatusIsPlain : Type 0

@@ -98,7 +98,7 @@ store_code store.OutputFailed = codes "W4"
 store_code store.OutOfMemory = memory_code
 
 abbrev pub stop_code : Stop → List ℕ
-stop_code (Usage fault) = usage_code fault
+stop_code (Usage fault advice) = usage_code fault
 stop_code (Script fault) = script_code fault
 stop_code (Parse name fault) = file_fault_code fault
 stop_code TooManyFiles = codes "M1"

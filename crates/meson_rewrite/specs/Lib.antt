@@ -9,6 +9,7 @@ pub mod Objects
 pub mod Notes
 pub mod Refused
 pub mod Advising
+pub mod Remarks
 pub mod Steps
 pub mod Requests
 pub mod Opening

@@ -23,7 +23,7 @@ use Rattle.meson_rewrite.specs.declared.advice.Advice.{Advice}
 use Rattle.meson_rewrite.specs.declared.advice.Advice.TheVariants as advice
 use Rattle.meson_rewrite.specs.declared.notes.PlacedNote.{PlacedNote}
 use Rattle.meson_rewrite.specs.declared.stop.Stop.{Stop}
-use Rattle.meson_rewrite.specs.declared.stop.Stop.TheVariants.{Script, Parse, Refused, Splice, OtherFiles, Store}
+use Rattle.meson_rewrite.specs.declared.stop.Stop.TheVariants.{Usage, Script, Parse, Refused, Splice, OtherFiles, Store}
 
 -- ---- the offset in a file
 
@@ -131,13 +131,14 @@ stop_name (Script fault) = script_subject fault
 stop_name (Refused fault subject advice) = refusal_subject fault.refusal subject
 stop_name _ = None
 
--- ---- what explains a refused command
+-- ---- what explains a refused command, or words
 
 abbrev pub advice_help : Advice → Option (List (List ℕ))
 advice_help (advice.Members notes help) = Some help
 advice_help _ = None
 
 abbrev pub stop_help : Stop → Option (List (List ℕ))
+stop_help (Usage fault advice_) = advice_help advice_
 stop_help (Refused fault subject advice_) = advice_help advice_
 stop_help _ = None
 
@@ -146,6 +147,7 @@ advice_notes (advice.Members notes help) = Some notes
 advice_notes _ = None
 
 abbrev pub stop_notes : Stop → Option (List PlacedNote)
+stop_notes (Usage fault advice_) = advice_notes advice_
 stop_notes (Refused fault subject advice_) = advice_notes advice_
 stop_notes _ = None
 

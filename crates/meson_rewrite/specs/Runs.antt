@@ -19,6 +19,8 @@ use Rattle.meson_store.specs.Output.{Heard, Gets, Fails}
 use Rattle.meson_store.specs.Seen.{Seen, Untouched}
 use Rattle.meson_store.specs.declared.store_fault.StoreFault.{StoreFault}
 use Rattle.meson_store.specs.declared.store_fault.StoreFault.TheVariants.{OutOfMemory}
+use Rattle.meson_rewrite.specs.Remarks.{Advises}
+use Rattle.meson_rewrite.specs.declared.advice.Advice.{Advice}
 use Rattle.meson_rewrite.specs.Lines.{left_by, line, shown_text, status, stop_lines, version_line}
 use Rattle.meson_rewrite.specs.Listed.{listing_text}
 use Rattle.meson_rewrite.specs.Logs.{empty_log, log_name, log_use, with_log}
@@ -97,7 +99,7 @@ pub data ListingEnds (dir : Option (List ℕ)) (listing : Listing) (flags : Flag
 -- ---- a request, by what the store holds
 
 pub data Ends (asked : Result Asked UsageFault) (before after : Seen) : Result Said Stop → Type 0 where
-  misused : (fault : UsageFault) → Untouched before after → asked ≡ Err fault → Ends asked before after (Err (Usage fault))
+  misused : (fault : UsageFault) (advice : Advice) → Untouched before after → asked ≡ Err fault → Ends asked before after (Err (Usage fault advice))
   helped : (a : Asked) (text : List ℕ) → Untouched before after → asked ≡ Ok (without_text a) → a.action ≡ Help text
       → Ends asked before after (Ok (shown_text text))
   told_version : (a : Asked) → Untouched before after → asked ≡ Ok (without_text a) → a.action ≡ Version
@@ -202,7 +204,7 @@ wants_exit_code (Ok a) = a.flags.exit_code
 
 -- whether it is known that the words want JSON: not where memory ran out while they were read
 abbrev pub knows_json : Bool → Stop → Bool
-knows_json json (Usage usage.OutOfMemory) = false
+knows_json json (Usage usage.OutOfMemory advice) = false
 knows_json json stop = json
 
 -- why a run was stopped, as an object of JSON where it is known that the words want it, else as lines
@@ -228,12 +230,14 @@ abbrev pub Tells : Bool → Bool → ℕ → Heard → Heard → Heard → Heard
 Tells exit_code json code out out' err err' end =
     ((code ≡ status exit_code end) × Says json end out out' err err') ⊎ ((code ≡ 3) × CannotSay end out out' err err')
 
--- for words that may want an answer in JSON
-pub record Run (asked : Result Asked UsageFault) (json : Bool) (before after : Seen) (reads reads' code : ℕ) (out out' err err' : Heard) : Type 0 where
+-- for words that may want an answer in JSON, and what explains it
+pub record Run (asked : Result Asked UsageFault) (json explains : Bool) (before after : Seen) (reads reads' code : ℕ) (out out' err err' : Heard) : Type 0 where
   pub end : Result Said Stop
   pub ends : RunEnds asked before after end
   pub tells : Tells (wants_exit_code asked) json code out out' err err' end
   -- if it was stopped
   pub kept : IfErr end (KeepsUntold (log_use_of asked) (dir_of asked) before.content after.content)
+  -- if the words are not a request
+  pub advised : Advises explains json asked end
   -- this is how often the store was read, the last time for the file that is reported as unreadable, if there is one
   pub may_read : RunMayRead asked before.content reads reads' (unread_in end)

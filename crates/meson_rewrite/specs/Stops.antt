@@ -38,7 +38,7 @@ undo_stop files (undo.Load load.OutOfMemory) = Store store.OutOfMemory
 
 -- an allocation failed, whichever step made it
 abbrev pub WantsMemory : Stop → Type 0
-WantsMemory (Usage fault) = fault ≡ usage.OutOfMemory
+WantsMemory (Usage fault advice) = (fault ≡ usage.OutOfMemory) × (advice ≡ Nothing)
 WantsMemory (Script fault) = fault ≡ script.OutOfMemory
 WantsMemory (Refused fault subject advice) = (fault.refusal ≡ refusal.OutOfMemory) × (advice ≡ Nothing)
 WantsMemory (Splice fault) = fault ≡ splice.OutOfMemory

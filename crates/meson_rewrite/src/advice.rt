@@ -15,7 +15,7 @@ use meson_script::{ListingForm, RunFault, Session, perform_all};
 use meson_splice::{FileSet, Many, Text};
 use std::alloc::{AllocError, Global};
 
-/// What is said of a refused command beside its line.
+/// What is said of a refusal beside its line.
 #[derive(Drop)]
 pub(crate) enum Advice {
     /// No more.
@@ -30,7 +30,7 @@ pub(crate) enum Advice {
 }
 
 /// What is said of an explanation of a project with these files: lines, or members of an object of JSON.
-fn advice_of(
+pub(crate) fn advice_of(
     alloc: Global,
     json: bool,
     files: &FileSet,

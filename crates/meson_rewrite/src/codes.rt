@@ -131,7 +131,7 @@ pub(crate) fn code_of(stop: &Stop) -> &'static str
     ensures { result.now ≡ stop_code stop.now }
 {
     match stop {
-        Stop::Usage(fault) => usage_code(fault),
+        Stop::Usage { fault, .. } => usage_code(fault),
         Stop::Script(fault) => script_code(fault),
         Stop::Parse { fault, .. } => file_fault_code(*fault),
         Stop::TooManyFiles => "M1",

@@ -13,6 +13,7 @@ mod opening;
 mod program;
 mod quoted;
 mod refused;
+mod remarks;
 mod reports;
 mod request;
 mod said;

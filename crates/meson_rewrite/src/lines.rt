@@ -38,7 +38,11 @@ fn tell_below<O: Output>(alloc: Global, to: &mut O, stop: &Stop) -> io::Result<(
         (λ _. Fails (O.heard to.old) (O.heard to.new)) }
 {
     match stop {
-        Stop::Refused {
+        Stop::Usage {
+            advice: Advice::Lines(lines),
+            ..
+        }
+        | Stop::Refused {
             advice: Advice::Lines(lines),
             ..
         } => to.tell(lines.get().as_bytes()),
@@ -74,7 +78,10 @@ fn knows_json(json: bool, stop: &Stop) -> bool
     ensures { result ≡ knows_json json stop.now }
 {
     match stop {
-        Stop::Usage(UsageFault::OutOfMemory) => false,
+        Stop::Usage {
+            fault: UsageFault::OutOfMemory,
+            ..
+        } => false,
         _ => json,
     }
 }

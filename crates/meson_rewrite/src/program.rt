@@ -6,6 +6,8 @@ ghost use Rattle.meson_command.specs.Asking.{asked_by, only_asks, only_shows, wa
 ghost use Rattle.meson_command.specs.declared.fault.UsageFault.TheVariants.{OutOfMemory};
 ghost use Rattle.meson_gathering.specs.Gathering.{named_folder};
 ghost use Rattle.meson_json.specs.Titles.{is_title};
+ghost use Rattle.meson_rewrite.specs.Remarks.{Advises, IsMisused, asks_to_explain};
+ghost use Rattle.meson_rewrite.specs.declared.advice.Advice.TheVariants.{Nothing};
 ghost use Rattle.meson_rewrite.specs.Lines.{done_status, status, store_fault_status, usage_status};
 ghost use Rattle.meson_rewrite.specs.Logs.{log_use};
 ghost use Rattle.meson_rewrite.specs.StoreReads.{MayRead, ReadsAll, ReadsAtMost, ReadsProject, unread_in};
@@ -18,9 +20,11 @@ ghost use Rattle.meson_rewrite.specs.declared.stop.Stop.TheVariants.{Usage};
 ghost use Rattle.meson_store.specs.Seen.{seen, seen_by};
 ghost use Rattle.meson_store.specs.Texts.{texts_over};
 
+use crate::advice::Advice;
 use crate::lines::tell_stop;
 use crate::listed::listed;
 use crate::opening::open;
+use crate::remarks::misuse_advice;
 use crate::reports::told;
 use crate::request::{Listing, ProgramRequest, Step, read_named, request_of};
 use crate::said::Said;
@@ -233,17 +237,23 @@ struct Ending {
 
 /// The ending for words that are not a request.
 fn misused(alloc: Global, words: &[String], fault: UsageFault) -> Ending
-    ensures end { (result.end ≡ Err (Usage fault)) ⊎ (result.end ≡ Err (Usage OutOfMemory)) }
-    ensures json { (result.json ≡ wants_json (map string_bytes words.now)) ⊎ (result.end ≡ Err (Usage OutOfMemory)) }
+    ensures end { IsMisused (asks_to_explain (map string_bytes words.now)) (wants_json (map string_bytes words.now)) fault result.end }
+    ensures json { (result.json ≡ wants_json (map string_bytes words.now)) ⊎ (result.end ≡ Err (Usage OutOfMemory Nothing)) }
 {
     match wants_json(alloc, words) {
-        Ok(json) => Ending {
-            end: Err(Stop::Usage(fault)),
-            json,
-            exit_code: false,
-        },
+        Ok(json) => {
+            let advice = misuse_advice(alloc, words, &fault, json);
+            Ending {
+                end: Err(Stop::Usage { fault, advice }),
+                json,
+                exit_code: false,
+            }
+        }
         Err(AllocError) => Ending {
-            end: Err(Stop::Usage(UsageFault::OutOfMemory)),
+            end: Err(Stop::Usage {
+                fault: UsageFault::OutOfMemory,
+                advice: Advice::Nothing,
+            }),
             json: false,
             exit_code: false,
         },
@@ -254,7 +264,9 @@ fn misused(alloc: Global, words: &[String], fault: UsageFault) -> Ending
 fn run<S: Store>(alloc: Global, store: &mut S, words: &[String]) -> Ending
     ensures ends { RunEnds (asked_by (map string_bytes words.now)) (seen_by S.content S.failures S.replaces store.old)
         (seen_by S.content S.failures S.replaces store.new) result.end }
-    ensures json { (result.json ≡ wants_json (map string_bytes words.now)) ⊎ (result.end ≡ Err (Usage OutOfMemory)) }
+    ensures json { (result.json ≡ wants_json (map string_bytes words.now)) ⊎ (result.end ≡ Err (Usage OutOfMemory Nothing)) }
+    ensures advised { Advises (asks_to_explain (map string_bytes words.now)) (wants_json (map string_bytes words.now))
+        (asked_by (map string_bytes words.now)) result.end }
     ensures exit_code { OnOk result.end (result.exit_code ≡ wants_exit_code (asked_by (map string_bytes words.now))) }
     ensures untouched { NeedsNoStore (asked_by (map string_bytes words.now)) → store.new ≡ store.old }
     ensures reads { RunMayRead (asked_by (map string_bytes words.now)) (S.content store.old) (S.reads store.old) (S.reads store.new)
@@ -320,7 +332,7 @@ fn status(exit_code: bool, end: &Result<Said, Stop>) -> u8
 {
     match end {
         Ok(said) => done_status(exit_code, said),
-        Err(Stop::Usage(fault)) => usage_status(fault),
+        Err(Stop::Usage { fault, .. }) => usage_status(fault),
         Err(Stop::Store(fault)) => store_fault_status(fault),
         Err(_) => 1,
     }
@@ -338,7 +350,8 @@ fn ended<O: Output, E: Output>(alloc: Global, out: &mut O, err: &mut E, ending: 
 
 /// Runs the program on these words, of which the first is its name. It reads the build files of a project in the store and does what the words request. It
 /// replaces the files that changed and then the undo log. It writes what it did to `out`, and listings and faults to `err`. Where the words want JSON, it
-/// writes one line of JSON in place of all this: to `out` if it was done, to `err` if it was stopped. Returns the exit status.
+/// writes one line of JSON in place of all this: to `out` if it was done, to `err` if it was stopped. Words with `--explain` that are not a request are
+/// explained below the line of their fault, or in two members of its object. Returns the exit status.
 ///
 /// If it is done, the store is read once for the file that the words name, if they name one (a script, or digests). It is read once for the root file and once
 /// for the log. It is read once for each name that a `subdir` call enters and for which no file was read before. Help and the version read nothing. If it ends
@@ -360,7 +373,7 @@ pub fn rewrite<S: Store, O: Output, E: Output>(
     err: &mut E,
 ) -> u8
     ensures runs { let known = seen_by S.content S.failures S.replaces in Run (asked_by (map string_bytes words.now)) (wants_json (map string_bytes words.now))
-        (known store.old) (known store.new) (S.reads store.old) (S.reads store.new) result
+        (asks_to_explain (map string_bytes words.now)) (known store.old) (known store.new) (S.reads store.old) (S.reads store.new) result
         (O.heard out.old) (O.heard out.new) (E.heard err.old) (E.heard err.new) }
     ensures untouched { NeedsNoStore (asked_by (map string_bytes words.now)) → store.new ≡ store.old }
     ensures asking { OnlyAsks (asked_by (map string_bytes words.now)) → IsUnchanged (seen_by S.content S.failures S.replaces store.old)

@@ -142,12 +142,16 @@ impl Stop {
         }
     }
 
-    /// What may be done about a command that is refused.
+    /// What may be done about words or a command that are refused.
     fn help(&self) -> Option<&[Text]>
         ensures { option_map (λ help. help.now) result ≡ stop_help self.now }
     {
         match self {
-            Stop::Refused {
+            Stop::Usage {
+                advice: Advice::Members { help, .. },
+                ..
+            }
+            | Stop::Refused {
                 advice: Advice::Members { help, .. },
                 ..
             } => Some(help.get()),
@@ -155,12 +159,16 @@ impl Stop {
         }
     }
 
-    /// What was seen of a command that is refused.
+    /// What was seen of words or a command that are refused.
     fn notes(&self) -> Option<&[PlacedNote]>
         ensures { option_map (λ notes. notes.now) result ≡ stop_notes self.now }
     {
         match self {
-            Stop::Refused {
+            Stop::Usage {
+                advice: Advice::Members { notes, .. },
+                ..
+            }
+            | Stop::Refused {
                 advice: Advice::Members { notes, .. },
                 ..
             } => Some(notes.get()),

@@ -15,8 +15,11 @@ use std::fmt;
 /// Why a run was stopped.
 #[derive(Drop)]
 pub(crate) enum Stop {
-    /// The words are not a request that the program knows.
-    Usage(UsageFault),
+    /// The words are not a request that the program knows. The advice explains it.
+    Usage {
+        fault: UsageFault,
+        advice: Advice,
+    },
     /// The script or the log is not valid.
     Script(ScriptFault),
     /// The file of this name is not a valid build file, or would not be one.
@@ -52,7 +55,7 @@ impl fmt::Display for Stop {
 
     fn fmt<W: fmt::Write>(&self, f: &mut fmt::Formatter<W>) -> fmt::Result {
         match self {
-            Stop::Usage(fault) => write!(f, "{fault}"),
+            Stop::Usage { fault, .. } => write!(f, "{fault}"),
             Stop::Script(fault) => write!(f, "{fault}"),
             Stop::Parse { name, fault } => match fault {
                 ParseFault::OutOfMemory => write!(f, "{fault}"),

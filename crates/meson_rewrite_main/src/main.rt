@@ -24,9 +24,11 @@ fn words(rt: &HostRuntime) -> io::Result<Vec<String>> {
 }
 
 /// Says that the words could not be read. A word that is not text is wrong usage.
-fn refuse<E: Output>(err: &mut E, kind: ErrorKind) -> u8 {
+fn refuse<E: Output>(err: &mut E, kind: ErrorKind, explains: bool) -> u8 {
     let (line, status) = if kind == ErrorKind::OutOfMemory {
         ("error: out of memory\n", 1)
+    } else if explains {
+        ("error: U1 usage\nnote: a word is not UTF-8\n", 2)
     } else {
         ("error: U1 usage\n", 2)
     };
@@ -45,7 +47,7 @@ fn main(rt: HostRuntime) -> ExitCode {
             let mut folder = Folder::new(&rt, alloc);
             rewrite(alloc, &mut folder, words.as_slice(), &mut out, &mut err)
         }
-        Err(e) => refuse(&mut err, e.kind()),
+        Err(e) => refuse(&mut err, e.kind(), rt.stderr().is_terminal()),
     };
     ExitCode::from(status)
 }

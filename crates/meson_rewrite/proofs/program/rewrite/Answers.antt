@@ -16,6 +16,7 @@ returns-clause-runs g c =
       tells = told-wanted wanted _ _ _ _ _ ending.json (wants_json (map string_bytes c.args.words.now)) ending.end c.run-ending.ensures.json
           (told-by-words ending.json ending.exit_code wanted _ _ _ _ _ ending.end c.run-ending.ensures.exit_code c.ended-status.ensures);
       kept = run-untold-all _ _ _ _ c.run-ending.ensures.ends;
+      advised = c.run-ending.ensures.advised;
       may_read = c.run-ending.ensures.reads;
     }
 

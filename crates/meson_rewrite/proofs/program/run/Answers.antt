@@ -1,4 +1,4 @@
-use Rattle.std.proofs.Common.{◌≡◌, ◌⊎◌, ◌≤◌, Err, Result, ℕ, Option, arith, ap, inl, inr, map, refl, string_bytes, subst, sym}
+use Rattle.std.proofs.Common.{◌≡◌, ◌≢◌, ◌⊎◌, ◌≤◌, Bool, Err, Result, ℕ, Option, arith, ap, inl, inr, map, refl, string_bytes, subst, sym}
 use Rattle.std.specs.Prelude.{OnOk}
 use Rattle.meson_command.proofs.Json.{json-law}
 use Rattle.meson_command.specs.Asking.{asked_by, without_text}
@@ -9,7 +9,11 @@ use Rattle.meson_rewrite.proofs.Reading.{on_ok}
 use Rattle.meson_rewrite.proofs.TextEnds.{run-nothing-read, unasked-ends}
 use Rattle.meson_rewrite.proofs.TextsAsked.{no-texts-shown, texts-only-ask}
 use Rattle.meson_rewrite.proofs.Wants.{usage-or-memory}
+use Rattle.meson_rewrite.specs.Remarks.{Advises, IsMisuseAdvice, IsMisused, no_memory_left, no_more, told_more, words_refused}
 use Rattle.meson_rewrite.specs.Runs.{RunEnds, wants_exit_code}
+use Rattle.meson_rewrite.specs.Stops.{WantsMemory}
+use Rattle.meson_rewrite.specs.declared.advice.Advice.{Advice}
+use Rattle.meson_rewrite.specs.declared.advice.Advice.TheVariants.{Nothing}
 use Rattle.meson_rewrite.specs.declared.said.Said.{Said}
 use Rattle.meson_rewrite.specs.declared.stop.Stop.{Stop}
 use Rattle.meson_rewrite.specs.declared.stop.Stop.TheVariants.{Usage}
@@ -18,21 +22,28 @@ use Rattle.meson_store.specs.Seen.{Seen, Untouched, seen}
 use Rattle.meson_rewrite.specs.StoreReads.{RunMayRead, unread_in}
 use Rattle.meson_rewrite.proofs.program.run.Goals as goal
 
--- it is one of these two faults
-abbrev IsMisuse : UsageFault → Result Said Stop → Type 0
-IsMisuse fault end = (end ≡ Err (Usage fault)) ⊎ (end ≡ Err (Usage OutOfMemory))
+-- of words that are refused, or for which memory ran out, it is said so
+refused-or-memory : (explains json : Bool) (asked : Result Asked UsageFault) (fault : UsageFault) (advice : Advice) → IsMisuseAdvice explains json fault advice → (fault ≢ OutOfMemory → asked ≡ Err fault)
+    → WantsMemory (Usage fault advice) ⊎ (asked ≡ Err fault)
+refused-or-memory explains json asked fault _ no_more is = usage-or-memory (λ f. asked ≡ Err f) fault is
+refused-or-memory explains json asked fault _ (told_more advice asks known tells) is = inr (is known)
 
-misused-ends : (asked : Result Asked UsageFault) (b : Seen) (u : Untouched b b) (fault : UsageFault) (end : Result Said Stop) → RunEnds asked b b (Err (Usage fault)) → IsMisuse fault end → RunEnds asked b b end
-misused-ends asked b u fault end ends (inl is) = subst (RunEnds asked b b) (sym is) ends
-misused-ends asked b u fault end ends (inr is) = subst (RunEnds asked b b) (sym is) (unasked-ends asked b b u OutOfMemory (inl refl))
+module _ (explains json : Bool) (asked : Result Asked UsageFault) (fault : UsageFault) where
+  misused-ends : (b : Seen) (u : Untouched b b) (end : Result Said Stop) → (fault ≢ OutOfMemory → asked ≡ Err fault) → IsMisused explains json fault end → RunEnds asked b b end
+  misused-ends b u _ is (words_refused advice said) = unasked-ends asked b b u fault advice (refused-or-memory explains json asked fault advice said is)
+  misused-ends b u _ is no_memory_left = unasked-ends asked b b u OutOfMemory Nothing (inl (refl, refl))
 
-misused-reads : (asked : Result Asked UsageFault) (before : Option Content) (reads : ℕ) (fault : UsageFault) (end : Result Said Stop) → IsMisuse fault end → RunMayRead asked before reads reads (unread_in end)
-misused-reads asked before reads fault end (inl is) = subst (λ e. RunMayRead asked before reads reads (unread_in e)) (sym is) (run-nothing-read asked before reads)
-misused-reads asked before reads fault end (inr is) = subst (λ e. RunMayRead asked before reads reads (unread_in e)) (sym is) (run-nothing-read asked before reads)
+  misused-reads : (before : Option Content) (reads : ℕ) (end : Result Said Stop) → IsMisused explains json fault end → RunMayRead asked before reads reads (unread_in end)
+  misused-reads before reads _ (words_refused advice said) = run-nothing-read asked before reads
+  misused-reads before reads _ no_memory_left = run-nothing-read asked before reads
 
-misused-all : (P : Type 0) (fault : UsageFault) (end : Result Said Stop) → IsMisuse fault end → OnOk end P
-misused-all P fault end (inl is) = subst (λ e. OnOk e P) (sym is) tt
-misused-all P fault end (inr is) = subst (λ e. OnOk e P) (sym is) tt
+  misused-all : (P : Type 0) (end : Result Said Stop) → IsMisused explains json fault end → OnOk end P
+  misused-all P _ (words_refused advice said) = tt
+  misused-all P _ no_memory_left = tt
+
+  misused-advises : (end : Result Said Stop) → IsMisused explains json fault end → Advises explains json asked end
+  misused-advises _ (words_refused advice said) other is = said
+  misused-advises _ no_memory_left other is = no_more
 
 pub returns-in-Err-clause-ends : goal.returns-in-Err-clause-ends
 returns-in-Err-clause-ends g c =
@@ -42,15 +53,20 @@ returns-in-Err-clause-ends g c =
     let b = seen (S.content c.args.store.now) failures (S.replaces c.args.store.now) in
     let same : failures ≤ failures = omega arith in
     let u : Untouched b b = record { kept = refl; counts = same; no_replace = refl } in
-    misused-ends asked b u c.in-Err.fault c.misused.result.end
-    (unasked-ends asked b b u c.in-Err.fault (usage-or-memory (λ f. asked ≡ Err f) c.in-Err.fault c.in-Err.ensures.refused)) c.misused.ensures.end
+    misused-ends _ _ asked c.in-Err.fault b u c.misused.result.end c.in-Err.ensures.refused c.misused.ensures.end
 
 pub returns-in-Err-clause-reads : goal.returns-in-Err-clause-reads
 returns-in-Err-clause-reads g c =
-    misused-reads (asked_by (map string_bytes c.args.words.now)) (g.S.Store.content c.args.store.now) (g.S.Store.reads c.args.store.now) c.in-Err.fault c.misused.result.end c.misused.ensures.end
+    misused-reads _ _ (asked_by (map string_bytes c.args.words.now)) c.in-Err.fault (g.S.Store.content c.args.store.now) (g.S.Store.reads c.args.store.now) c.misused.result.end c.misused.ensures.end
 
 pub returns-in-Err-clause-reads_all : goal.returns-in-Err-clause-reads_all
-returns-in-Err-clause-reads_all g c = misused-all _ c.in-Err.fault c.misused.result.end c.misused.ensures.end
+returns-in-Err-clause-reads_all g c = misused-all _ _ (asked_by (map string_bytes c.args.words.now)) c.in-Err.fault _ c.misused.result.end c.misused.ensures.end
+
+pub returns-in-Err-clause-advised : goal.returns-in-Err-clause-advised
+returns-in-Err-clause-advised g c = misused-advises _ _ (asked_by (map string_bytes c.args.words.now)) c.in-Err.fault c.misused.result.end c.misused.ensures.end
+
+pub returns-in-Ok-clause-advised : goal.returns-in-Ok-clause-advised
+returns-in-Ok-clause-advised g c = λ fault is. let taken = c.in-Ok.ensures.ok in absurd (let no : ⊥ = cc in no)
 
 pub returns-in-Ok-clause-json : goal.returns-in-Ok-clause-json
 returns-in-Ok-clause-json g c = inl (json-law (map string_bytes c.args.words.now) (without_text c.in-Ok.asked) c.in-Ok.ensures.ok)
@@ -66,7 +82,7 @@ pub respond-requires-clause-none_shown : goal.respond-requires-clause-none_shown
 respond-requires-clause-none_shown g c = no-texts-shown (map string_bytes c.args.words.now) c.in-Ok.asked c.in-Ok.ensures.ok
 
 pub returns-in-Err-clause-exit_code : goal.returns-in-Err-clause-exit_code
-returns-in-Err-clause-exit_code g c = misused-all _ c.in-Err.fault c.misused.result.end c.misused.ensures.end
+returns-in-Err-clause-exit_code g c = misused-all _ _ (asked_by (map string_bytes c.args.words.now)) c.in-Err.fault _ c.misused.result.end c.misused.ensures.end
 
 pub returns-in-Ok-clause-exit_code : goal.returns-in-Ok-clause-exit_code
 returns-in-Ok-clause-exit_code g c = on_ok c.respond.result (sym (ap wants_exit_code c.in-Ok.ensures.ok))
