@@ -74,7 +74,7 @@ memory-plain _ m = m
 
 run-plain : (flags : Flags) (old : Session) (commands : List Command) (stop : Stop) → StopsRun flags old commands stop
     → StopsRun (plain_flags flags) old commands (unexplained stop)
-run-plain flags old commands (Refused fault subject advice_) (may, is) = (may, told-plain flags old.project commands fault subject advice_ is)
+run-plain flags old commands (Refused fault subject advice_) (may, more) = (may, told-plain flags old.project commands fault subject advice_ more)
 run-plain flags old commands _ h = absurd h
 
 step-plain : (old : Session) (step : Result (History × List File) SpliceFault) (stop : Stop) → StopsStep old step stop → StopsStep old step (unexplained stop)

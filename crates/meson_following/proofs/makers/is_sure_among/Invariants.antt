@@ -1,0 +1,7 @@
+use Rattle.std.proofs.Common.{◌≡◌, drop, map}
+use Rattle.meson_following.specs.CodeMakers.{maker_view}
+use Rattle.meson_following.specs.Makers.{is_sure_among}
+use Rattle.meson_following.proofs.makers.is_sure_among.Given as goal
+
+abbrev pub invariant-loop-other : goal.invariant-loop-other
+invariant-loop-other l = is_sure_among (map maker_view (drop l.other-index l.makers)) (maker_view l.maker) ≡ is_sure_among (map maker_view l.makers) (maker_view l.maker)

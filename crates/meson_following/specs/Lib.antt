@@ -1,0 +1,12 @@
+pub mod Makers
+pub mod CodeMakers
+pub mod Names
+pub mod Effects
+pub mod Flows
+pub mod CodeFlows
+pub mod Reads
+pub mod Lists
+pub mod Following
+pub mod Samples
+pub mod Rows
+pub mod Infos

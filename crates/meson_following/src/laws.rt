@@ -1,0 +1,22 @@
+//! Laws of what is known of variables. The functions do nothing: what they ensure is the law.
+
+ghost use Rattle.meson_following.specs.Infos.{Either, Folders, OneAfterAnother, Summing, Turning};
+ghost use Rattle.meson_following.specs.Rows.{Branching, Entering, InTurn, Looping, Setting};
+
+/// What is known of a variable in some build files.
+pub fn rows()
+    ensures in_turn { InTurn }
+    ensures branching { Branching }
+    ensures looping { Looping }
+    ensures setting { Setting }
+    ensures entering { Entering }
+{}
+
+/// What the targets of some build files are made of.
+pub fn infos()
+    ensures one_after_another { OneAfterAnother }
+    ensures either { Either }
+    ensures turning { Turning }
+    ensures summing { Summing }
+    ensures folders { Folders }
+{}

@@ -1,0 +1,10 @@
+//! What variables hold where they are read, as the build files are evaluated.
+#![tactic(auto)]
+
+pub mod effects;
+pub mod flows;
+pub mod laws;
+pub mod makers;
+pub mod names;
+
+pub use makers::{Known, Made, Maker};
