@@ -1,15 +1,18 @@
 //! Answers to the questions of cases.
 
-ghost use Rattle.meson_calls.specs.Loading.{AreParsed};
+ghost use Rattle.meson_calls.specs.Loading.{AreParsed, IsProject};
+ghost use Rattle.meson_places.specs.Names.{loaded_in};
 
-use meson_calls::CallRef;
+use meson_calls::{CallRef, Refusal};
 use meson_case_files::Transcript;
-use meson_places::changes::{delete_steps, set_steps};
+use meson_places::arguments::argument_steps;
 use meson_places::lookup::find_place;
 use meson_places::slots::find_slot;
 use meson_places::values::given_of;
-use meson_places::{ArgFault, Callee, PlaceName, Search, Slot, Sources};
-use meson_splice::Text;
+use meson_places::{
+    Callee, Given, PlaceName, Search, Slot, Sources, ValueChange, ValueFault, ValueName,
+};
+use meson_splice::{Many, Text};
 use meson_steps::step::{ListEdit, ListStep};
 use std::alloc::{AllocError, Global};
 
@@ -142,29 +145,63 @@ fn put_step(step: &ListStep, to: &mut Transcript) {
     to.put("\n");
 }
 
-/// The steps that a question about a slot means.
-fn steps_of(
+fn put_steps(steps: Result<Vec<ListStep>, Refusal>, to: &mut Transcript) {
+    match steps {
+        Ok(steps) => {
+            for step in &steps {
+                put_step(step, to);
+            }
+        }
+        Err(refusal) => to.show_line(&refusal),
+    }
+}
+
+/// The values that words mean.
+fn values_of(alloc: Global, words: &str) -> Result<Vec<Given>, ValueFault> {
+    let mut values = Vec::new(alloc);
+    for word in words.split(' ') {
+        let value = given_of(alloc, &text_of(alloc, word)?)?;
+        match values.push(value) {
+            Ok(()) => {}
+            Err(e) => return Err(AllocError::from(e).into()),
+        }
+    }
+    Ok(values)
+}
+
+/// The change that a word and the words of its values mean. Of `set` they are one value.
+fn change_of(alloc: Global, word: &str, values: &str) -> Result<ValueChange, ValueFault> {
+    Ok(match word {
+        "set" => ValueChange::Set(given_of(alloc, &text_of(alloc, values)?)?),
+        "set-all" => ValueChange::SetAll(Many::of(values_of(alloc, values)?)),
+        _ => ValueChange::Delete,
+    })
+}
+
+/// Puts the steps of a change: `FUNCTION ID KEY VALUES`.
+fn put_change(
     alloc: Global,
     sources: Sources<'_>,
     question: Question<'_>,
-) -> Result<Vec<ListStep>, ArgFault>
-    requires { AreParsed sources.files.now sources.trees.now }
+    to: &mut Transcript,
+) -> Result<(), AllocError>
+    requires { IsProject (loaded_in sources) }
 {
-    let (search, rest) = search_of(alloc, question.words)?;
-    let (key, value) = rest.split_once(' ').unwrap_or((rest, ""));
-    let place = find_place(alloc, sources, &search)?;
-    let keys = keys_of(alloc, key)?;
-    let slot = find_slot(alloc, sources, &place, keys.as_slice())?;
-    if question.word == "delete" {
-        return delete_steps(alloc, &slot);
+    let (place, rest) = search_of(alloc, question.words)?;
+    let (key, values) = rest.split_once(' ').unwrap_or((rest, ""));
+    let keys = Many::of(keys_of(alloc, key)?);
+    match change_of(alloc, question.word, values) {
+        Ok(change) => put_steps(
+            argument_steps(alloc, sources, &ValueName { place, keys }, &change),
+            to,
+        ),
+        Err(fault) => to.show_line(&fault),
     }
-    let given = given_of(alloc, &text_of(alloc, value)?)?;
-    let last = text_of(alloc, key.rsplit_once('.').map_or(key, |parts| parts.1))?;
-    set_steps(alloc, sources, &given, &last, &slot)
+    Ok(())
 }
 
 /// The slot that a question names.
-fn slot_of(alloc: Global, sources: Sources<'_>, question: Question<'_>) -> Result<Slot, ArgFault>
+fn slot_of(alloc: Global, sources: Sources<'_>, question: Question<'_>) -> Result<Slot, Refusal>
     requires { AreParsed sources.files.now sources.trees.now }
 {
     let (search, key) = search_of(alloc, question.words)?;
@@ -180,7 +217,7 @@ pub fn answer(
     question: Question<'_>,
     to: &mut Transcript,
 ) -> Result<(), AllocError>
-    requires { AreParsed sources.files.now sources.trees.now }
+    requires { IsProject (loaded_in sources) }
 {
     match question.word {
         "place" => {
@@ -195,16 +232,9 @@ pub fn answer(
         }
         "slot" => match slot_of(alloc, sources, question) {
             Ok(slot) => put_slot(&slot, to),
-            Err(fault) => to.show_line(&fault),
+            Err(refusal) => to.show_line(&refusal),
         },
-        "set" | "delete" => match steps_of(alloc, sources, question) {
-            Ok(steps) => {
-                for step in &steps {
-                    put_step(step, to);
-                }
-            }
-            Err(fault) => to.show_line(&fault),
-        },
+        "set" | "set-all" | "delete" => put_change(alloc, sources, question, to)?,
         _ => to.line("not understood"),
     }
     Ok(())

@@ -1,5 +1,5 @@
 -- A text in square brackets is a list of one element exactly where the text is an expression.
-use Rattle.std.proofs.Common.{◌≡◌, ℕ, List, [], ◌∷◌, ◌++◌, IsUtf8, map, refl, sym, ap, ◌∙◌, subst, inl, inr, arith}
+use Rattle.std.proofs.Common.{◌≡◌, ℕ, ◌+◌, ◌≤◌, List, [], ◌∷◌, ◌++◌, IsUtf8, map, refl, sym, ap, ◌∙◌, subst, inl, inr, arith}
 use Rattle.std.specs.Prelude.{Bool, true, false, not, ◌&&◌, reverse, if◌then◌else◌}
 use Rattle.std.specs.List.{list_all}
 use Rattle.std.proofs.lemmas.List.{append_cancel_right, append-nil, map-append, reverse-append, reverse-reverse}
@@ -16,9 +16,10 @@ use Rattle.meson_lex.specs.Words.{IsTight, speaks}
 use Rattle.meson_lex.proofs.Seams.{AreItems-append, AreItems-split, joined-append}
 use Rattle.meson_layout.specs.Words.{is_remark, remarks}
 use Rattle.meson_syntax.specs.declared.operator.Bracket.TheVariants as bracket
-use Rattle.meson_syntax.specs.Grammar.{expression_words}
+use Rattle.meson_syntax.specs.Grammar.{LevelExpression, expression_depth, expression_words}
 use Rattle.meson_syntax.specs.ReadsList.{ReadsListWithin}
 use Rattle.meson_syntax.specs.Tree.{plain, named, pair, no_arguments, argument, Expression, Listing, listing, Nowhere, erase_listing}
+use Rattle.meson_edit.specs.Places.{IsWritten}
 use Rattle.meson_places.specs.Code.{IsExpression}
 use Rattle.meson_places.specs.inside.Bare.{is_bare, is_lone, speaks_first}
 
@@ -66,7 +67,7 @@ module _ (text : List ℕ) where
   closing extendable (b ∷ bs) apart h = h
   closing closed rest apart h = tt
 
-shape_quiet : (κ : Kind) → is_remark κ ≡ false → shape κ ≡ note → ⊥
+pub shape_quiet : (κ : Kind) → is_remark κ ≡ false → shape κ ≡ note → ⊥
 shape_quiet k.Comment quiet is = let no : ⊥ = cc in no
 shape_quiet k.Blank quiet is = let no : ⊥ = cc in no
 shape_quiet k.LineEnd quiet is = let no : ⊥ = cc in no
@@ -76,7 +77,7 @@ items_last : (xs : List Lexeme) → AreItems xs (93 ∷ []) → AreItems xs []
 items_last [] are = tt
 items_last (x ∷ xs) are = ((are.0.0, are.0.1, last x.text (shape x.kind) (joined xs) are.0.2), items_last xs are.1)
 
-quiet_first : (x : Lexeme) (xs : List Lexeme) → remarks (x ∷ xs) ≡ [] → (is_remark x.kind ≡ false) × (remarks xs ≡ [])
+pub quiet_first : (x : Lexeme) (xs : List Lexeme) → remarks (x ∷ xs) ≡ [] → (is_remark x.kind ≡ false) × (remarks xs ≡ [])
 quiet_first x xs quiet = go (is_remark x.kind) refl quiet
   where
     go : (b : Bool) → is_remark x.kind ≡ b → (if b then x ∷ remarks xs else remarks xs) ≡ [] → (is_remark x.kind ≡ false) × (remarks xs ≡ [])
@@ -185,12 +186,12 @@ module _ (bytes : List ℕ) where
   abbrev whole : List ℕ
   whole = 91 ∷ (bytes ++ 93 ∷ [])
 
-  pub complete : (x : IsExpression bytes) → ReadsListWithin 65 bracket.Square whole (listing tt false (argument (plain x.node) no_arguments))
-  complete x =
-      let xs = x.writes.items in
-      let n = x.writes.is_new in
+  pub written_complete : (d : ℕ) (node : Expression Nowhere) → IsWritten bytes (expression_words node) → LevelExpression node → expression_depth node ≤ d → ReadsListWithin (d + 1) bracket.Square whole (listing tt false (argument (plain node) no_arguments))
+  written_complete d node w level shallow =
+      let xs = w.items in
+      let n = w.is_new in
       record {
-        utf8 = IsUtf8-append (91 ∷ []) (bytes ++ 93 ∷ []) opening_utf8 (IsUtf8-append bytes (93 ∷ []) x.writes.utf8 ending_utf8);
+        utf8 = IsUtf8-append (91 ∷ []) (bytes ++ 93 ∷ []) opening_utf8 (IsUtf8-append bytes (93 ∷ []) w.utf8 ending_utf8);
         text = record {
           open_item = opening;
           inner = xs;
@@ -201,11 +202,14 @@ module _ (bytes : List ℕ) where
           };
           is_open = refl;
           is_close = refl;
-          is_inner = x.writes.is_words ∙ sym (append-nil (expression_words x.node));
+          is_inner = w.is_words ∙ sym (append-nil (expression_words node));
         };
-        level = (tt, ((refl, refl, x.level), tt));
-        depth = omega (arith, x.shallow);
+        level = (tt, ((refl, refl, level), tt));
+        depth = omega (arith, shallow);
       }
+
+  pub complete : (x : IsExpression bytes) → ReadsListWithin 65 bracket.Square whole (listing tt false (argument (plain x.node) no_arguments))
+  complete x = written_complete 64 x.node x.writes x.level x.shallow
 
   pub sound : IsUtf8 bytes → ((xs : List Lexeme) → IsItemList bytes xs → is_bare (map (λ x. x.kind) xs) ≡ true) → (l : Listing Nowhere) → ReadsListWithin 65 bracket.Square whole l → is_lone l ≡ true
       → IsExpression bytes

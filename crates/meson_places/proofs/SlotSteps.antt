@@ -5,19 +5,19 @@ use Rattle.meson_lex.specs.declared.kinds.Span.{Span}
 use Rattle.meson_syntax.specs.Tree.{Expression}
 use Rattle.meson_calls.specs.declared.call.CallRef.{CallRef}
 use Rattle.meson_calls.specs.Project.{child}
-use Rattle.meson_places.specs.declared.fault.ArgFault.{ArgFault}
-use Rattle.meson_places.specs.declared.fault.ArgFault.TheVariants.{NoSuchValue}
+use Rattle.meson_calls.specs.declared.refusal.Refusal.{Refusal}
+use Rattle.meson_calls.specs.declared.refusal.Refusal.TheVariants.{NoSuchValue}
 use Rattle.meson_places.specs.declared.slots.Slot.{Slot}
 use Rattle.meson_places.specs.declared.slots.Slot.TheVariants as slot
 use Rattle.meson_places.specs.Slots.{Child, absent_slot, at_number, elements_in, in_child, nth_child, number_in, slot_in}
 
 module _ (p : CallRef) (e : Expression Span) (here : Slot) (key : List ℕ) (keys : List (List ℕ)) where
-  pub further : ℕ → Child Span → Result Slot ArgFault
+  pub further : ℕ → Child Span → Result Slot Refusal
   further n c = slot_in (child p c.number) c.value (slot.Element p n) keys
 
-  pub step_fault : (f : ArgFault) → number_in key e ≡ Err f → slot_in p e here (key ∷ keys) ≡ Err f
+  pub step_refused : (f : Refusal) → number_in key e ≡ Err f → slot_in p e here (key ∷ keys) ≡ Err f
   unfolding further
-  step_fault f is = ap (at_number (absent_slot p key keys) (λ n. in_child key (further n) (nth_child 0 (elements_in e) n))) is
+  step_refused f is = ap (at_number (absent_slot p key keys) (λ n. in_child key (further n) (nth_child 0 (elements_in e) n))) is
 
   pub step_absent : number_in key e ≡ Ok None → slot_in p e here (key ∷ keys) ≡ absent_slot p key keys
   unfolding further

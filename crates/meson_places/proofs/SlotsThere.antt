@@ -11,7 +11,7 @@ use Rattle.meson_calls.specs.declared.call.CallRef.{CallRef}
 use Rattle.meson_calls.specs.Parts.{argument_child_count}
 use Rattle.meson_calls.specs.Project.{Project, child, expression_at}
 use Rattle.meson_calls.proofs.ExpressionsAt.{child_stands}
-use Rattle.meson_places.specs.declared.fault.ArgFault.{ArgFault}
+use Rattle.meson_calls.specs.declared.refusal.Refusal.{Refusal}
 use Rattle.meson_places.specs.declared.slots.Slot.{Slot}
 use Rattle.meson_places.specs.declared.slots.Slot.TheVariants as slot
 use Rattle.meson_places.specs.Changes.{slot_value}
@@ -46,7 +46,7 @@ listed list n c is =
     let same : c.number ≡ p.step = omega (arith, p.is_number) in
     ap (nth (arguments_parts list)) same ∙ p.is_value
 
-value_is_part : (e : Expression Span) (n : ℕ) (c : Child Span) → nth_child 0 (elements_in e) n ≡ Some c → nth (expression_parts e) c.number ≡ Some (an_expression c.value)
+pub value_is_part : (e : Expression Span) (n : ℕ) (c : Child Span) → nth_child 0 (elements_in e) n ≡ Some c → nth (expression_parts e) c.number ≡ Some (an_expression c.value)
 value_is_part (call s f (listing t trailing list)) n c is = listed list n c is
 value_is_part (array (listing t trailing list)) n c is = listed list n c is
 value_is_part (dictionary (listing t trailing list)) n c is = listed list n c is
@@ -54,7 +54,7 @@ value_is_part _ n c is = absurd (let none : ⊥ = cc in none)
 
 -- ---- one key after another
 
-ok_same : (s t : Slot) (r : Result Slot ArgFault) → r ≡ Ok s → r ≡ Ok t → s ≡ t
+ok_same : (s t : Slot) (r : Result Slot Refusal) → r ≡ Ok s → r ≡ Ok t → s ≡ t
 ok_same s t r one two = cc
 
 module _ (p : Project Span) where
@@ -78,7 +78,7 @@ module _ (p : Project Span) where
           ap (λ o. option_map (λ (x : Child Span). x.value) (option_and_then (λ y. nth_child 0 (elements_in y) n) o)) stands ∙ ap (option_map (λ (x : Child Span). x.value)) found in
           rest n c value (c.value, held) s i
 
-      go : (r : Result (Option ℕ) ArgFault) → number_in key e ≡ r
+      go : (r : Result (Option ℕ) Refusal) → number_in key e ≡ r
           → at_number (absent_slot at_ key keys) (λ n. in_child key (λ c. slot_in (child at_ c.number) c.value (slot.Element at_ n) keys) (nth_child 0 (elements_in e) n)) r ≡ Ok s
           → ((m : ℕ) (c : Child Span) → expression_at p (child at_ c.number) ≡ Some c.value → SlotIsThere p (slot.Element at_ m) → (t : Slot)
           → slot_in (child at_ c.number) c.value (slot.Element at_ m) keys ≡ Ok t → SlotIsThere p t)

@@ -22,7 +22,6 @@ use Rattle.meson_calls.proofs.CallsAt.{spanned_at}
 use Rattle.meson_calls.proofs.GoodParts.{good_left, good_right}
 use Rattle.meson_calls.proofs.GoodTexts.{text_good}
 use Rattle.meson_calls.proofs.Standing.{nth_past, nth_there}
-use Rattle.meson_places.specs.declared.fault.ArgFault.TheVariants.{Refused}
 use Rattle.meson_places.specs.declared.slots.Slot.TheVariants as slot
 use Rattle.meson_places.specs.Slots.{slot_from, slot_in, the_slot}
 
@@ -51,7 +50,7 @@ module _ (files : List File) (trees : List Parsed) (c : CallRef) where
   pub past_all : length trees ≤ c.file → expression_at p c ≡ None
   past_all past = ap (λ f. option_and_then (λ g. paths.expression_on_path g.tree c.path.steps) f) (nth_past files trees c.file past)
 
-  pub past_files : (keys : List (List ℕ)) → length trees ≤ c.file → the_slot p c keys ≡ Err (Refused NotFound)
+  pub past_files : (keys : List (List ℕ)) → length trees ≤ c.file → the_slot p c keys ≡ Err NotFound
   past_files keys past = ap (λ f. slot_from c keys (option_and_then (λ g. paths.expression_on_path g.tree c.path.steps) f)) (nth_past files trees c.file past)
 
   module _ (d : Parsed) (many : length trees ≡ length files) (within : c.file < length trees) where
@@ -61,7 +60,7 @@ module _ (files : List File) (trees : List Parsed) (c : CallRef) where
     pub stands : expression_at p c ≡ paths.expression_on_path the_tree c.path.steps
     stands = ap (λ f. option_and_then (λ g. paths.expression_on_path g.tree c.path.steps) f) (nth_there files trees c.file d many within)
 
-    pub no_slot : (keys : List (List ℕ)) → None ≡ paths.expression_on_path the_tree c.path.steps → the_slot p c keys ≡ Err (Refused NotFound)
+    pub no_slot : (keys : List (List ℕ)) → None ≡ paths.expression_on_path the_tree c.path.steps → the_slot p c keys ≡ Err NotFound
     no_slot keys none = ap (slot_from c keys) (stands ∙ sym none)
 
     pub slot_there : (keys : List (List ℕ)) (e : Expression Span) → Some e ≡ paths.expression_on_path the_tree c.path.steps → the_slot p c keys ≡ slot_in c e (slot.Whole c) keys

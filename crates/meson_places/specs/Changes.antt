@@ -1,5 +1,5 @@
 -- The steps that set or delete the value of a slot.
-use Rattle.std.specs.Prelude.{◌≡◌, ℕ, zero, suc, Bool, false, List, [], ◌∷◌, ◌++◌, drop, length, codes, if◌then◌else◌, Option, Some, None, option_map, option_and_then, Result, Ok, Err}
+use Rattle.std.specs.Prelude.{ℕ, zero, suc, ◌+◌, Bool, false, List, [], ◌∷◌, ◌++◌, drop, length, codes, if◌then◌else◌, Option, Some, None, option_map, option_and_then, Result, Ok, Err}
 use Rattle.meson_lex.specs.declared.kinds.Span.{Span}
 use Rattle.meson_lex.specs.Bytes.{begins, is_blank}
 use Rattle.meson_lex.specs.Literals.{literal}
@@ -8,17 +8,14 @@ use Rattle.meson_syntax.specs.Tree.{Argument, plain, named, pair, Expression, No
 use Rattle.meson_edit.specs.Edits.{After, First, Remove, Replace, Written}
 use Rattle.meson_edit.specs.Standing.{expression_span}
 use Rattle.meson_calls.specs.declared.call.CallRef.{CallRef}
-use Rattle.meson_calls.specs.declared.refusal.Refusal.TheVariants.{BadName, NotLiteral, NotRemovable}
+use Rattle.meson_calls.specs.declared.refusal.Refusal.TheVariants.{BadName, NoSuchValue, NotLiteral, NotRemovable, OtherKind}
 use Rattle.meson_calls.specs.Loading.{Loaded, project}
 use Rattle.meson_calls.specs.Project.{Project, child, expression_at}
-use Rattle.meson_steps.specs.declared.step.ListStep.{ListStep}
-use Rattle.meson_steps.specs.ListSteps.{AreBare}
 use Rattle.meson_steps.specs.Steps.{Step, step_in}
 use Rattle.meson_steps.specs.WrittenTexts.{string_of}
 use Rattle.meson_places.specs.declared.elements.ListKind.{ListKind}
 use Rattle.meson_places.specs.declared.elements.ListKind.TheVariants as kind
-use Rattle.meson_places.specs.declared.fault.ArgFault.{ArgFault}
-use Rattle.meson_places.specs.declared.fault.ArgFault.TheVariants.{NoSuchValue, OtherKind, Refused}
+use Rattle.meson_calls.specs.declared.refusal.Refusal.{Refusal}
 use Rattle.meson_places.specs.declared.slots.Slot.{Slot}
 use Rattle.meson_places.specs.declared.slots.Slot.TheVariants as slot
 use Rattle.meson_places.specs.declared.values.Given.{Given}
@@ -39,15 +36,15 @@ slot_value p (slot.Whole c) = expression_at p c
 
 -- ---- set, where a value is there
 
--- elements behind the first one are removed, the last one first
-abbrev pub rest_removed : CallRef → ℕ → List Step
-rest_removed list zero = []
-rest_removed list (suc m) = step_in list (Remove list.path.steps (suc m)) ∷ rest_removed list m
+-- so many elements from a number on are removed, the last one first
+abbrev pub rest_removed : CallRef → (from many : ℕ) → List Step
+rest_removed list from zero = []
+rest_removed list from (suc m) = step_in list (Remove list.path.steps (from + m)) ∷ rest_removed list from m
 
 -- an array with this number of elements gets one element, in the place of the first one
 abbrev pub alone_in_array : CallRef → ℕ → Written (Expression Nowhere) → List Step
 alone_in_array list zero w = step_in list (First list.path.steps (record { bytes = w.bytes; node = plain w.node })) ∷ []
-alone_in_array list (suc m) w = step_in list (Replace list.path.steps 0 w) ∷ rest_removed list m
+alone_in_array list (suc m) w = step_in list (Replace list.path.steps 0 w) ∷ rest_removed list 1 m
 
 -- a text in the place of an array of texts becomes its only element
 abbrev pub replaces_texts : {S : Type 0} → Given → Expression S → Bool
@@ -56,7 +53,7 @@ replaces_texts (given.Switch b) e = false
 replaces_texts (given.Code code) e = false
 
 abbrev pub set_there : {S : Type 0} → Given → Written (Expression Nowhere) → (key : List ℕ) → CallRef → ℕ → Option (Child S)
-    → Result (List Step) ArgFault
+    → Result (List Step) Refusal
 set_there g w key list n None = Err (NoSuchValue key)
 set_there g w key list n (Some c) =
     if keeps_kind g c.value then Ok (step_in list (Replace list.path.steps n w) ∷ [])
@@ -92,46 +89,40 @@ abbrev pub written_entry : (key colon : List ℕ) → Written (Expression Nowher
 written_entry key colon w = record { bytes = literal key ++ (colon ++ w.bytes); node = pair tt (string_of key) w.node }
 
 -- a call gets a keyword argument, if the key is an identifier, and a dictionary an entry, each as its last element
-abbrev pub keyword_behind : List ℕ → Written (Expression Nowhere) → (key : List ℕ) → CallRef → List (Argument Span) → Result (List Step) ArgFault
+abbrev pub keyword_behind : List ℕ → Written (Expression Nowhere) → (key : List ℕ) → CallRef → List (Argument Span) → Result (List Step) Refusal
 keyword_behind source w key list xs = Ok (behind_all list (length xs) (written_keyword key (colon_among source xs) w) ∷ [])
 
-abbrev pub added_keyword : List ℕ → Written (Expression Nowhere) → (key : List ℕ) → CallRef → List (Argument Span) → Result (List Step) ArgFault
-added_keyword source w key list xs = if is_identifier key then keyword_behind source w key list xs else Err (Refused BadName)
+abbrev pub added_keyword : List ℕ → Written (Expression Nowhere) → (key : List ℕ) → CallRef → List (Argument Span) → Result (List Step) Refusal
+added_keyword source w key list xs = if is_identifier key then keyword_behind source w key list xs else Err BadName
 
-abbrev pub added_entry : List ℕ → Written (Expression Nowhere) → (key : List ℕ) → CallRef → List (Argument Span) → Result (List Step) ArgFault
+abbrev pub added_entry : List ℕ → Written (Expression Nowhere) → (key : List ℕ) → CallRef → List (Argument Span) → Result (List Step) Refusal
 added_entry source w key list xs = Ok (behind_all list (length xs) (written_entry key (colon_among source xs) w) ∷ [])
 
 abbrev pub added_by_kind : List ℕ → Written (Expression Nowhere) → (key : List ℕ) → CallRef → ListKind → List (Argument Span)
-    → Result (List Step) ArgFault
+    → Result (List Step) Refusal
 added_by_kind source w key list kind.Call xs = added_keyword source w key list xs
 added_by_kind source w key list kind.Dictionary xs = added_entry source w key list xs
-added_by_kind source w key list kind.Array xs = Err (Refused (NotLiteral key))
+added_by_kind source w key list kind.Array xs = Err (NotLiteral key)
 
 abbrev pub added_there : List ℕ → Written (Expression Nowhere) → (key : List ℕ) → CallRef → Option ListKind → List (Argument Span)
-    → Result (List Step) ArgFault
+    → Result (List Step) Refusal
 added_there source w key list (Some k) xs = added_by_kind source w key list k xs
-added_there source w key list None xs = Err (Refused (NotLiteral key))
+added_there source w key list None xs = Err (NotLiteral key)
 
-abbrev pub added_to : List ℕ → Written (Expression Nowhere) → (key : List ℕ) → CallRef → Option (Expression Span) → Result (List Step) ArgFault
+abbrev pub added_to : List ℕ → Written (Expression Nowhere) → (key : List ℕ) → CallRef → Option (Expression Span) → Result (List Step) Refusal
 added_to source w key list None = Err (NoSuchValue key)
 added_to source w key list (Some e) = added_there source w key list (list_kind e) (elements_in e)
 
 -- ---- the steps
 
 -- the key is the last of those that named the slot
-abbrev pub set_steps : Loaded → Given → Written (Expression Nowhere) → (key : List ℕ) → Slot → Result (List Step) ArgFault
+abbrev pub set_steps : Loaded → Given → Written (Expression Nowhere) → (key : List ℕ) → Slot → Result (List Step) Refusal
 set_steps l g w key (slot.Element list n) = set_there g w key list n (element_child (project l) list n)
 set_steps l g w key (slot.Absent list k) = added_to (bytes_at list.file l.files) w k list (expression_at (project l) list)
-set_steps l g w key (slot.Whole c) = Err (Refused (NotLiteral key))
+set_steps l g w key (slot.Whole c) = Err (NotLiteral key)
 
 -- what is absent stays so, and an assigned value or a list itself can't be deleted
-abbrev pub delete_steps : Slot → Result (List Step) ArgFault
+abbrev pub delete_steps : Slot → Result (List Step) Refusal
 delete_steps (slot.Element list n) = Ok (step_in list (Remove list.path.steps n) ∷ [])
 delete_steps (slot.Absent list key) = Ok []
-delete_steps (slot.Whole c) = Err (Refused NotRemovable)
-
--- the code's steps are those that are meant
-pub record AreMeant (meant : Result (List Step) ArgFault) (code : List ListStep) : Type 0 where
-  pub steps : List Step
-  pub is : meant ≡ Ok steps
-  pub bare : AreBare steps code
+delete_steps (slot.Whole c) = Err NotRemovable

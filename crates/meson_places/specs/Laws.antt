@@ -1,22 +1,28 @@
 -- What a search finds and what a slot is, in terms of the calls of a project and of what is at a place.
-use Rattle.std.specs.Prelude.{◌≡◌, ◌⊎◌, ℕ, suc, true, List, ◌∷◌, ◌++◌, take, drop, Option, Some, None, Ok}
+use Rattle.std.specs.Prelude.{◌≡◌, ◌⊎◌, ℕ, suc, true, List, ◌∷◌, ◌++◌, take, drop, Option, Some, None, Ok, All}
 use Rattle.std.specs.List.{Contains}
+use Rattle.std.specs.Str.{IsUtf8}
 use Rattle.meson_lex.specs.declared.kinds.Span.{Span}
 use Rattle.meson_syntax.specs.Paths.{ListAt, list_at, nth}
 use Rattle.meson_syntax.specs.Tree.{Argument, Expression, Nowhere, Plain}
 use Rattle.meson_edit.specs.Edits.{Written, elements, with_elements, with_value}
 use Rattle.meson_calls.specs.declared.call.CallRef.{CallRef}
 use Rattle.meson_calls.specs.Calls.{Call, call_of, calls, first_literal, is}
-use Rattle.meson_calls.specs.Loading.{Loaded, project}
+use Rattle.meson_calls.specs.Loading.{IsProject, Loaded, project}
 use Rattle.meson_calls.specs.Notes.{an_assignment, notes}
 use Rattle.meson_calls.specs.Project.{Project, Placed, child, expression_at, placed}
+use Rattle.meson_steps.specs.ListSteps.{AreDoable}
+use Rattle.meson_steps.specs.ResultLimits.{plain_trees}
 use Rattle.meson_steps.specs.Steps.{Step, all_stepped, changed_at}
+use Rattle.meson_places.specs.declared.arguments.ValueChange.{ValueChange}
+use Rattle.meson_places.specs.declared.arguments.ValueName.{ValueName}
 use Rattle.meson_places.specs.declared.name.Callee.{Callee}
 use Rattle.meson_places.specs.declared.name.PlaceName.TheVariants as name
 use Rattle.meson_places.specs.declared.name.Search.{Search}
 use Rattle.meson_places.specs.declared.slots.Slot.{Slot}
 use Rattle.meson_places.specs.declared.slots.Slot.TheVariants as slot
 use Rattle.meson_places.specs.declared.values.Given.{Given}
+use Rattle.meson_places.specs.Arguments.{MayBeMade, argument_steps}
 use Rattle.meson_places.specs.Changes.{delete_steps, replaces_texts, set_steps, slot_value}
 use Rattle.meson_places.specs.Slots.{number_in, the_slot}
 use Rattle.meson_places.specs.Values.{keeps_kind}
@@ -118,3 +124,10 @@ pub record IsWithout (list : CallRef) (n : ℕ) (before after : List Plain) : Ty
 abbrev pub DeletesOneElement : Type 0
 DeletesOneElement = (list : CallRef) (n : ℕ) (steps : List Step) → delete_steps (slot.Element list n) ≡ Ok steps
     → (before after : List Plain) → all_stepped steps before ≡ Some after → IsWithout list n before after
+
+-- ---- steps that may be done
+
+-- the law: the steps that change a value of a project may be done one after another, each with a tree within the limit between two steps
+abbrev pub ArgumentStepsAreDoable : Type 0
+ArgumentStepsAreDoable = (old : Loaded) → IsProject old → (n : ValueName) → All IsUtf8 n.keys → (c : ValueChange) (may : MayBeMade c) (steps : List Step)
+    → argument_steps old n c may ≡ Ok steps → AreDoable steps (plain_trees old)

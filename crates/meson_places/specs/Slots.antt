@@ -6,13 +6,12 @@ use Rattle.meson_syntax.specs.Tree.{Expression, array, dictionary, call, Argumen
 use Rattle.meson_syntax.specs.Paths.{nth}
 use Rattle.meson_edit.specs.Edits.{elements, is_empty}
 use Rattle.meson_calls.specs.declared.call.CallRef.{CallRef}
-use Rattle.meson_calls.specs.declared.refusal.Refusal.TheVariants.{DuplicateKeyword, HiddenKeywords, NotFound, NotLiteral}
+use Rattle.meson_calls.specs.declared.refusal.Refusal.TheVariants.{DuplicateKeyword, HiddenKeywords, NoSuchValue, NotFound, NotLiteral}
 use Rattle.meson_calls.specs.Calls.{is, literal_of}
 use Rattle.meson_calls.specs.NamedArguments.{kwargs_key}
 use Rattle.meson_calls.specs.Parts.{argument_child_count}
 use Rattle.meson_calls.specs.Project.{Project, child, expression_at}
-use Rattle.meson_places.specs.declared.fault.ArgFault.{ArgFault}
-use Rattle.meson_places.specs.declared.fault.ArgFault.TheVariants.{NoSuchValue, Refused}
+use Rattle.meson_calls.specs.declared.refusal.Refusal.{Refusal}
 use Rattle.meson_places.specs.declared.elements.ListKind.{ListKind}
 use Rattle.meson_places.specs.declared.elements.ListKind.TheVariants as kind
 use Rattle.meson_places.specs.declared.slots.Slot.{Slot}
@@ -53,13 +52,13 @@ passing test n (x ∷ xs) = if test x then n ∷ passing test (suc n) xs else pa
 -- ---- what a key names in an expression: the number of an element of its list, or nothing that is there yet
 
 -- a name or a text may be there once
-abbrev pub at_most_one : List ℕ → List ℕ → Result (Option ℕ) ArgFault
+abbrev pub at_most_one : List ℕ → List ℕ → Result (Option ℕ) Refusal
 at_most_one key [] = Ok None
 at_most_one key (n ∷ []) = Ok (Some n)
-at_most_one key (n ∷ m ∷ more) = Err (Refused (DuplicateKeyword key))
+at_most_one key (n ∷ m ∷ more) = Err (DuplicateKeyword key)
 
 -- a number has to be there
-abbrev pub that_number : List ℕ → Option ℕ → Result (Option ℕ) ArgFault
+abbrev pub that_number : List ℕ → Option ℕ → Result (Option ℕ) Refusal
 that_number key None = Err (NoSuchValue key)
 that_number key (Some n) = Ok (Some n)
 
@@ -67,20 +66,20 @@ that_number key (Some n) = Ok (Some n)
 abbrev pub may_hide : {S : Type 0} → List ℕ → List (Argument S) → Bool
 may_hide key xs = not (bytes_eq key kwargs_key) && not (is_empty (passing (has_name kwargs_key) 0 xs))
 
-abbrev pub keyword_number : {S : Type 0} → List ℕ → List (Argument S) → Result (Option ℕ) ArgFault
-keyword_number key xs = if may_hide key xs then Err (Refused HiddenKeywords) else at_most_one key (passing (has_name key) 0 xs)
+abbrev pub keyword_number : {S : Type 0} → List ℕ → List (Argument S) → Result (Option ℕ) Refusal
+keyword_number key xs = if may_hide key xs then Err HiddenKeywords else at_most_one key (passing (has_name key) 0 xs)
 
 -- in a call a number counts the arguments without a name, from 0; any other key is the name of a keyword argument
-abbrev pub number_in_call : {S : Type 0} → List ℕ → Option ℕ → List (Argument S) → Result (Option ℕ) ArgFault
+abbrev pub number_in_call : {S : Type 0} → List ℕ → Option ℕ → List (Argument S) → Result (Option ℕ) Refusal
 number_in_call key (Some n) xs = that_number key (nth (passing has_no_name 0 xs) n)
 number_in_call key None xs = keyword_number key xs
 
 -- in an array a key is the number of an element, from 0
-abbrev pub number_in_array : List ℕ → Option ℕ → (many : ℕ) → Result (Option ℕ) ArgFault
+abbrev pub number_in_array : List ℕ → Option ℕ → (many : ℕ) → Result (Option ℕ) Refusal
 number_in_array key (Some n) many = if nat_lt n many then Ok (Some n) else Err (NoSuchValue key)
 number_in_array key None many = Err (NoSuchValue key)
 
-abbrev pub entry_number : {S : Type 0} → List ℕ → List (Argument S) → Result (Option ℕ) ArgFault
+abbrev pub entry_number : {S : Type 0} → List ℕ → List (Argument S) → Result (Option ℕ) Refusal
 entry_number key xs = at_most_one key (passing (has_key key) 0 xs)
 
 -- what the list of an expression belongs to
@@ -97,13 +96,13 @@ elements_in (dictionary l) = elements l
 elements_in _ = []
 
 -- in a dictionary it is the text of an entry's key
-abbrev pub number_by : {S : Type 0} → Option ListKind → List ℕ → List (Argument S) → Result (Option ℕ) ArgFault
+abbrev pub number_by : {S : Type 0} → Option ListKind → List ℕ → List (Argument S) → Result (Option ℕ) Refusal
 number_by (Some kind.Call) key xs = number_in_call key (number_of key) xs
 number_by (Some kind.Array) key xs = number_in_array key (number_of key) (length xs)
 number_by (Some kind.Dictionary) key xs = entry_number key xs
-number_by None key xs = Err (Refused (NotLiteral key))
+number_by None key xs = Err (NotLiteral key)
 
-abbrev pub number_in : {S : Type 0} → List ℕ → Expression S → Result (Option ℕ) ArgFault
+abbrev pub number_in : {S : Type 0} → List ℕ → Expression S → Result (Option ℕ) Refusal
 number_in key e = number_by (list_kind e) key (elements_in e)
 
 -- ---- the value of an element
@@ -127,21 +126,21 @@ nth_child before (x ∷ xs) (suc n) = nth_child (before + argument_child_count x
 -- ---- slots
 
 -- a key that is not there has to be the last one
-abbrev pub absent_slot : CallRef → List ℕ → List (List ℕ) → Result Slot ArgFault
+abbrev pub absent_slot : CallRef → List ℕ → List (List ℕ) → Result Slot Refusal
 absent_slot p key [] = Ok (slot.Absent p key)
 absent_slot p key (k ∷ more) = Err (NoSuchValue key)
 
-abbrev pub in_child : {S : Type 0} → List ℕ → (Child S → Result Slot ArgFault) → Option (Child S) → Result Slot ArgFault
+abbrev pub in_child : {S : Type 0} → List ℕ → (Child S → Result Slot Refusal) → Option (Child S) → Result Slot Refusal
 in_child key further None = Err (NoSuchValue key)
 in_child key further (Some c) = further c
 
-abbrev pub at_number : (absent : Result Slot ArgFault) → (there : ℕ → Result Slot ArgFault) → Result (Option ℕ) ArgFault → Result Slot ArgFault
+abbrev pub at_number : (absent : Result Slot Refusal) → (there : ℕ → Result Slot Refusal) → Result (Option ℕ) Refusal → Result Slot Refusal
 at_number absent there (Err e) = Err e
 at_number absent there (Ok None) = absent
 at_number absent there (Ok (Some n)) = there n
 
 -- the slot that keys name, one step each, from an expression at a place that is the value of a slot
-abbrev pub slot_in : {S : Type 0} → CallRef → Expression S → Slot → List (List ℕ) → Result Slot ArgFault
+abbrev pub slot_in : {S : Type 0} → CallRef → Expression S → Slot → List (List ℕ) → Result Slot Refusal
 slot_in p e here [] = Ok here
 slot_in p e here (key ∷ keys) =
     at_number (absent_slot p key keys)
@@ -149,9 +148,9 @@ slot_in p e here (key ∷ keys) =
     (number_in key e)
 
 -- from the expression at a place of a project
-abbrev pub slot_from : {S : Type 0} → CallRef → List (List ℕ) → Option (Expression S) → Result Slot ArgFault
-slot_from p keys None = Err (Refused NotFound)
+abbrev pub slot_from : {S : Type 0} → CallRef → List (List ℕ) → Option (Expression S) → Result Slot Refusal
+slot_from p keys None = Err NotFound
 slot_from p keys (Some e) = slot_in p e (slot.Whole p) keys
 
-abbrev pub the_slot : {S : Type 0} → Project S → CallRef → List (List ℕ) → Result Slot ArgFault
+abbrev pub the_slot : {S : Type 0} → Project S → CallRef → List (List ℕ) → Result Slot Refusal
 the_slot p c keys = slot_from c keys (expression_at p c)

@@ -8,18 +8,16 @@ ghost use Rattle.meson_syntax.specs.View.{args_view};
 ghost use Rattle.meson_calls.specs.Loading.{AreParsed, project};
 ghost use Rattle.meson_calls.specs.Project.{expression_at};
 ghost use Rattle.meson_steps.specs.ListSteps.{AreBare};
-ghost use Rattle.meson_places.specs.Changes.{AreMeant, added_by_kind, added_entry, added_keyword, added_there, added_to, behind_all, keyword_behind};
-ghost use Rattle.meson_places.specs.Faults.{FaultAs};
+ghost use Rattle.meson_steps.specs.Meanings.{AreMeant};
+ghost use Rattle.meson_places.specs.Changes.{added_by_kind, added_entry, added_keyword, added_there, added_to, behind_all, keyword_behind};
+ghost use Rattle.meson_calls.specs.Refusals.{RefusedAs};
 ghost use Rattle.meson_places.specs.Names.{loaded_in};
-ghost use Rattle.meson_places.specs.Values.{MayBeGiven, written_given};
 
 use crate::changes::push_edit;
 use crate::colon::colon_among;
 use crate::elements::{ListKind, list_kind};
-use crate::fault::ArgFault;
 use crate::name::Sources;
 use crate::slots::elements_in;
-use crate::values::{Given, given_bytes};
 use meson_calls::{CallRef, Refusal};
 use meson_lex::is_identifier;
 use meson_splice::{Bytes, Text};
@@ -72,21 +70,20 @@ struct Receiver<'t> {
 fn keyword_behind(
     alloc: Global,
     receiver: Receiver<'_>,
-    given: &Given,
+    value: &Bytes,
     key: &Text,
-) -> Result<Vec<ListStep>, ArgFault>
-    ensures meant { (may : MayBeGiven given.now) → let w = written_given given.now may in let r = receiver.entry in
+) -> Result<Vec<ListStep>, Refusal>
+    ensures meant { (w : Written (Expression Nowhere)) → w.bytes ≡ value.now → let r = receiver.entry in
         IfOk result (λ steps. AreMeant (keyword_behind r.source.now w key.now r.list.now (args_view r.source.now r.elements.now)) steps.items) }
-    ensures fault { (w : Written (Expression Nowhere)) → let r = receiver.entry in
-        FaultAs result (keyword_behind r.source.now w key.now r.list.now (args_view r.source.now r.elements.now)) }
+    ensures refused { (w : Written (Expression Nowhere)) → let r = receiver.entry in
+        RefusedAs result (keyword_behind r.source.now w key.now r.list.now (args_view r.source.now r.elements.now)) }
 {
-    let value = given_bytes(alloc, given)?;
     let mut front = Vec::new(alloc);
     front.extend_from_slice(key.get().as_bytes())?;
     let new = keyed(
         front,
         colon_among(receiver.source, receiver.elements),
-        &value,
+        value,
     )?;
     Ok(behind_all(alloc, receiver.list, receiver.elements.len(), new)?)
 }
@@ -98,18 +95,18 @@ fn keyword_behind(
 fn keyword_steps(
     alloc: Global,
     receiver: Receiver<'_>,
-    given: &Given,
+    value: &Bytes,
     key: &Text,
-) -> Result<Vec<ListStep>, ArgFault>
-    ensures meant { (may : MayBeGiven given.now) → let w = written_given given.now may in let r = receiver.entry in
+) -> Result<Vec<ListStep>, Refusal>
+    ensures meant { (w : Written (Expression Nowhere)) → w.bytes ≡ value.now → let r = receiver.entry in
         IfOk result (λ steps. AreMeant (added_keyword r.source.now w key.now r.list.now (args_view r.source.now r.elements.now)) steps.items) }
-    ensures fault { (w : Written (Expression Nowhere)) → let r = receiver.entry in
-        FaultAs result (added_keyword r.source.now w key.now r.list.now (args_view r.source.now r.elements.now)) }
+    ensures refused { (w : Written (Expression Nowhere)) → let r = receiver.entry in
+        RefusedAs result (added_keyword r.source.now w key.now r.list.now (args_view r.source.now r.elements.now)) }
 {
     if !is_identifier(key.get()) {
-        return Err(ArgFault::Refused(Refusal::BadName));
+        return Err(Refusal::BadName);
     }
-    keyword_behind(alloc, receiver, given, key)
+    keyword_behind(alloc, receiver, value, key)
 }
 
 /// The steps that add an entry.
@@ -119,21 +116,20 @@ fn keyword_steps(
 fn entry_steps(
     alloc: Global,
     receiver: Receiver<'_>,
-    given: &Given,
+    value: &Bytes,
     key: &Text,
-) -> Result<Vec<ListStep>, ArgFault>
-    ensures meant { (may : MayBeGiven given.now) → let w = written_given given.now may in let r = receiver.entry in
+) -> Result<Vec<ListStep>, Refusal>
+    ensures meant { (w : Written (Expression Nowhere)) → w.bytes ≡ value.now → let r = receiver.entry in
         IfOk result (λ steps. AreMeant (added_entry r.source.now w key.now r.list.now (args_view r.source.now r.elements.now)) steps.items) }
-    ensures fault { (w : Written (Expression Nowhere)) → let r = receiver.entry in
-        FaultAs result (added_entry r.source.now w key.now r.list.now (args_view r.source.now r.elements.now)) }
+    ensures refused { (w : Written (Expression Nowhere)) → let r = receiver.entry in
+        RefusedAs result (added_entry r.source.now w key.now r.list.now (args_view r.source.now r.elements.now)) }
 {
-    let value = given_bytes(alloc, given)?;
     let mut front = Vec::new(alloc);
     push_literal(alloc, &mut front, key.get())?;
     let new = keyed(
         front,
         colon_among(receiver.source, receiver.elements),
-        &value,
+        value,
     )?;
     Ok(behind_all(alloc, receiver.list, receiver.elements.len(), new)?)
 }
@@ -146,18 +142,18 @@ fn added_by_kind(
     alloc: Global,
     receiver: Receiver<'_>,
     kind: ListKind,
-    given: &Given,
+    value: &Bytes,
     key: &Text,
-) -> Result<Vec<ListStep>, ArgFault>
-    ensures meant { (may : MayBeGiven given.now) → let w = written_given given.now may in let r = receiver.entry in
+) -> Result<Vec<ListStep>, Refusal>
+    ensures meant { (w : Written (Expression Nowhere)) → w.bytes ≡ value.now → let r = receiver.entry in
         IfOk result (λ steps. AreMeant (added_by_kind r.source.now w key.now r.list.now kind (args_view r.source.now r.elements.now)) steps.items) }
-    ensures fault { (w : Written (Expression Nowhere)) → let r = receiver.entry in
-        FaultAs result (added_by_kind r.source.now w key.now r.list.now kind (args_view r.source.now r.elements.now)) }
+    ensures refused { (w : Written (Expression Nowhere)) → let r = receiver.entry in
+        RefusedAs result (added_by_kind r.source.now w key.now r.list.now kind (args_view r.source.now r.elements.now)) }
 {
     match kind {
-        ListKind::Call => keyword_steps(alloc, receiver, given, key),
-        ListKind::Dictionary => entry_steps(alloc, receiver, given, key),
-        ListKind::Array => Err(ArgFault::Refused(Refusal::NotLiteral(key.clone()?))),
+        ListKind::Call => keyword_steps(alloc, receiver, value, key),
+        ListKind::Dictionary => entry_steps(alloc, receiver, value, key),
+        ListKind::Array => Err(Refusal::NotLiteral(key.clone()?)),
     }
 }
 
@@ -169,17 +165,17 @@ fn added_there(
     alloc: Global,
     receiver: Receiver<'_>,
     kind: Option<ListKind>,
-    given: &Given,
+    value: &Bytes,
     key: &Text,
-) -> Result<Vec<ListStep>, ArgFault>
-    ensures meant { (may : MayBeGiven given.now) → let w = written_given given.now may in let r = receiver.entry in
+) -> Result<Vec<ListStep>, Refusal>
+    ensures meant { (w : Written (Expression Nowhere)) → w.bytes ≡ value.now → let r = receiver.entry in
         IfOk result (λ steps. AreMeant (added_there r.source.now w key.now r.list.now kind (args_view r.source.now r.elements.now)) steps.items) }
-    ensures fault { (w : Written (Expression Nowhere)) → let r = receiver.entry in
-        FaultAs result (added_there r.source.now w key.now r.list.now kind (args_view r.source.now r.elements.now)) }
+    ensures refused { (w : Written (Expression Nowhere)) → let r = receiver.entry in
+        RefusedAs result (added_there r.source.now w key.now r.list.now kind (args_view r.source.now r.elements.now)) }
 {
     match kind {
-        Some(kind) => added_by_kind(alloc, receiver, kind, given, key),
-        None => Err(ArgFault::Refused(Refusal::NotLiteral(key.clone()?))),
+        Some(kind) => added_by_kind(alloc, receiver, kind, value, key),
+        None => Err(Refusal::NotLiteral(key.clone()?)),
     }
 }
 
@@ -190,29 +186,29 @@ fn added_there(
 pub(crate) fn added_to(
     alloc: Global,
     sources: Sources<'_>,
-    given: &Given,
+    value: &Bytes,
     key: &Text,
     list: &CallRef,
-) -> Result<Vec<ListStep>, ArgFault>
+) -> Result<Vec<ListStep>, Refusal>
     requires { AreParsed sources.files.now sources.trees.now }
-    ensures meant { (may : MayBeGiven given.now) → let w = written_given given.now may in let l = loaded_in sources.entry in
+    ensures meant { (w : Written (Expression Nowhere)) → w.bytes ≡ value.now → let l = loaded_in sources.entry in
         IfOk result (λ steps. AreMeant (added_to (bytes_at list.now.file l.files) w key.now list.now (expression_at (project l) list.now)) steps.items) }
-    ensures fault { (w : Written (Expression Nowhere)) → let l = loaded_in sources.entry in
-        FaultAs result (added_to (bytes_at list.now.file l.files) w key.now list.now (expression_at (project l) list.now)) }
+    ensures refused { (w : Written (Expression Nowhere)) → let l = loaded_in sources.entry in
+        RefusedAs result (added_to (bytes_at list.now.file l.files) w key.now list.now (expression_at (project l) list.now)) }
 {
     if list.file >= sources.trees.len() {
-        return Err(ArgFault::NoSuchValue(key.clone()?));
+        return Err(Refusal::NoSuchValue(key.clone()?));
     }
     match sources.trees[list.file].expr_at(&list.path) {
-        Some(value) => {
+        Some(held) => {
             let source = sources.files.bytes(list.file);
             let receiver = Receiver {
                 list,
                 source,
-                elements: elements_in(value),
+                elements: elements_in(held),
             };
-            added_there(alloc, receiver, list_kind(value), given, key)
+            added_there(alloc, receiver, list_kind(held), value, key)
         }
-        None => Err(ArgFault::NoSuchValue(key.clone()?)),
+        None => Err(Refusal::NoSuchValue(key.clone()?)),
     }
 }

@@ -1,6 +1,6 @@
 //! The steps that set or delete the value of a slot.
 
-ghost use Rattle.std.specs.Prelude.{◌≡◌, ◌<◌, ◌++◌, ◌∷◌, [], IfOk, MatchOption, OnOk, Some, is_some, length, map, option_map};
+ghost use Rattle.std.specs.Prelude.{◌≡◌, ◌+◌, ◌<◌, ◌^◌, ◌++◌, ◌∷◌, [], IfOk, MatchOption, OnOk, Some, is_some, length, map, option_map};
 ghost use Rattle.std.specs.List.{list_all};
 ghost use Rattle.meson_edit.specs.Edits.{Written};
 ghost use Rattle.meson_splice.specs.Files.{bytes_at};
@@ -13,14 +13,14 @@ ghost use Rattle.meson_calls.specs.GoodLists.{GoodArgs};
 ghost use Rattle.meson_calls.specs.Loading.{AreParsed, project};
 ghost use Rattle.meson_calls.specs.Strings.{AreGood};
 ghost use Rattle.meson_steps.specs.ListSteps.{AreBare, bare};
-ghost use Rattle.meson_places.specs.Changes.{AreMeant, alone_in_array, delete_steps, element_child, replaces_texts, rest_removed, set_steps, set_there};
-ghost use Rattle.meson_places.specs.Faults.{FaultAs};
+ghost use Rattle.meson_steps.specs.Meanings.{AreMeant};
+ghost use Rattle.meson_places.specs.Changes.{alone_in_array, delete_steps, element_child, replaces_texts, rest_removed, set_steps, set_there};
+ghost use Rattle.meson_calls.specs.Refusals.{RefusedAs};
 ghost use Rattle.meson_places.specs.Names.{loaded_in};
 ghost use Rattle.meson_places.specs.Values.{MayBeGiven, are_texts, is_array, is_text, keeps_kind, written_given};
 ghost use Rattle.meson_places.specs.inside.Wanted.{child_view};
 
 use crate::additions::added_to;
-use crate::fault::ArgFault;
 use crate::name::Sources;
 use crate::slots::{ChildValue, Slot, elements_in, nth_child};
 use crate::values::{Given, given_bytes};
@@ -49,9 +49,9 @@ pub(crate) fn push_edit(
 ///
 /// # Errors
 /// The slot is an assigned value or a list itself, or out of memory.
-pub fn delete_steps(alloc: Global, slot: &Slot) -> Result<Vec<ListStep>, ArgFault>
+pub fn delete_steps(alloc: Global, slot: &Slot) -> Result<Vec<ListStep>, Refusal>
     ensures meant { IfOk result (λ steps. AreMeant (delete_steps slot.now) steps.items) }
-    ensures fault { FaultAs result (delete_steps slot.now) }
+    ensures refused { RefusedAs result (delete_steps slot.now) }
 {
     let mut steps = Vec::new(alloc);
     match slot {
@@ -60,12 +60,12 @@ pub fn delete_steps(alloc: Global, slot: &Slot) -> Result<Vec<ListStep>, ArgFaul
             Ok(steps)
         }
         Slot::Absent { .. } => Ok(steps),
-        Slot::Whole(_) => Err(ArgFault::Refused(Refusal::NotRemovable)),
+        Slot::Whole(_) => Err(Refusal::NotRemovable),
     }
 }
 
 /// Whether an expression is a literal.
-fn is_literal(alloc: Global, source: &[u8], value: &Expr) -> Result<bool, AllocError>
+pub(crate) fn is_literal(alloc: Global, source: &[u8], value: &Expr) -> Result<bool, AllocError>
     requires { AreGood (expression_words (expr_view source.now value.now)) }
     ensures { IfOk result (λ b. b ≡ is_some (literal_of (expr_view source.now value.now))) }
 {
@@ -98,14 +98,14 @@ fn all_texts(alloc: Global, source: &[u8], elements: &[Arg]) -> Result<bool, All
 }
 
 /// Whether an expression is an array.
-fn is_array(value: &Expr) -> bool
+pub(crate) fn is_array(value: &Expr) -> bool
     ensures { (source : Source) → result ≡ is_array (expr_view source value.now) }
 {
     matches!(value, Expr::Array(_))
 }
 
 /// Whether an expression is an array of texts.
-fn are_texts(alloc: Global, source: &[u8], value: &Expr) -> Result<bool, AllocError>
+pub(crate) fn are_texts(alloc: Global, source: &[u8], value: &Expr) -> Result<bool, AllocError>
     requires { AreGood (expression_words (expr_view source.now value.now)) }
     ensures { IfOk result (λ b. b ≡ are_texts (expr_view source.now value.now)) }
 {
@@ -144,19 +144,21 @@ fn replaces_texts(
     }
 }
 
-/// Adds the steps that remove the elements after the first one, the last one first.
-fn remove_rest(
+/// Adds the steps that remove so many elements from a number on, the last one first.
+pub(crate) fn remove_rest(
     alloc: Global,
     list: &CallRef,
+    from: usize,
     many: usize,
     steps: &mut Vec<ListStep>,
 ) -> Result<(), AllocError>
-    ensures { OnOk result (map Some steps.new.items ≡ map Some steps.old.items ++ map bare (rest_removed list.now many)) }
+    requires { from + many < 2 ^ 64 }
+    ensures { OnOk result (map Some steps.new.items ≡ map Some steps.old.items ++ map bare (rest_removed list.now from many)) }
 {
     let mut left = many;
     while left > 0 {
-        push_edit(alloc, list, ListEdit::Remove(left), steps)?;
         left -= 1;
+        push_edit(alloc, list, ListEdit::Remove(from + left), steps)?;
     }
     Ok(())
 }
@@ -176,7 +178,7 @@ fn alone_in_array(
         return Ok(steps);
     }
     push_edit(alloc, list, ListEdit::Replace(0, new), &mut steps)?;
-    remove_rest(alloc, list, many - 1, &mut steps)?;
+    remove_rest(alloc, list, 1, many - 1, &mut steps)?;
     Ok(steps)
 }
 
@@ -212,12 +214,12 @@ fn replace_steps(
     key: &Text,
     element: (&CallRef, usize),
     child: ChildValue<'_>,
-) -> Result<Vec<ListStep>, ArgFault>
+) -> Result<Vec<ListStep>, Refusal>
     requires { AreGood (expression_words (expr_view source.now child.value.now)) }
     ensures meant { (may : MayBeGiven given.now) → let w = written_given given.now may in let there = Some (child_view source.now child.entry) in
         IfOk result (λ steps. AreMeant (set_there given.now w key.now element.entry.0.now element.entry.1 there) steps.items) }
-    ensures fault { (w : Written (Expression Nowhere)) → let there = Some (child_view source.now child.entry) in
-        FaultAs result (set_there given.now w key.now element.entry.0.now element.entry.1 there) }
+    ensures refused { (w : Written (Expression Nowhere)) → let there = Some (child_view source.now child.entry) in
+        RefusedAs result (set_there given.now w key.now element.entry.0.now element.entry.1 there) }
 {
     let (list, number) = element;
     if keeps_kind(alloc, source, given, child.value)? {
@@ -232,7 +234,7 @@ fn replace_steps(
         let new = given_bytes(alloc, given)?;
         return Ok(alone_in_array(alloc, &inner, many, new)?);
     }
-    Err(ArgFault::OtherKind(key.clone()?))
+    Err(Refusal::OtherKind(key.clone()?))
 }
 
 /// The steps that set the value of a slot. A text or a truth value replaces one of its own kind; a text becomes the only element of an array of texts; code
@@ -246,11 +248,11 @@ pub fn set_steps(
     given: &Given,
     key: &Text,
     slot: &Slot,
-) -> Result<Vec<ListStep>, ArgFault>
+) -> Result<Vec<ListStep>, Refusal>
     requires { AreParsed sources.files.now sources.trees.now }
     ensures meant { (may : MayBeGiven given.now) → let w = written_given given.now may in
         IfOk result (λ steps. AreMeant (set_steps (loaded_in sources.entry) given.now w key.now slot.now) steps.items) }
-    ensures fault { (w : Written (Expression Nowhere)) → FaultAs result (set_steps (loaded_in sources.entry) given.now w key.now slot.now) }
+    ensures refused { (w : Written (Expression Nowhere)) → RefusedAs result (set_steps (loaded_in sources.entry) given.now w key.now slot.now) }
 {
     match slot {
         Slot::Element { list, number } => match element_child(sources, list, *number) {
@@ -258,9 +260,12 @@ pub fn set_steps(
                 let source = sources.files.bytes(list.file);
                 replace_steps(alloc, source, given, key, (list, *number), child)
             }
-            None => Err(ArgFault::NoSuchValue(key.clone()?)),
+            None => Err(Refusal::NoSuchValue(key.clone()?)),
         },
-        Slot::Absent { list, key } => added_to(alloc, sources, given, key, list),
-        Slot::Whole(_) => Err(ArgFault::Refused(Refusal::NotLiteral(key.clone()?))),
+        Slot::Absent { list, key } => {
+            let value = given_bytes(alloc, given)?;
+            added_to(alloc, sources, &value, key, list)
+        }
+        Slot::Whole(_) => Err(Refusal::NotLiteral(key.clone()?)),
     }
 }

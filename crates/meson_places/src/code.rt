@@ -125,7 +125,7 @@ fn bracketed(alloc: Global, text: &str) -> Result<String, AllocError>
 }
 
 /// That a text is not a list, by why it was refused.
-fn not_list(fault: ParseFault) -> Result<bool, AllocError>
+pub(crate) fn not_list(fault: ParseFault) -> Result<bool, AllocError>
     ensures { IfOk result (λ b. (b ≡ false) × (fault ≢ OutOfMemory)) }
 {
     match fault {

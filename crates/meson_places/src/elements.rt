@@ -7,11 +7,10 @@ ghost use Rattle.meson_calls.specs.GoodLists.{GoodArgs};
 ghost use Rattle.meson_calls.specs.Calls.{is, literal_of};
 ghost use Rattle.meson_calls.specs.ChosenNotes.{Source};
 ghost use Rattle.meson_calls.specs.Strings.{AreGood};
-ghost use Rattle.meson_places.specs.Faults.{FaultAs};
+ghost use Rattle.meson_calls.specs.Refusals.{RefusedAs};
 ghost use Rattle.meson_places.specs.Slots.{at_most_one, entry_number, keyword_number, list_kind, may_hide, number_by, number_in_array, number_in_call, passing};
 ghost use Rattle.meson_places.specs.inside.Wanted.{is_wanted};
 
-use crate::fault::ArgFault;
 use crate::keys::number_of;
 use meson_calls::Refusal;
 use meson_calls::literals::literal;
@@ -114,14 +113,14 @@ fn numbers(
 ///
 /// # Errors
 /// There is more than one, of elements with this key; or out of memory.
-fn at_most_one(key: &Text, numbers: &[usize]) -> Result<Option<usize>, ArgFault>
+fn at_most_one(key: &Text, numbers: &[usize]) -> Result<Option<usize>, Refusal>
     ensures found { IfOk result (λ n. at_most_one key.now numbers.now ≡ Ok n) }
-    ensures fault { FaultAs result (at_most_one key.now numbers.now) }
+    ensures refused { RefusedAs result (at_most_one key.now numbers.now) }
 {
     match numbers {
         [] => Ok(None),
         [number] => Ok(Some(*number)),
-        _ => Err(ArgFault::Refused(Refusal::DuplicateKeyword(key.clone()?))),
+        _ => Err(Refusal::DuplicateKeyword(key.clone()?)),
     }
 }
 
@@ -147,13 +146,13 @@ fn keyword_number(
     source: &[u8],
     key: &Text,
     args: &[Arg],
-) -> Result<Option<usize>, ArgFault>
+) -> Result<Option<usize>, Refusal>
     requires { GoodArgs source.now args.now }
     ensures found { IfOk result (λ n. keyword_number key.now (args_view source.now args.now) ≡ Ok n) }
-    ensures fault { FaultAs result (keyword_number key.now (args_view source.now args.now)) }
+    ensures refused { RefusedAs result (keyword_number key.now (args_view source.now args.now)) }
 {
     if may_hide(alloc, source, key, args)? {
-        return Err(ArgFault::Refused(Refusal::HiddenKeywords));
+        return Err(Refusal::HiddenKeywords);
     }
     let name = key.get().as_bytes();
     let found = numbers(alloc, source, Wanted::Name(name), args)?;
@@ -170,10 +169,10 @@ fn number_in_call(
     key: &Text,
     number: Option<usize>,
     args: &[Arg],
-) -> Result<Option<usize>, ArgFault>
+) -> Result<Option<usize>, Refusal>
     requires { GoodArgs source.now args.now }
     ensures found { IfOk result (λ n. number_in_call key.now number (args_view source.now args.now) ≡ Ok n) }
-    ensures fault { FaultAs result (number_in_call key.now number (args_view source.now args.now)) }
+    ensures refused { RefusedAs result (number_in_call key.now number (args_view source.now args.now)) }
 {
     let Some(number) = number else {
         return keyword_number(alloc, source, key, args);
@@ -182,7 +181,7 @@ fn number_in_call(
     if number < unnamed.len() {
         Ok(Some(unnamed[number]))
     } else {
-        Err(ArgFault::NoSuchValue(key.clone()?))
+        Err(Refusal::NoSuchValue(key.clone()?))
     }
 }
 
@@ -190,17 +189,13 @@ fn number_in_call(
 ///
 /// # Errors
 /// There is no element of that number, or out of memory.
-fn number_in_array(
-    key: &Text,
-    number: Option<usize>,
-    many: usize,
-) -> Result<Option<usize>, ArgFault>
+fn number_in_array(key: &Text, number: Option<usize>, many: usize) -> Result<Option<usize>, Refusal>
     ensures found { IfOk result (λ n. number_in_array key.now number many ≡ Ok n) }
-    ensures fault { FaultAs result (number_in_array key.now number many) }
+    ensures refused { RefusedAs result (number_in_array key.now number many) }
 {
     match number {
         Some(number) if number < many => Ok(Some(number)),
-        _ => Err(ArgFault::NoSuchValue(key.clone()?)),
+        _ => Err(Refusal::NoSuchValue(key.clone()?)),
     }
 }
 
@@ -213,10 +208,10 @@ fn entry_number(
     source: &[u8],
     key: &Text,
     entries: &[Arg],
-) -> Result<Option<usize>, ArgFault>
+) -> Result<Option<usize>, Refusal>
     requires { GoodArgs source.now entries.now }
     ensures found { IfOk result (λ n. entry_number key.now (args_view source.now entries.now) ≡ Ok n) }
-    ensures fault { FaultAs result (entry_number key.now (args_view source.now entries.now)) }
+    ensures refused { RefusedAs result (entry_number key.now (args_view source.now entries.now)) }
 {
     let found = numbers(alloc, source, Wanted::Entry(key.get()), entries)?;
     at_most_one(key, found.as_slice())
@@ -232,16 +227,16 @@ pub(crate) fn number_by(
     kind: Option<ListKind>,
     key: &Text,
     elements: &[Arg],
-) -> Result<Option<usize>, ArgFault>
+) -> Result<Option<usize>, Refusal>
     requires { GoodArgs source.now elements.now }
     ensures found { IfOk result (λ n. number_by kind key.now (args_view source.now elements.now) ≡ Ok n) }
-    ensures fault { FaultAs result (number_by kind key.now (args_view source.now elements.now)) }
+    ensures refused { RefusedAs result (number_by kind key.now (args_view source.now elements.now)) }
 {
     let number = number_of(key.get());
     match kind {
         Some(ListKind::Call) => number_in_call(alloc, source, key, number, elements),
         Some(ListKind::Array) => number_in_array(key, number, elements.len()),
         Some(ListKind::Dictionary) => entry_number(alloc, source, key, elements),
-        None => Err(ArgFault::Refused(Refusal::NotLiteral(key.clone()?))),
+        None => Err(Refusal::NotLiteral(key.clone()?)),
     }
 }

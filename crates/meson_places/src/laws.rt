@@ -1,6 +1,6 @@
 //! Laws of places. The functions do nothing: what they ensure is the law.
 
-ghost use Rattle.meson_places.specs.Laws.{DeletesOneElement, FindsOneCall, KeepsKind, SetsOneValue, SlotsAreThere};
+ghost use Rattle.meson_places.specs.Laws.{ArgumentStepsAreDoable, DeletesOneElement, FindsOneCall, KeepsKind, SetsOneValue, SlotsAreThere};
 
 /// What a search for a call finds is a call of the function, which has the name or is assigned to the variable. It is in the files that are searched, and no
 /// other call of the function there has the name.
@@ -26,4 +26,9 @@ pub fn keeps_kind()
 /// Deleting a slot removes that argument, entry or element, and leaves all else in the trees.
 pub fn deletes_one_element()
     ensures { DeletesOneElement }
+{}
+
+/// The steps that change a value may be done one after another.
+pub fn argument_steps_are_doable()
+    ensures { ArgumentStepsAreDoable }
 {}

@@ -2,6 +2,7 @@
 #![tactic(auto)]
 
 mod additions;
+pub mod arguments;
 pub mod changes;
 pub mod code;
 mod colon;
@@ -13,12 +14,15 @@ mod lines;
 pub mod lookup;
 pub mod name;
 mod naming;
+mod room;
+mod several;
 pub mod slots;
 pub mod spans;
 pub mod values;
 
+pub use arguments::{ValueChange, ValueName};
 pub use elements::ListKind;
-pub use fault::ArgFault;
+pub use fault::ValueFault;
 pub use name::{Callee, PlaceName, Search, Sources};
 pub use slots::Slot;
 pub use values::Given;

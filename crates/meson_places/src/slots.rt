@@ -8,13 +8,12 @@ ghost use Rattle.meson_calls.specs.ChosenNotes.{Source};
 ghost use Rattle.meson_calls.specs.Loading.{AreParsed, project};
 ghost use Rattle.meson_calls.specs.Parts.{argument_child_count};
 ghost use Rattle.meson_calls.specs.Strings.{AreGood};
-ghost use Rattle.meson_places.specs.Faults.{FaultAs};
+ghost use Rattle.meson_calls.specs.Refusals.{RefusedAs};
 ghost use Rattle.meson_places.specs.Names.{loaded_in};
 ghost use Rattle.meson_places.specs.Slots.{absent_slot, child_of, elements_in, nth_child, number_in, slot_in, the_slot};
 ghost use Rattle.meson_places.specs.inside.Wanted.{child_view};
 
 use crate::elements::{list_kind, number_by};
-use crate::fault::ArgFault;
 use crate::name::Sources;
 use meson_calls::place::{child_place, copy_place};
 use meson_calls::{CallRef, Refusal};
@@ -123,10 +122,10 @@ fn number_in(
     source: &[u8],
     key: &Text,
     value: &Expr,
-) -> Result<Option<usize>, ArgFault>
+) -> Result<Option<usize>, Refusal>
     requires { AreGood (expression_words (expr_view source.now value.now)) }
     ensures found { IfOk result (λ n. number_in key.now (expr_view source.now value.now) ≡ Ok n) }
-    ensures fault { FaultAs result (number_in key.now (expr_view source.now value.now)) }
+    ensures refused { RefusedAs result (number_in key.now (expr_view source.now value.now)) }
 {
     number_by(alloc, source, list_kind(value), key, elements_in(value))
 }
@@ -135,15 +134,15 @@ fn number_in(
 ///
 /// # Errors
 /// More keys come after it, or out of memory.
-fn absent_slot(list: CallRef, key: &Text, more: &[Text]) -> Result<Slot, ArgFault>
+fn absent_slot(list: CallRef, key: &Text, more: &[Text]) -> Result<Slot, Refusal>
     ensures found { IfOk result (λ slot. absent_slot list key.now more.now ≡ Ok slot) }
-    ensures fault { FaultAs result (absent_slot list key.now more.now) }
+    ensures refused { RefusedAs result (absent_slot list key.now more.now) }
 {
     let key = key.clone()?;
     if more.is_empty() {
         Ok(Slot::Absent { list, key })
     } else {
-        Err(ArgFault::NoSuchValue(key))
+        Err(Refusal::NoSuchValue(key))
     }
 }
 
@@ -156,12 +155,12 @@ fn slot_in(
     source: &[u8],
     reached: Reached<'_>,
     keys: &[Text],
-) -> Result<Slot, ArgFault>
+) -> Result<Slot, Refusal>
     requires { AreGood (expression_words (expr_view source.now reached.value.now)) }
     ensures found { let wanted = slot_in reached.entry.place (expr_view source.now reached.entry.value.now) reached.entry.slot keys.now in
         IfOk result (λ slot. wanted ≡ Ok slot) }
-    ensures fault { let wanted = slot_in reached.entry.place (expr_view source.now reached.entry.value.now) reached.entry.slot keys.now in
-        FaultAs result wanted }
+    ensures refused { let wanted = slot_in reached.entry.place (expr_view source.now reached.entry.value.now) reached.entry.slot keys.now in
+        RefusedAs result wanted }
 {
     let Reached { place, value, slot } = reached;
     match keys {
@@ -180,7 +179,7 @@ fn slot_in(
                     };
                     slot_in(alloc, source, further, rest)
                 }
-                None => Err(ArgFault::NoSuchValue(key.clone()?)),
+                None => Err(Refusal::NoSuchValue(key.clone()?)),
             },
             None => absent_slot(place, key, rest),
         },
@@ -198,13 +197,13 @@ pub fn find_slot(
     sources: Sources<'_>,
     place: &CallRef,
     keys: &[Text],
-) -> Result<Slot, ArgFault>
+) -> Result<Slot, Refusal>
     requires { AreParsed sources.files.now sources.trees.now }
     ensures found { IfOk result (λ slot. the_slot (project (loaded_in sources.entry)) place.now keys.now ≡ Ok slot) }
-    ensures fault { FaultAs result (the_slot (project (loaded_in sources.entry)) place.now keys.now) }
+    ensures refused { RefusedAs result (the_slot (project (loaded_in sources.entry)) place.now keys.now) }
 {
     if place.file >= sources.trees.len() {
-        return Err(ArgFault::Refused(Refusal::NotFound));
+        return Err(Refusal::NotFound);
     }
     match sources.trees[place.file].expr_at(&place.path) {
         Some(value) => {
@@ -217,6 +216,6 @@ pub fn find_slot(
             };
             slot_in(alloc, source, reached, keys)
         }
-        None => Err(ArgFault::Refused(Refusal::NotFound)),
+        None => Err(Refusal::NotFound),
     }
 }

@@ -2,11 +2,11 @@
 
 ghost use Rattle.std.specs.Prelude.{◌≡◌, ◌≢◌, IfErr, IfOk};
 ghost use Rattle.meson_calls.specs.declared.refusal.Refusal.TheVariants.{OutOfMemory};
-ghost use Rattle.meson_places.specs.declared.fault.ArgFault.TheVariants.{NotCode, Refused};
+ghost use Rattle.meson_places.specs.declared.fault.ValueFault.TheVariants as value_fault;
 ghost use Rattle.meson_places.specs.Values.{MayBeGiven, given_bytes, meant_by};
 
 use crate::code::is_expression;
-use crate::fault::ArgFault;
+use crate::fault::ValueFault;
 use meson_calls::Refusal;
 use meson_splice::{Bytes, Text};
 use meson_steps::literals::written_text;
@@ -27,15 +27,15 @@ pub enum Given {
 ///
 /// # Errors
 /// The code is not one expression, or out of memory.
-pub fn given_of(alloc: Global, word: &Text) -> Result<Given, ArgFault>
+pub fn given_of(alloc: Global, word: &Text) -> Result<Given, ValueFault>
     ensures given { IfOk result (λ g. g ≡ meant_by word.now) }
     ensures may { IfOk result MayBeGiven }
-    ensures fault { IfErr result (λ e. e ≢ Refused OutOfMemory → (e ≡ NotCode) × (MayBeGiven (meant_by word.now) → ⊥)) }
+    ensures refused { IfErr result (λ e. e ≢ value_fault.OutOfMemory → (e ≡ value_fault.NotCode) × (MayBeGiven (meant_by word.now) → ⊥)) }
 {
     let text = word.get();
     if let Some(code) = text.strip_prefix(":") {
         if !is_expression(alloc, code)? {
-            return Err(ArgFault::NotCode);
+            return Err(ValueFault::NotCode);
         }
         let code = String::from_str(alloc, code)?;
         return Ok(Given::Code(Text::of(code)));

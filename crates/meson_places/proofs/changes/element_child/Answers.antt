@@ -4,7 +4,7 @@ use Rattle.meson_splice.specs.Files.{bytes_at}
 use Rattle.meson_syntax.specs.View.{expr_view}
 use Rattle.meson_calls.proofs.Loads.{as_many}
 use Rattle.meson_places.specs.Slots.{elements_in, nth_child}
-use Rattle.meson_places.proofs.Faulted.{always}
+use Rattle.meson_places.proofs.Refused.{always}
 use Rattle.meson_places.proofs.Standing.{past_all, stands, value_good}
 use Rattle.meson_places.proofs.changes.element_child.Goals as goal
 

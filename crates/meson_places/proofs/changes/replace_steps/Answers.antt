@@ -6,7 +6,7 @@ use Rattle.meson_edit.specs.Edits.{Replace}
 use Rattle.meson_calls.specs.Project.{child}
 use Rattle.meson_steps.specs.ListSteps.{AreBare}
 use Rattle.meson_steps.specs.Steps.{step_in}
-use Rattle.meson_places.specs.declared.fault.ArgFault.TheVariants.{OtherKind}
+use Rattle.meson_calls.specs.declared.refusal.Refusal.TheVariants.{OtherKind}
 use Rattle.meson_places.specs.Changes.{alone_in_array, replaces_texts}
 use Rattle.meson_places.specs.Slots.{elements_in}
 use Rattle.meson_places.specs.Values.{keeps_kind, written_given}

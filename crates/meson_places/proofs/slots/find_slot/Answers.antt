@@ -8,12 +8,12 @@ use Rattle.meson_calls.proofs.Loads.{as_many}
 use Rattle.meson_places.specs.declared.slots.Slot.TheVariants as slot
 use Rattle.meson_places.specs.Names.{loaded_in}
 use Rattle.meson_places.specs.Slots.{slot_in, the_slot}
-use Rattle.meson_places.proofs.Faulted.{fault_as, found_as}
+use Rattle.meson_places.proofs.Refused.{refused_as, found_as}
 use Rattle.meson_places.proofs.Standing.{no_slot, past_files, slot_there, value_good}
 use Rattle.meson_places.proofs.slots.find_slot.Goals as goal
 
-pub returns-then-place-sources-clause-fault : goal.returns-then-place-sources-clause-fault
-returns-then-place-sources-clause-fault c = λ other.
+pub returns-then-place-sources-clause-refused : goal.returns-then-place-sources-clause-refused
+returns-then-place-sources-clause-refused c = λ other.
     past_files c.args.sources.files.now c.args.sources.trees.now c.args.place.now c.args.keys.now c.if-place-sources.true
 
 pub bytes-source-requires : goal.bytes-source-requires
@@ -49,8 +49,8 @@ returns-in_ok-copy_place-in-Some-clause-found c =
     ∙ ap (λ q. slot_in q e (slot.Whole whole) keys) (sym c.in_ok-copy_place-in-Some.ensures))
     c.slot_in.ensures.found
 
-pub returns-in_ok-copy_place-in-Some-clause-fault : goal.returns-in_ok-copy_place-in-Some-clause-fault
-returns-in_ok-copy_place-in-Some-clause-fault c =
+pub returns-in_ok-copy_place-in-Some-clause-refused : goal.returns-in_ok-copy_place-in-Some-clause-refused
+returns-in_ok-copy_place-in-Some-clause-refused c =
     let files = c.args.sources.files.now in
     let trees = c.args.sources.trees.now in
     let at_ = c.args.place.now in
@@ -60,15 +60,15 @@ returns-in_ok-copy_place-in-Some-clause-fault c =
     let is = c.in-Some.ensures bytes in
     let e = expr_view c.bytes-source.result.now value in
     let whole = c.in_ok-whole-in-Some.whole in
-    fault_as c.slot_in.result (the_slot (project (loaded_in c.args.sources)) at_ keys) (slot_in c.in_ok-copy_place-in-Some.field-0 e (slot.Whole whole) keys)
+    refused_as c.slot_in.result (the_slot (project (loaded_in c.args.sources)) at_ keys) (slot_in c.in_ok-copy_place-in-Some.field-0 e (slot.Whole whole) keys)
     (slot_there files trees at_ c.index-sources-place.result (as_many files trees c.requires) c.if-place-sources.false keys (expr_view bytes value) is
     ∙ ap (λ s. slot_in at_ (expr_view s value) (slot.Whole at_) keys) (sym c.bytes-source.ensures)
     ∙ ap (λ q. slot_in at_ e (slot.Whole q) keys) (sym c.in_ok-whole-in-Some.ensures)
     ∙ ap (λ q. slot_in q e (slot.Whole whole) keys) (sym c.in_ok-copy_place-in-Some.ensures))
-    c.slot_in.ensures.fault
+    c.slot_in.ensures.refused
 
-pub returns-in-None-clause-fault : goal.returns-in-None-clause-fault
-returns-in-None-clause-fault c = λ other.
+pub returns-in-None-clause-refused : goal.returns-in-None-clause-refused
+returns-in-None-clause-refused c = λ other.
     let files = c.args.sources.files.now in
     let trees = c.args.sources.trees.now in
     let at_ = c.args.place.now in

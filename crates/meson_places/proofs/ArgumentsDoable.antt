@@ -1,0 +1,72 @@
+-- The steps of a change of one value may be done one after another.
+use Rattle.std.proofs.Common.{◌≡◌, ℕ, List, [], ◌∷◌, Option, Some, None, Result, Ok, Err, refl, subst}
+use Rattle.std.specs.Prelude.{All}
+use Rattle.std.specs.Str.{IsUtf8}
+use Rattle.std.proofs.lemmas.List.Elements.{All-head, All-tail}
+use Rattle.meson_lex.specs.declared.kinds.Span.{Span}
+use Rattle.meson_splice.specs.Patch.{then_ok}
+use Rattle.meson_syntax.specs.Tree.{Expression}
+use Rattle.meson_calls.specs.declared.call.CallRef.{CallRef}
+use Rattle.meson_calls.specs.declared.refusal.Refusal.{Refusal}
+use Rattle.meson_calls.specs.Loading.{IsProject, Loaded, project}
+use Rattle.meson_calls.specs.Project.{child, expression_at}
+use Rattle.meson_steps.specs.ListSteps.{AreDoable}
+use Rattle.meson_steps.specs.ResultLimits.{plain_trees}
+use Rattle.meson_steps.specs.Steps.{Step}
+use Rattle.meson_places.specs.declared.arguments.ValueChange.{ValueChange}
+use Rattle.meson_places.specs.declared.arguments.ValueChange.TheVariants as change
+use Rattle.meson_places.specs.declared.slots.Slot.{Slot}
+use Rattle.meson_places.specs.declared.slots.Slot.TheVariants as slot
+use Rattle.meson_places.specs.Arguments.{MayBeMade, last_key, slot_steps}
+use Rattle.meson_places.specs.Laws.{ArgumentStepsAreDoable, SlotIsThere}
+use Rattle.meson_places.specs.Names.{the_place}
+use Rattle.meson_places.specs.Slots.{Child, absent_slot, at_number, elements_in, in_child, nth_child, number_in, slot_from, slot_in, the_slot}
+use Rattle.meson_places.proofs.SeveralDoable.{set_all_doable}
+use Rattle.meson_places.proofs.SlotsDoable.{KeyIsText, delete_doable, set_within_doable}
+use Rattle.meson_places.proofs.SlotsThere.{slots_are_there}
+
+-- ---- the key of a slot
+
+key_of : (p : CallRef) (e : Expression Span) (here : Slot) (keys : List (List ℕ)) → All IsUtf8 keys → KeyIsText here → (s : Slot) → slot_in p e here keys ≡ Ok s → KeyIsText s
+key_of p e here [] all text s h = let same : here ≡ s = cc in subst KeyIsText same text
+key_of p e here (key ∷ keys) all text s h = go (number_in key e) h (λ n c i. key_of (child p c.number) c.value (slot.Element p n) keys (All-tail IsUtf8 key keys all) tt s i)
+  where
+    absent : (ks : List (List ℕ)) → absent_slot p key ks ≡ Ok s → KeyIsText s
+    absent [] i = let same : slot.Absent p key ≡ s = cc in subst KeyIsText same (All-head IsUtf8 key keys all)
+    absent (k ∷ more) i = absurd (let no : ⊥ = cc in no)
+
+    below : (n : ℕ) (o : Option (Child Span)) → in_child key (λ c. slot_in (child p c.number) c.value (slot.Element p n) keys) o ≡ Ok s
+        → ((m : ℕ) (c : Child Span) → slot_in (child p c.number) c.value (slot.Element p m) keys ≡ Ok s → KeyIsText s) → KeyIsText s
+    below n None i rest = absurd (let no : ⊥ = cc in no)
+    below n (Some c) i rest = rest n c i
+
+    go : (r : Result (Option ℕ) Refusal) → at_number (absent_slot p key keys) (λ n. in_child key (λ c. slot_in (child p c.number) c.value (slot.Element p n) keys) (nth_child 0 (elements_in e) n)) r ≡ Ok s
+        → ((m : ℕ) (c : Child Span) → slot_in (child p c.number) c.value (slot.Element p m) keys ≡ Ok s → KeyIsText s) → KeyIsText s
+    go (Err f) i rest = absurd (let no : ⊥ = cc in no)
+    go (Ok None) i rest = absent keys i
+    go (Ok (Some n)) i rest = below n (nth_child 0 (elements_in e) n) i rest
+
+key_is_text : (old : Loaded) (c : CallRef) (keys : List (List ℕ)) → All IsUtf8 keys → (s : Slot) → the_slot (project old) c keys ≡ Ok s → KeyIsText s
+key_is_text old c keys all s h = go (expression_at (project old) c) h
+  where
+    go : (o : Option (Expression Span)) → slot_from c keys o ≡ Ok s → KeyIsText s
+    go None i = absurd (let no : ⊥ = cc in no)
+    go (Some e) i = key_of c e (slot.Whole c) keys all tt s i
+
+-- ---- the law
+
+ok_then : {X Y : Type 0} (r : Result X Refusal) (f : X → Result Y Refusal) (y : Y) → then_ok r f ≡ Ok y → (x : X) × (r ≡ Ok x) × (f x ≡ Ok y)
+ok_then (Ok x) f y h = (x, refl, h)
+ok_then (Err e) f y h = absurd (let no : ⊥ = cc in no)
+
+slot_doable : (old : Loaded) → IsProject old → (key : List ℕ) (c : ValueChange) (may : MayBeMade c) (s : Slot) → SlotIsThere (project old) s → KeyIsText s → (steps : List Step) → slot_steps old key c may s ≡ Ok steps
+    → AreDoable steps (plain_trees old)
+slot_doable old is key (change.Set g) may s there text steps made = set_within_doable old is g may key s text steps made
+slot_doable old is key (change.SetAll gs) may s there text steps made = set_all_doable old is gs may key s text steps made
+slot_doable old is key change.Delete may s there text steps made = delete_doable old is s there steps made
+
+pub argument_steps_are_doable : ArgumentStepsAreDoable
+argument_steps_are_doable old is n texts c may steps made =
+    let p = ok_then (the_place old n.place) (λ q. then_ok (the_slot (project old) q n.keys) (λ s. slot_steps old (last_key n.keys) c may s)) steps made in
+    let s = ok_then (the_slot (project old) p.0 n.keys) (λ s. slot_steps old (last_key n.keys) c may s) steps p.2 in
+    slot_doable old is (last_key n.keys) c may s.0 (slots_are_there (project old) p.0 n.keys s.0 s.1) (key_is_text old p.0 n.keys texts s.0 s.1) steps s.2

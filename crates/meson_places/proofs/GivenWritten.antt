@@ -1,0 +1,88 @@
+-- What is written for a value is one expression.
+use Rattle.std.proofs.Common.{◌≡◌, ◌≤◌, ℕ, true, false, List, [], ◌∷◌, codes, IsUtf8, refl, sym, ◌∙◌, subst, arith}
+use Rattle.std.specs.Prelude.{Bool}
+use Rattle.std.specs.Char.{encode_utf8}
+use Rattle.meson_lex.specs.Items.{Lexeme}
+use Rattle.meson_syntax.specs.Grammar.{LevelExpression, expression_depth, expression_words}
+use Rattle.meson_syntax.specs.Operators.{boolean_kind}
+use Rattle.meson_syntax.specs.Tree.{boolean, Expression, Nowhere}
+use Rattle.meson_edit.specs.Places.{IsWritten}
+use Rattle.meson_steps.proofs.StepsDoable.{text_written}
+use Rattle.meson_places.specs.declared.values.Given.{Given}
+use Rattle.meson_places.specs.declared.values.Given.TheVariants as given
+use Rattle.meson_places.specs.Code.{IsValue}
+use Rattle.meson_places.specs.Values.{MayBeGiven, given_bytes, given_node, switch_text}
+
+true_text : IsUtf8 (codes "true")
+unfolding encode_utf8
+true_text = (codes "true", (refl, refl))
+
+false_text : IsUtf8 (codes "false")
+unfolding encode_utf8
+false_text = (codes "false", (refl, refl))
+
+abbrev truth_item : Bool → Lexeme
+truth_item b = record { kind = boolean_kind b; text = switch_text b }
+
+abbrev truth_node : Bool → Expression Nowhere
+truth_node b = boolean tt b
+
+switch_written : (b : Bool) → IsWritten (switch_text b) (expression_words (truth_node b))
+switch_written true = record {
+  items = truth_item true ∷ [];
+  is_new = record {
+    are_items = record { joins = refl; each = ((refl, refl, refl), tt) };
+    tight = record { first = truth_item true; more = []; begins = refl; first_speaks = refl; front = []; last = truth_item true; ends = refl; last_speaks = refl };
+    no_remarks = refl;
+  };
+  is_words = refl;
+  utf8 = true_text;
+}
+switch_written false = record {
+  items = truth_item false ∷ [];
+  is_new = record {
+    are_items = record { joins = refl; each = ((refl, refl, refl), tt) };
+    tight = record { first = truth_item false; more = []; begins = refl; first_speaks = refl; front = []; last = truth_item false; ends = refl; last_speaks = refl };
+    no_remarks = refl;
+  };
+  is_words = refl;
+  utf8 = false_text;
+}
+
+pub given_written : (g : Given) (may : MayBeGiven g) → IsWritten (given_bytes g) (expression_words (given_node g may))
+given_written (given.Text text) may = text_written text may
+given_written (given.Switch b) may = switch_written b
+given_written (given.Code code) may = may.writes
+
+pub given_level : (g : Given) (may : MayBeGiven g) → LevelExpression (given_node g may)
+given_level (given.Text text) may = tt
+given_level (given.Switch b) may = tt
+given_level (given.Code code) may = may.level
+
+pub given_low : (g : Given) (may : MayBeGiven g) → expression_depth (given_node g may) ≤ 64
+given_low (given.Text text) may = omega arith
+given_low (given.Switch b) may = omega arith
+given_low (given.Code code) may = may.shallow
+
+pub given_low_value : (g : Given) (may : MayBeGiven g) → expression_depth (given_node g may) ≤ 65
+given_low_value g may = let low = given_low g may in omega (arith, low)
+
+abbrev pub given_value : (g : Given) (may : MayBeGiven g) → IsValue (given_bytes g)
+given_value g may = record { node = given_node g may; writes = given_written g may; level = given_level g may; shallow = given_low_value g may }
+
+-- ---- by kinds
+
+pub flat_text : (g : Given) (text : List ℕ) → g ≡ given.Text text → (may : MayBeGiven g) → expression_depth (given_node g may) ≡ 0
+flat_text (given.Text t) text is may = refl
+flat_text (given.Switch b) text is may = absurd (let no : ⊥ = cc in no)
+flat_text (given.Code code) text is may = absurd (let no : ⊥ = cc in no)
+
+pub flat_switch : (g : Given) (is_set : Bool) → g ≡ given.Switch is_set → (may : MayBeGiven g) → expression_depth (given_node g may) ≡ 0
+flat_switch (given.Text t) is_set is may = absurd (let no : ⊥ = cc in no)
+flat_switch (given.Switch b) is_set is may = refl
+flat_switch (given.Code code) is_set is may = absurd (let no : ⊥ = cc in no)
+
+pub code_value : (g : Given) (code text : List ℕ) → g ≡ given.Code code → text ≡ code → (may : MayBeGiven g) → (x : IsValue text) × (x.node ≡ given_node g may)
+code_value (given.Text t) code text is same may = absurd (let no : ⊥ = cc in no)
+code_value (given.Switch b) code text is same may = absurd (let no : ⊥ = cc in no)
+code_value (given.Code k) code text is same may = let alike : k ≡ text = let e : k ≡ code = cc in e ∙ sym same in subst (λ t. (x : IsValue t) × (x.node ≡ may.node)) alike (given_value (given.Code k) may, refl)

@@ -1,0 +1,52 @@
+-- The steps of a change of one value, which is named by a place and keys.
+use Rattle.std.specs.Prelude.{ℕ, List, [], ◌∷◌, codes, Result}
+use Rattle.meson_splice.specs.Patch.{then_ok}
+use Rattle.meson_syntax.specs.Tree.{Expression, Nowhere}
+use Rattle.meson_edit.specs.Edits.{Written}
+use Rattle.meson_calls.specs.declared.call.CallRef.{CallRef}
+use Rattle.meson_calls.specs.declared.refusal.Refusal.{Refusal}
+use Rattle.meson_calls.specs.Loading.{Loaded, project}
+use Rattle.meson_steps.specs.Steps.{Step}
+use Rattle.meson_places.specs.declared.arguments.ValueChange.{ValueChange}
+use Rattle.meson_places.specs.declared.arguments.ValueChange.TheVariants as change
+use Rattle.meson_places.specs.declared.arguments.ValueName.{ValueName}
+use Rattle.meson_places.specs.declared.slots.Slot.{Slot}
+use Rattle.meson_places.specs.declared.slots.Slot.TheVariants as slot
+use Rattle.meson_places.specs.declared.values.Given.{Given}
+use Rattle.meson_places.specs.Changes.{delete_steps, set_steps}
+use Rattle.meson_places.specs.Names.{the_place}
+use Rattle.meson_places.specs.Room.{if_room}
+use Rattle.meson_places.specs.Several.{AllMayBeGiven, set_all}
+use Rattle.meson_places.specs.Slots.{the_slot}
+use Rattle.meson_places.specs.Values.{MayBeGiven, written_given}
+
+-- the key that a refusal names: the last one, or `.` for the thing itself
+abbrev pub last_key : List (List ℕ) → List ℕ
+last_key [] = codes "."
+last_key (key ∷ []) = key
+last_key (key ∷ next ∷ keys) = last_key (next ∷ keys)
+
+-- the list that a value is put into
+abbrev pub slot_list : Slot → CallRef
+slot_list (slot.Element list n) = list
+slot_list (slot.Absent list key) = list
+slot_list (slot.Whole c) = c
+
+abbrev pub set_within : Loaded → Given → Written (Expression Nowhere) → (key : List ℕ) → Slot → Result (List Step) Refusal
+set_within l g w key s = then_ok (set_steps l g w key s) (if_room l (slot_list s) w.node)
+
+-- the values of a change may be given
+abbrev pub MayBeMade : ValueChange → Type 0
+MayBeMade (change.Set g) = MayBeGiven g
+MayBeMade (change.SetAll gs) = AllMayBeGiven gs
+MayBeMade change.Delete = Unit {0}
+
+abbrev pub slot_steps : Loaded → (key : List ℕ) → (c : ValueChange) → MayBeMade c → Slot → Result (List Step) Refusal
+slot_steps l key (change.Set g) may s = set_within l g (written_given g may) key s
+slot_steps l key (change.SetAll gs) may s = set_all l gs may key s
+slot_steps l key change.Delete may s = delete_steps s
+
+-- the steps that change the value of a name
+abbrev pub argument_steps : Loaded → ValueName → (c : ValueChange) → MayBeMade c → Result (List Step) Refusal
+argument_steps l n c may =
+    then_ok (the_place l n.place) (λ p. then_ok (the_slot (project l) p n.keys) (λ s. slot_steps l (last_key n.keys) c may s))

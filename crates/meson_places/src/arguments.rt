@@ -1,0 +1,132 @@
+//! Changes of one value, which is named by a place and keys.
+
+ghost use Rattle.std.specs.Prelude.{◌≡◌, All, IfOk};
+ghost use Rattle.std.specs.Str.{IsUtf8};
+ghost use Rattle.meson_calls.specs.Loading.{AreParsed, IsProject};
+ghost use Rattle.meson_calls.specs.Refusals.{RefusedAs};
+ghost use Rattle.meson_steps.specs.Meanings.{AreMeant};
+ghost use Rattle.meson_steps.specs.Plans.{ArePlanned};
+ghost use Rattle.meson_places.specs.Arguments.{MayBeMade, argument_steps, last_key, set_within, slot_list, slot_steps};
+ghost use Rattle.meson_places.specs.Names.{loaded_in};
+ghost use Rattle.meson_places.specs.Values.{MayBeGiven, written_given};
+
+use crate::changes::{delete_steps, set_steps};
+use crate::lookup::find_place;
+use crate::name::{Search, Sources};
+use crate::room::has_room;
+use crate::several::set_all;
+use crate::slots::{Slot, find_slot};
+use crate::values::Given;
+use meson_calls::{CallRef, Refusal};
+use meson_splice::{Many, Text};
+use meson_steps::step::ListStep;
+use std::alloc::{AllocError, Global};
+
+/// What names a value: the search for a place, and the keys that lead to the value from there.
+#[derive(Debug, Drop)]
+pub struct ValueName {
+    pub place: Search,
+    pub keys: Many<Text>,
+}
+
+/// What is done with a value.
+#[derive(Debug, Drop)]
+pub enum ValueChange {
+    /// It becomes this one.
+    Set(Given),
+    /// The elements of its array become these values, or it becomes the array of them.
+    SetAll(Many<Given>),
+    /// Its argument, entry or element is removed.
+    Delete,
+}
+
+/// The key that a refusal names: the last one, or `.` if there is none.
+fn last_key(alloc: Global, keys: &[Text]) -> Result<Text, AllocError>
+    ensures last { IfOk result (λ key. key ≡ last_key keys.now) }
+    ensures texts { All IsUtf8 keys.now }
+{
+    let mut last = ".";
+    for i in 0..keys.len() {
+        last = keys[i].get();
+    }
+    Ok(Text::of(String::from_str(alloc, last)?))
+}
+
+/// The list that a value is put into.
+fn slot_list(slot: &Slot) -> &CallRef
+    ensures { result.now ≡ slot_list slot.entry.now }
+{
+    match slot {
+        Slot::Element { list, .. } => list,
+        Slot::Absent { list, .. } => list,
+        Slot::Whole(place) => place,
+    }
+}
+
+/// The steps that set the value of a slot, if its list has room for it.
+///
+/// # Errors
+/// The faults of `set_steps`, or the file with the value would nest too deep.
+fn set_within(
+    alloc: Global,
+    sources: Sources<'_>,
+    given: &Given,
+    key: &Text,
+    slot: &Slot,
+) -> Result<Vec<ListStep>, Refusal>
+    requires { AreParsed sources.files.now sources.trees.now }
+    ensures meant { (may : MayBeGiven given.now) → let w = written_given given.now may in
+        IfOk result (λ steps. AreMeant (set_within (loaded_in sources.entry) given.now w key.now slot.now) steps.items) }
+    ensures refused { (may : MayBeGiven given.now) → let w = written_given given.now may in
+        RefusedAs result (set_within (loaded_in sources.entry) given.now w key.now slot.now) }
+{
+    let steps = set_steps(alloc, sources, given, key, slot)?;
+    if !has_room(alloc, sources, slot_list(slot), given)? {
+        return Err(Refusal::TooDeep);
+    }
+    Ok(steps)
+}
+
+/// The steps that change the value of a slot.
+///
+/// # Errors
+/// The faults of `set_within`, `set_all` or `delete_steps`.
+fn slot_steps(
+    alloc: Global,
+    sources: Sources<'_>,
+    key: &Text,
+    change: &ValueChange,
+    slot: &Slot,
+) -> Result<Vec<ListStep>, Refusal>
+    requires { AreParsed sources.files.now sources.trees.now }
+    ensures meant { (may : MayBeMade change.now) → IfOk result (λ steps. AreMeant (slot_steps (loaded_in sources.entry) key.now change.now may slot.now) steps.items) }
+    ensures refused { (may : MayBeMade change.now) → RefusedAs result (slot_steps (loaded_in sources.entry) key.now change.now may slot.now) }
+{
+    match change {
+        ValueChange::Set(given) => set_within(alloc, sources, given, key, slot),
+        ValueChange::SetAll(values) => set_all(alloc, sources, values.get(), key, slot),
+        ValueChange::Delete => delete_steps(alloc, slot),
+    }
+}
+
+/// The steps that change the value of a name. They may be done one after another on the project.
+///
+/// # Errors
+/// The place or the value is not found; the change does not suit the value; the file would nest too deep; or out of memory.
+pub fn argument_steps(
+    alloc: Global,
+    sources: Sources<'_>,
+    name: &ValueName,
+    change: &ValueChange,
+) -> Result<Vec<ListStep>, Refusal>
+    requires { IsProject (loaded_in sources) }
+    ensures plan { (may : MayBeMade change.now) → let old = loaded_in sources.entry in
+        IfOk result (λ steps. ArePlanned old (argument_steps old name.now change.now may) steps.items) }
+    ensures refused { (may : MayBeMade change.now) → RefusedAs result (argument_steps (loaded_in sources.entry) name.now change.now may) }
+{
+    let place = find_place(alloc, sources, &name.place)?;
+    let keys = name.keys.get();
+    let slot = find_slot(alloc, sources, &place, keys)?;
+    let key = last_key(alloc, keys)?;
+    slot_steps(alloc, sources, &key, change, &slot)
+}
