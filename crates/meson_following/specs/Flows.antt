@@ -182,7 +182,7 @@ abbrev pub flow_found : {S : Type 0} → (BuildFile S → Known S → Flow S) �
 flow_found flow None k = going_on (touched k)
 flow_found flow (Some f) k = flow f k
 
--- The file of a number, where so many files may be inside one another. A file enters files in folders below its own alone. So as many as there are files are enough.
+-- The file of a number, where this many files may be inside one another. A file enters files in folders below its own alone. So as many as there are files are enough.
 abbrev pub flow_file : {S : Type 0} → Project S → List ℕ → ℕ → ℕ → Known S → Flow S
 flow_file p x zero n k = going_on (touched k)
 flow_file p x (suc left) n k = flow_found (λ f. flow_tree x (effect_of p x f.name) (flow_file p x left) n f.tree) (nth_file p n) k

@@ -139,7 +139,7 @@ module _ {S : Type 0} (is_list : CallRef → Expression S → Bool) (follow : Ca
 
 -- ---- a variable
 
--- where a list may be added to something that is none, a value that is no list is not known
+-- where a list may be added to something that is no list, a value that is no list is not known
 abbrev pub mixes : {S : Type 0} → List (Maker S) → Bool
 mixes ms = list_any (λ m. m.adds) ms
 
@@ -160,7 +160,7 @@ module _ {S : Type 0} (is_list : CallRef → Expression S → Bool) (inner : Exp
   follow_known lists (Some k) followed =
       then_follow (follow_makers (mixes k.makers && not lists) k.makers followed) (λ now. if k.unknown then met opaque now else nothing_met now)
 
--- so many makers may be followed inside one another
+-- this many makers may be followed inside one another
 abbrev pub follow_left : {S : Type 0} → Project S → ℕ → Expression S → Stand → List CallRef → Following S
 follow_left p zero = follow_by (is_list p) (λ q x w followed. met opaque followed)
 follow_left p (suc left) =

@@ -26,7 +26,7 @@ opaque_count (empty q w ∷ ms) = opaque_count ms
 abbrev pub summary : List (Mark Nowhere) → Texts × ℕ
 summary ms = (texts ms, opaque_count ms)
 
--- the target at a path of the first file is made of these, and of so many that are not known
+-- the target at a path of the first file is made of these, and of this many that are not known
 abbrev IsOf : Project Nowhere → List ℕ → Texts → ℕ → Type 0
 IsOf p path items count = option_map (λ c. summary (follow_marks p c)) (call_at p (place 0 path)) ≡ Some (items, count)
 

@@ -32,7 +32,7 @@ is_made_list is_list None = false
 is_made_list is_list (Some k) =
     list_any (λ m. m.sure && is_list m) k.makers || (not k.unknown && list_all (λ m. m.adds || is_list m) k.makers)
 
--- by so many variables inside one another
+-- by this many variables inside one another
 abbrev pub is_list_variable : {S : Type 0} → Project S → ℕ → CallRef → List ℕ → Bool
 is_list_variable p zero q x = false
 is_list_variable p (suc left) q x = is_made_list (λ m. is_list_by (is_list_variable p left) m.value.place m.value.it) (known_at p x q)

@@ -44,7 +44,7 @@ unsure m = record { value = m.value; adds = m.adds; sure = false }
 abbrev pub sure_as_among : {S : Type 0} → List (Maker S) → Maker S → Maker S
 sure_as_among ms m = record { value = m.value; adds = m.adds; sure = m.sure && is_sure_among ms m }
 
--- ---- so many makers are kept apart: where there are more, the variable is made by something that is not known, too
+-- ---- at most 1,024 makers are kept apart: where there are more, the variable is made by something that is not known, too
 
 abbrev pub max_makers : ℕ
 max_makers = 1024

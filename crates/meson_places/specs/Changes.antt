@@ -36,7 +36,7 @@ slot_value p (slot.Whole c) = expression_at p c
 
 -- ---- set, where a value is there
 
--- so many elements from a number on are removed, the last one first
+-- this many elements from a number on are removed, the last one first
 abbrev pub rest_removed : CallRef → (from many : ℕ) → List Step
 rest_removed list from zero = []
 rest_removed list from (suc m) = step_in list (Remove list.path.steps (from + m)) ∷ rest_removed list from m

@@ -54,7 +54,7 @@ any_code (g ∷ gs) = is_code g || any_code gs
 
 -- ---- the elements of an array
 
--- in an array with so many elements, the value in the place of the i-th element, or behind all if there is none
+-- in an array with this many elements, the value in the place of the i-th element, or after all if there is no such element
 abbrev pub put_at : CallRef → (many i : ℕ) → Written (Expression Nowhere) → Step
 put_at list many i w =
     if nat_lt i many then step_in list (Replace list.path.steps i w) else behind_all list i (record { bytes = w.bytes; node = plain w.node })

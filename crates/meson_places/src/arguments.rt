@@ -40,7 +40,7 @@ pub enum ValueChange {
     Delete,
 }
 
-/// The key that a refusal names: the last one, or `.` if there is none.
+/// The key that a refusal names: the last one, or `.` without keys.
 fn last_key(alloc: Global, keys: &[Text]) -> Result<Text, AllocError>
     ensures last { IfOk result (λ key. key ≡ last_key keys.now) }
     ensures texts { All IsUtf8 keys.now }

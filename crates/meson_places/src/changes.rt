@@ -144,7 +144,7 @@ fn replaces_texts(
     }
 }
 
-/// Adds the steps that remove so many elements from a number on, the last one first.
+/// Adds the steps that remove this many elements from a number on, the last one first.
 pub(crate) fn remove_rest(
     alloc: Global,
     list: &CallRef,

@@ -84,7 +84,7 @@ fn all_texts_given(values: &[Given]) -> bool
     values.iter().all(|value| is_text_given(value))
 }
 
-/// The edit that puts a value in the place of the i-th element of an array with this number of elements, or behind all if there is none.
+/// The edit that puts a value in the place of the i-th element of an array with this number of elements, or after all if it has no such element.
 fn put_at(many: usize, i: usize, new: Bytes) -> ListEdit
     ensures { (list : CallRef) (w : Written (Expression Nowhere)) → w.bytes ≡ new → bare (put_at list many i w) ≡ Some (record { list = list; edit = result }) }
 {
