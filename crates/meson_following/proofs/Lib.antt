@@ -1,1 +1,3 @@
 pub mod MakerLists
+pub mod GoodNodes
+pub mod NameParts
