@@ -1,3 +1,5 @@
 pub mod MakerLists
 pub mod GoodNodes
 pub mod NameParts
+pub mod Searches
+pub mod SearchParts

@@ -2,6 +2,7 @@ pub mod Makers
 pub mod CodeMakers
 pub mod Names
 pub mod Effects
+pub mod CodeEffects
 pub mod Flows
 pub mod CodeFlows
 pub mod Reads

@@ -10,7 +10,7 @@ ghost use Rattle.meson_calls.specs.Calls.{literal_of};
 ghost use Rattle.meson_calls.specs.ChosenNotes.{Source, call_with};
 ghost use Rattle.meson_calls.specs.GoodLists.{GoodRow};
 ghost use Rattle.meson_calls.specs.Strings.{AreGood};
-ghost use Rattle.meson_following.specs.Names.{after_placeholders, are_format, before_placeholders, between, computed, exactly, fit, format_naming, formatted, is_at_sign, is_format, last_of, named_by, sum_naming, text_or_empty};
+ghost use Rattle.meson_following.specs.Names.{after_placeholders, are_format, before_placeholders, between, computed, exactly, fit, format_naming, formatted, is_at_sign, is_format, last_of, may_be, named_by, sum_naming, text_or_empty};
 
 use meson_calls::literals::literal;
 use meson_calls::roles::{first_argument, text_of};
@@ -24,6 +24,15 @@ pub enum Fit {
     /// The name is computed, and may be its name.
     Perhaps,
     Surely,
+}
+
+impl Fit {
+    /// Whether the variable may be the one.
+    pub fn may_be(self) -> bool
+        ensures { result ≡ may_be self }
+    {
+        !matches!(self, Fit::Not)
+    }
 }
 
 /// Whether the variable has this name.
