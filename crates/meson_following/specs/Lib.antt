@@ -5,6 +5,7 @@ pub mod Effects
 pub mod CodeEffects
 pub mod Flows
 pub mod CodeFlows
+pub mod Walks
 pub mod Reads
 pub mod Lists
 pub mod Following
