@@ -2,8 +2,10 @@ pub mod Makers
 pub mod CodeMakers
 pub mod Names
 pub mod Effects
+pub mod CodeEffects
 pub mod Flows
 pub mod CodeFlows
+pub mod Walks
 pub mod Reads
 pub mod Lists
 pub mod Following

@@ -2,7 +2,7 @@
 -- is no literal, the name is computed, and often it is known how it begins and ends.
 use Rattle.std.specs.Prelude.{ℕ, ◌==◌, nat_eq, Bool, true, false, ◌&&◌, List, [], ◌∷◌, ◌++◌, take, position, bytes_eq, codes, if◌then◌else◌, Option, Some, None}
 use Rattle.std.specs.List.{ends_with, starts_with}
-use Rattle.meson_syntax.specs.Tree.{Expression, row, postfix, Operands, no_operands, operand, Tails, no_tails, tail, method}
+use Rattle.meson_syntax.specs.Tree.{Expression, row, postfix, Operands, no_operands, operand, Tail, method, index, Tails, no_tails, tail}
 use Rattle.meson_calls.specs.Calls.{Call, first_argument, literal_of}
 use Rattle.meson_variables.specs.Expansion.{are_plus}
 use Rattle.meson_following.specs.declared.names.Fit.{Fit}
@@ -35,10 +35,19 @@ abbrev pub after_placeholders : List ℕ → List ℕ → List ℕ
 after_placeholders read [] = read
 after_placeholders read (c ∷ cs) = if is_at_sign c then after_placeholders [] cs else after_placeholders (read ++ c ∷ []) cs
 
+abbrev pub is_format : {S : Type 0} → Tail S → Bool
+is_format (method s f l) = bytes_eq f.text (codes "format")
+is_format (index s e) = false
+
+-- one method call, of `format`
+abbrev pub are_format : {S : Type 0} → Tails S → Bool
+are_format no_tails = false
+are_format (tail t no_tails) = is_format t
+are_format (tail t (tail u more)) = false
+
 -- the text whose one method call is `format`
 abbrev pub formatted : {S : Type 0} → Expression S → Tails S → Option (List ℕ)
-formatted e (tail (method s f l) no_tails) = if bytes_eq f.text (codes "format") then literal_of e else None
-formatted e _ = None
+formatted e ts = if are_format ts then literal_of e else None
 
 abbrev pub last_of : {S : Type 0} → Expression S → Operands S → Expression S
 last_of e no_operands = e

@@ -6,5 +6,7 @@ pub mod flows;
 pub mod laws;
 pub mod makers;
 pub mod names;
+pub mod walk;
 
 pub use makers::{Known, Made, Maker};
+pub use walk::Question;

@@ -1,0 +1,254 @@
+//! The walk through a project in the order of evaluation, for one variable and one place.
+
+ghost use Rattle.std.specs.Prelude.{◌≡◌, ◌<◌, false, IfOk, OnOk, bytes_eq, option_and_then};
+ghost use Rattle.meson_lex.specs.declared.kinds.Span.{Span};
+ghost use Rattle.meson_syntax.specs.Grammar.{expression_words, listing_words};
+ghost use Rattle.meson_syntax.specs.Tree.{Expression};
+ghost use Rattle.meson_syntax.specs.Tree as tree;
+ghost use Rattle.meson_syntax.specs.View.{expr_view, list_view, name_at, text_at};
+ghost use Rattle.meson_syntax.specs.declared.operator.Bracket.TheVariants as bracket;
+ghost use Rattle.meson_calls.specs.ChosenNotes.{Source, call_with};
+ghost use Rattle.meson_calls.specs.Project.{child, place, place_at};
+ghost use Rattle.meson_calls.specs.GoodLists.{GoodListing};
+ghost use Rattle.meson_calls.specs.Strings.{AreGood};
+ghost use Rattle.meson_calls.specs.Subdirs.{meant_file};
+ghost use Rattle.meson_following.specs.declared.walk.Trail.{Trail};
+ghost use Rattle.meson_following.specs.Walks.{MayWalk, Walks, arguments_flow, call_effect};
+ghost use Rattle.meson_following.specs.Walks.{expression_flow, here, project_of, statement_flow, wanted};
+ghost use Rattle.meson_following.specs.CodeMakers.{known_view};
+ghost use Rattle.meson_following.specs.Effects.{by_fit, entering, number_of};
+ghost use Rattle.meson_following.specs.Flows.{assigned_if, is_in, joined_if, maker};
+
+use crate::effects::{Deed, Effect, Search};
+use crate::flows::Flow;
+use crate::makers::{Known, Maker, assign, copy_known, join};
+use crate::names::{Fit, fit_of};
+use meson_calls::arguments::count_named;
+use meson_calls::call::BorrowedPlace;
+use meson_calls::entering::file_in;
+use meson_calls::literals::first_literal;
+use meson_calls::place::place_of;
+use meson_calls::roles::text_of;
+use meson_lex::Span;
+use meson_splice::FileSet;
+use meson_syntax::{Assignment, Expr, List, Parsed};
+use std::alloc::{AllocError, Global};
+
+/// A variable of a project, and the place at which it is asked what is known of it.
+#[derive(Clone, Copy)]
+pub struct Question<'t> {
+    pub alloc: Global,
+    pub files: &'t FileSet,
+    pub trees: &'t [Parsed],
+    pub variable: &'t [u8],
+    pub place: BorrowedPlace<'t>,
+}
+
+/// A walk through a file, in which this number of files may still be inside one another. A quiet one does not look for the place.
+#[derive(Clone, Copy)]
+pub(crate) struct Walk<'t> {
+    pub question: Question<'t>,
+    pub file: usize,
+    pub name: &'t str,
+    pub source: &'t [u8],
+    pub left: usize,
+    pub quiet: bool,
+}
+
+/// The path of what is walked through, and what is known at the place so far.
+#[derive(Drop)]
+pub(crate) struct Trail<'t> {
+    pub path: Vec<usize>,
+    pub found: Known<'t>,
+}
+
+/// What an effect is if it is certain which variable is meant.
+fn by_fit(surely: Effect, fit: Fit) -> Effect
+    ensures { result ≡ by_fit surely fit }
+{
+    match fit {
+        Fit::Not => Effect::Nothing,
+        Fit::Perhaps => Effect::MaySet,
+        Fit::Surely => surely,
+    }
+}
+
+/// Whether the expression at a path of a file is the one at the place or around it.
+fn is_in(wanted: BorrowedPlace<'_>, file: usize, path: &[usize]) -> bool
+    ensures { result ≡ is_in (place_at wanted.entry) (place file path.now) }
+{
+    wanted.file == file && wanted.path.starts_with(path)
+}
+
+impl<'t> Walk<'t> {
+    /// What a `subdir` call does.
+    fn entering(&self, arguments: &List) -> Result<Effect, AllocError>
+        requires walks { MayWalk self.now }
+        requires good { AreGood (listing_words (list_view self.now.source.now arguments.now) bracket.Round) }
+        ensures { (f : Source) → let c = call_with f (list_view self.now.source.now arguments.now) in
+            IfOk result (λ e. e ≡ entering c (option_and_then (number_of (project_of self.now.question)) (meant_file self.now.name.now c))) }
+    {
+        let alloc = self.question.alloc;
+        let Some(folder) = first_literal(alloc, self.source, arguments)? else {
+            return Ok(Effect::MaySet);
+        };
+        let Some(name) = file_in(alloc, self.name, folder.as_str())? else {
+            return Ok(Effect::MaySet);
+        };
+        match self.question.files.find(name.as_str()) {
+            Some(file) => Ok(Effect::Enters {
+                file,
+                condition: count_named(self.source, arguments.items.get(), b"if_found") > 0,
+            }),
+            None => Ok(Effect::MaySet),
+        }
+    }
+
+    /// What a call that is a statement does.
+    pub(crate) fn effect(&self, function: Span, arguments: &List) -> Result<Effect, AllocError>
+        requires walks { MayWalk self.now }
+        requires good { AreGood (listing_words (list_view self.now.source.now arguments.now) bracket.Round) }
+        ensures { IfOk result (λ e. e ≡ call_effect self.now (call_with (text_at self.now.source.now function) (list_view self.now.source.now arguments.now))) }
+    {
+        let question = self.question;
+        let function = text_of(self.source, function);
+        if function == b"set_variable".as_slice() {
+            let found = fit_of(question.alloc, question.variable, self.source, arguments)?;
+            return Ok(by_fit(Effect::Sets, found));
+        }
+        if function == b"unset_variable".as_slice() {
+            let found = fit_of(question.alloc, question.variable, self.source, arguments)?;
+            return Ok(by_fit(Effect::Unsets, found));
+        }
+        if function == b"error".as_slice() {
+            return Ok(Effect::Stops);
+        }
+        if function == b"subdir_done".as_slice() {
+            return Ok(Effect::Leaves);
+        }
+        if function == b"subdir".as_slice() {
+            return self.entering(arguments);
+        }
+        Ok(Effect::Nothing)
+    }
+
+    /// A search of expressions of the file for calls.
+    fn search(&self, deed: Deed) -> Search<'t>
+        ensures deed { result.deed ≡ deed }
+        ensures variable { result.variable.now ≡ self.now.question.variable.now }
+        ensures source { result.source.now ≡ self.now.source.now }
+    {
+        Search {
+            alloc: self.question.alloc,
+            deed,
+            variable: self.question.variable,
+            source: self.source,
+        }
+    }
+
+    /// Comes to the expression that is the n-th child: if the place is in it, what is known here is known there.
+    fn arrive(
+        &self,
+        number: usize,
+        now: &Known<'t>,
+        trail: &mut Trail<'t>,
+    ) -> Result<(), AllocError>
+        ensures back { OnOk result (trail.new.path.items ≡ trail.old.path.items) }
+        ensures found { self.now.quiet ≡ false → OnOk result (known_view trail.new.found
+            ≡ joined_if (is_in (wanted self.now.question) (child (here self.now trail.old) number)) (known_view trail.old.found) (known_view now.now)) }
+    {
+        if self.quiet {
+            return Ok(());
+        }
+        trail.path.push(number)?;
+        if is_in(self.question.place, self.file, trail.path.as_slice()) {
+            let known = copy_known(self.question.alloc, now)?;
+            trail.found = join(self.question.alloc, trail.found.take(), known)?;
+        }
+        trail.path.pop();
+        Ok(())
+    }
+
+    /// The flow through the expression that is the n-th child.
+    pub(crate) fn in_expr(
+        &self,
+        number: usize,
+        expr: &'t Expr,
+        now: Known<'t>,
+        trail: &mut Trail<'t>,
+    ) -> Result<Flow<'t>, AllocError>
+        requires good { AreGood (expression_words (expr_view self.now.source.now expr.now)) }
+        ensures { IfOk result (λ f. Walks self.now trail.old trail.new f (expression_flow self.now (child (here self.now trail.old) number) (expr_view self.now.source.now expr.now) (known_view now.entry))) }
+    {
+        let sets = self.search(Deed::Set).in_expr(expr)?;
+        let leaves = self.search(Deed::Leave).in_expr(expr)?;
+        let flow = Flow::passed(self.question.alloc, sets, leaves, now)?;
+        self.arrive(number, &flow.now, trail)?;
+        Ok(flow)
+    }
+
+    /// The flow through the arguments of a call that is a statement.
+    pub(crate) fn in_arguments(
+        &self,
+        arguments: &'t List,
+        now: Known<'t>,
+        trail: &mut Trail<'t>,
+    ) -> Result<Flow<'t>, AllocError>
+        requires good { GoodListing (list_view self.now.source.now arguments.now) }
+        ensures { (e : Expression Span) → IfOk result (λ f. Walks self.now trail.old trail.new f
+            (arguments_flow self.now (child (here self.now trail.old) 0) e (list_view self.now.source.now arguments.now) (known_view now.entry))) }
+    {
+        let sets = self.search(Deed::Set).in_list(arguments)?;
+        let leaves = self.search(Deed::Leave).in_list(arguments)?;
+        let flow = Flow::passed(self.question.alloc, sets, leaves, now)?;
+        self.arrive(0, &flow.now, trail)?;
+        Ok(flow)
+    }
+
+    /// What is known after an assignment with this value.
+    fn assigned(
+        &self,
+        name: Span,
+        assignment: Assignment,
+        value: &'t Expr,
+        now: Known<'t>,
+        path: &[usize],
+    ) -> Result<Known<'t>, AllocError>
+        ensures { IfOk result (λ k. known_view k ≡ assigned_if (bytes_eq (text_at self.now.source.now name) self.now.question.variable.now)
+            (maker (place self.now.file path.now) assignment (expr_view self.now.source.now value.now)) (known_view now.entry)) }
+    {
+        if text_of(self.source, name) != self.question.variable {
+            return Ok(now);
+        }
+        let alloc = self.question.alloc;
+        let mut steps = Vec::from_slice(alloc, path)?;
+        steps.push(0)?;
+        let maker = Maker {
+            place: place_of(alloc, self.file, steps.as_slice())?,
+            source: self.source,
+            value,
+            adds: matches!(assignment, Assignment::Add),
+            sure: true,
+        };
+        assign(alloc, maker, now)
+    }
+
+    /// The flow through an assignment.
+    pub(crate) fn in_assignment(
+        &self,
+        name: Span,
+        assignment: Assignment,
+        value: &'t Expr,
+        now: Known<'t>,
+        trail: &mut Trail<'t>,
+    ) -> Result<Flow<'t>, AllocError>
+        requires good { AreGood (expression_words (expr_view self.now.source.now value.now)) }
+        ensures { (s : Span) → IfOk result (λ f. Walks self.now trail.old trail.new f (statement_flow self.now (here self.now trail.old)
+            (tree.assign s (name_at self.now.source.now name) assignment (expr_view self.now.source.now value.now)) (known_view now.entry))) }
+    {
+        let mut flow = self.in_expr(0, value, now, trail)?;
+        let now = flow.now.take();
+        let now = self.assigned(name, assignment, value, now, trail.path.as_slice())?;
+        Flow::then(self.question.alloc, flow, Flow::going_on(now))
+    }
+}
