@@ -129,7 +129,7 @@ no-file-plain held failed failed' name _ (unread rose) = unread rose
 no-file-plain held failed failed' name _ (absent none) = absent none
 
 bad-plain : (flags : Flags) (script : Result (List Command) ScriptFault) (stop : Stop) → IsBad flags script stop → IsBad (plain_flags flags) script (unexplained stop)
-bad-plain flags script stop (fault, advice_, bad, is, advised) = (fault, advice.Nothing, bad, ap unexplained is, no_more_of_it)
+bad-plain flags script stop (fault, (advice_, (bad, (is, advised)))) = (fault, (advice.Nothing, (bad, (ap unexplained is, no_more_of_it))))
 
 none-plain : (flags : Flags) (a : Action) (held : Option Content) (failed failed' : ℕ) (stop : Stop) → AsksForNone flags a held failed failed' stop
     → AsksForNone (plain_flags flags) a held failed failed' (unexplained stop)

@@ -55,11 +55,11 @@ log-unread text why (inr bad) = ap unread_by bad.0
 
 pub bad-unread : (flags : Flags) (r : Result (List Command) ScriptFault) (why : Stop) → WantsMemory why ⊎ IsBad flags r why → unread_by why ≡ None
 bad-unread flags r why (inl m) = memory-unread why m
-bad-unread flags r why (inr bad) = ap unread_by bad.3
+bad-unread flags r why (inr bad) = ap unread_by bad.1.1.1.0
 
 pub asked-unread : (flags : Flags) (a : Action) (why : Stop) → names_file a ≡ false → WantsMemory why ⊎ AsksForNone flags a None 0 0 why → unread_by why ≡ None
 asked-unread flags a why unnamed (inl m) = memory-unread why m
-asked-unread flags (action.ScriptText text unknown) why unnamed (inr bad) = ap unread_by bad.3
+asked-unread flags (action.ScriptText text unknown) why unnamed (inr bad) = ap unread_by bad.1.1.1.0
 asked-unread flags (action.ScriptFile name unknown) why unnamed (inr none) = absurd (let no : ⊥ = cc in no)
 asked-unread flags (action.UndoChecked count name) why unnamed (inr none) = absurd (let no : ⊥ = cc in no)
 asked-unread flags _ why unnamed (inr none) = absurd none
