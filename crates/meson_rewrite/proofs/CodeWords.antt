@@ -28,18 +28,18 @@ Known stop = ((stop_code stop ≡ memory_code) × (stop_text stop ≡ codes "out
 in_entry : (n : ℕ) (meaning : List ℕ) → codes "entry " ++ (decimal n ++ (codes ": " ++ meaning)) ≡ numbered_place (codes "entry ") (Some n) ++ meaning
 in_entry n meaning = ap (λ (l : List ℕ). codes "entry " ++ l) (sym (append_assoc (decimal n) (codes ": ") meaning))
 
-of_script : (fault : ScriptFault) → Known (Script fault)
-of_script script.NotJson = inr (record { meaning = codes "not json"; words = refl; one_word = refl })
-of_script script.NotArray = inr (record { meaning = codes "not an array"; words = refl; one_word = refl })
-of_script script.TooMany = inr (record { meaning = codes "too many"; words = refl; one_word = refl })
-of_script (script.NotObject n) = inr (record { meaning = codes "not an object"; words = in_entry n (codes "J4 not an object"); one_word = refl })
-of_script (script.UnknownType n) = inr (record { meaning = codes "unknown type"; words = in_entry n (codes "J5 unknown type"); one_word = refl })
-of_script (script.BadField n name) = inr (record { meaning = codes "bad field " ++ name; words = in_entry n (codes "J6 bad field " ++ name); one_word = refl })
-of_script (script.UnknownOperation n) = inr (record { meaning = codes "unknown operation"; words = in_entry n (codes "J7 unknown operation"); one_word = refl })
-of_script (script.Unsupported n) = inr (record { meaning = codes "unsupported"; words = in_entry n (codes "J8 unsupported"); one_word = refl })
-of_script (script.UnknownMember n name) = inr (record { meaning = codes "unknown member " ++ name; words = in_entry n (codes "J12 unknown member " ++ name); one_word = refl })
-of_script script.BadLog = inr (record { meaning = codes "bad log"; words = refl; one_word = refl })
-of_script script.OutOfMemory = inl (refl, refl)
+of_script : (fault : ScriptFault) (advice : Advice) → Known (Script fault advice)
+of_script script.NotJson advice = inr (record { meaning = codes "not json"; words = refl; one_word = refl })
+of_script script.NotArray advice = inr (record { meaning = codes "not an array"; words = refl; one_word = refl })
+of_script script.TooMany advice = inr (record { meaning = codes "too many"; words = refl; one_word = refl })
+of_script (script.NotObject n) advice = inr (record { meaning = codes "not an object"; words = in_entry n (codes "J4 not an object"); one_word = refl })
+of_script (script.UnknownType n) advice = inr (record { meaning = codes "unknown type"; words = in_entry n (codes "J5 unknown type"); one_word = refl })
+of_script (script.BadField n name) advice = inr (record { meaning = codes "bad field " ++ name; words = in_entry n (codes "J6 bad field " ++ name); one_word = refl })
+of_script (script.UnknownOperation n) advice = inr (record { meaning = codes "unknown operation"; words = in_entry n (codes "J7 unknown operation"); one_word = refl })
+of_script (script.Unsupported n) advice = inr (record { meaning = codes "unsupported"; words = in_entry n (codes "J8 unsupported"); one_word = refl })
+of_script (script.UnknownMember n name) advice = inr (record { meaning = codes "unknown member " ++ name; words = in_entry n (codes "J12 unknown member " ++ name); one_word = refl })
+of_script script.BadLog advice = inr (record { meaning = codes "bad log"; words = refl; one_word = refl })
+of_script script.OutOfMemory advice = inl (refl, refl)
 
 of_usage : (fault : UsageFault) (advice : Advice) → Known (Usage fault advice)
 of_usage usage.Usage advice = inr (record { meaning = codes "usage"; words = refl; one_word = refl })
@@ -117,7 +117,7 @@ of_store store.OutOfMemory = inl (refl, refl)
 
 pub codes_are_words : CodesAreWords
 codes_are_words (Usage fault advice) = of_usage fault advice
-codes_are_words (Script fault) = of_script fault
+codes_are_words (Script fault advice) = of_script fault advice
 codes_are_words (Parse name fault) = of_parse name fault
 codes_are_words TooManyFiles = inr (record { meaning = codes "too many files"; words = refl; one_word = refl })
 codes_are_words (BadFileName place) = inr (record { meaning = codes "bad file name " ++ decimal place; words = refl; one_word = refl })

@@ -292,7 +292,7 @@ shown-ends a b c text u asks = of-action a.action refl asks
         let same : version_line ≡ text = cc in
         subst (λ out. Ends (Ok (without_text a)) b c (Ok (shown_text out))) same (told_version a u refl at)
 
-pub not-asked : (a : Asked) (b c : Seen) → Untouched b c → (stop : Stop) → WantsMemory stop ⊎ AsksForNone a.action b.content b.failures c.failures stop → Ends (Ok (without_text a)) b c (Err stop)
+pub not-asked : (a : Asked) (b c : Seen) → Untouched b c → (stop : Stop) → WantsMemory stop ⊎ AsksForNone a.flags a.action b.content b.failures c.failures stop → Ends (Ok (without_text a)) b c (Err stop)
 not-asked a b c u stop (inl m) = memory_ran_out stop u m
 not-asked a b c u stop (inr none) = asks_for_none a stop u refl none
 

@@ -15,6 +15,7 @@ use Rattle.meson_rewrite.specs.Opening.{IsNoLog, OpensNone, bad_log, log_unread,
 use Rattle.meson_rewrite.specs.Stops.{WantsMemory}
 use Rattle.meson_rewrite.specs.declared.opening.LogUse.{LogUse}
 use Rattle.meson_rewrite.specs.declared.opening.LogUse.TheVariants.{Kept}
+use Rattle.meson_rewrite.specs.declared.advice.Advice.TheVariants.{Nothing}
 use Rattle.meson_rewrite.specs.declared.stop.Stop.{Stop}
 use Rattle.meson_rewrite.specs.declared.stop.Stop.TheVariants.{Script, Store}
 
@@ -25,7 +26,7 @@ pub none-read : (there : Option (List ℕ)) (text : List ℕ) (h : History) → 
 none-read there text h e is = subst (λ x. IsLog x text h) e is
 
 pub bad-read : (before : Option Content) (dir : Option (List ℕ)) (failed failed' : ℕ) (bytes : List ℕ) (why : Stop) → Told before (λ content. Some bytes ≡ held_bytes content dir log_name)
-    → WantsMemory why ⊎ ((why ≡ Script script.BadLog) × (logged bytes ≡ None)) → WantsMemory why ⊎ IsNoLog Kept before dir failed failed' why
+    → WantsMemory why ⊎ ((why ≡ Script script.BadLog Nothing) × (logged bytes ≡ None)) → WantsMemory why ⊎ IsNoLog Kept before dir failed failed' why
 bad-read before dir failed failed' bytes why told (inl m) = inl m
 bad-read before dir failed failed' bytes why told (inr b) =
     inr (subst (IsNoLog Kept before dir failed failed') (sym b.0) (bad_log refl (λ content is. subst IsBadLog (told content is) b.1)))

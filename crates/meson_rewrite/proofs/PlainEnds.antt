@@ -9,6 +9,8 @@ use Rattle.serde_json.specs.Data.{Data, Members, array, member, no_members, stri
 use Rattle.serde_json.specs.View.{items_of}
 use Rattle.serde_json.specs.Find.{get_member}
 use Rattle.meson_command.specs.Messages.{usage_fault_text}
+use Rattle.meson_command.specs.declared.asked.Action.{Action}
+use Rattle.meson_command.specs.declared.asked.Action.TheVariants as action
 use Rattle.meson_command.specs.declared.asked.Asked.{Asked}
 use Rattle.meson_command.specs.declared.asked.Flags.{Flags}
 use Rattle.meson_command.specs.declared.fault.UsageFault.{UsageFault}
@@ -23,27 +25,34 @@ use Rattle.meson_splice.specs.declared.file_set.File.{File}
 use Rattle.meson_splice.specs.declared.history.History.{History}
 use Rattle.meson_splice.specs.Past.{redone, undone}
 use Rattle.meson_steps.specs.declared.command.Command.{Command}
+use Rattle.meson_json.specs.declared.fault.ScriptFault.{ScriptFault}
+use Rattle.meson_store.specs.Content.{Content}
 use Rattle.meson_store.specs.Seen.{Seen}
 use Rattle.meson_rewrite.proofs.ToldPlain.{told-plain}
-use Rattle.meson_rewrite.specs.AdviceLaws.{ExplainedEndsAsPlain, LinesArePlain, MembersArePlain, MisuseEndsAsPlain, StatusIsPlain, end_unexplained, plain_flags, unexplained}
-use Rattle.meson_rewrite.specs.Codes.{refusal_code, usage_code}
+use Rattle.meson_rewrite.specs.Remarks.{no_more_of_it}
+use Rattle.meson_rewrite.specs.Requests.{AsksForNone, IsBad, IsNoFile, absent, unread}
+use Rattle.meson_rewrite.specs.Texts.{plain, texts_of}
+use Rattle.meson_rewrite.specs.AdviceLaws.{ExplainedEndsAsPlain, ExplainedRunsAsPlain, LinesArePlain, MembersArePlain, StatusIsPlain, end_unexplained, plain_asked, plain_flags, plain_request, unexplained}
+use Rattle.meson_rewrite.specs.Codes.{refusal_code, script_code, usage_code}
 use Rattle.meson_rewrite.specs.Lines.{line, stop_lines, stop_text}
 use Rattle.meson_rewrite.specs.Notes.{note_data}
+use Rattle.meson_json.specs.Messages.{script_fault_text}
 use Rattle.meson_script.specs.Messages.{refused_text}
 use Rattle.meson_rewrite.specs.Logs.{log_use}
 use Rattle.meson_rewrite.specs.Opening.{OpensNone, bad_log, log_unread, no_log, no_project}
-use Rattle.meson_rewrite.specs.Refused.{refusal_subject, refused_command, with_notes, with_number, with_text, with_texts}
-use Rattle.meson_rewrite.specs.Runs.{Ends, RunEnds, StepEnds, asks_for_none, done, helped, lists, memory_ran_out, misused, no_memory, not_opened, refused, shown, steps, told, told_version, unwritten, with_texts as asked_with_texts, without_texts}
+use Rattle.meson_rewrite.specs.Refused.{refusal_subject, refused_command, script_entry, script_subject, with_notes, with_number, with_text, with_texts}
+use Rattle.meson_rewrite.specs.Runs.{Ends, ListingEnds, RunEnds, StepEnds, TextsEnd, as_with_files, asks_for_none, done, has_no_file, has_no_memory, has_no_texts, has_none, helped, listed, lists, memory_ran_out, misused, no_memory, not_opened, refused, shown, steps, told, told_version, unwritten, wants_memory, with_texts as asked_with_texts, without_texts}
 use Rattle.meson_rewrite.specs.Steps.{MayRefuseStep, StopsRun, StopsStep, StopsStepsBack}
 use Rattle.meson_rewrite.specs.Stops.{WantsMemory, gathering_stop, undo_stop}
 use Rattle.meson_rewrite.specs.declared.advice.Advice.{Advice}
 use Rattle.meson_rewrite.specs.declared.advice.Advice.TheVariants as advice
 use Rattle.meson_rewrite.specs.declared.notes.PlacedNote.{PlacedNote}
+use Rattle.meson_rewrite.specs.declared.request.Listing.{Listing}
 use Rattle.meson_rewrite.specs.declared.request.Step.{Step}
 use Rattle.meson_rewrite.specs.declared.request.Step.TheVariants.{Run, Tell, Undo, UndoTo, UndoChecked, Redo, ForgetOldest, ForgetAll}
 use Rattle.meson_rewrite.specs.declared.said.Said.{Said}
 use Rattle.meson_rewrite.specs.declared.stop.Stop.{Stop}
-use Rattle.meson_rewrite.specs.declared.stop.Stop.TheVariants.{Refused, Usage}
+use Rattle.meson_rewrite.specs.declared.stop.Stop.TheVariants.{Refused, Script, Usage}
 
 -- ---- stops that nothing explains
 
@@ -67,6 +76,7 @@ undo-plain files (undo.Load load.OutOfMemory) = refl
 
 memory-plain : (stop : Stop) → WantsMemory stop → WantsMemory (unexplained stop)
 memory-plain (Usage fault advice_) (wants, none) = (wants, refl)
+memory-plain (Script fault advice_) (wants, none) = (wants, refl)
 memory-plain (Refused fault subject advice_) (wants, none) = (wants, refl)
 memory-plain _ m = m
 
@@ -105,28 +115,66 @@ explained_ends_as_plain dir step flags before after _ (done edits said writes we
 explained_ends_as_plain dir step flags before after _ (unwritten edits fault writes wet taken) = unwritten edits fault writes wet taken
 explained_ends_as_plain dir step flags before after _ (no_memory stop u wants) = no_memory (unexplained stop) u (memory-plain stop wants)
 
--- ---- words that are not a request
+-- ---- a run
 
-misused-plain : (asked : Result Asked UsageFault) (fault : UsageFault) (before after : Seen) (end : Result Said Stop) → asked ≡ Err fault → Ends asked before after end
-    → Ends asked before after (end_unexplained end)
-misused-plain asked fault before after _ refused_for (misused other advice_ u is) = misused other advice.Nothing u is
-misused-plain asked fault before after _ refused_for (helped a text u is shows) = helped a text u is shows
-misused-plain asked fault before after _ refused_for (told_version a u is shows) = told_version a u is shows
-misused-plain asked fault before after _ refused_for (asks_for_none a stop u is none) = absurd (let no : ⊥ = cc in no)
-misused-plain asked fault before after _ refused_for (steps a step end is asks ends) = absurd (let no : ⊥ = cc in no)
-misused-plain asked fault before after _ refused_for (lists a listing end is asks ends) = absurd (let no : ⊥ = cc in no)
-misused-plain asked fault before after _ refused_for (memory_ran_out stop u wants) = memory_ran_out (unexplained stop) u (memory-plain stop wants)
+listing-plain : (dir : Option (List ℕ)) (listing : Listing) (flags : Flags) (before after : Seen) (end : Result Said Stop) → ListingEnds dir listing flags before after end
+    → ListingEnds dir listing (plain_flags flags) before after (end_unexplained end)
+listing-plain dir listing flags before after _ (has_none stop u opens) =
+    has_none (unexplained stop) u (subst (OpensNone (log_use flags.no_log) before.content dir before.failures after.failures) (sym (opening-plain dir flags before after stop opens)) opens)
+listing-plain dir listing flags before after _ (listed session log u opens) = listed session log u opens
+listing-plain dir listing flags before after _ (wants_memory stop u wants) = wants_memory (unexplained stop) u (memory-plain stop wants)
 
-pub misuse_ends_as_plain : MisuseEndsAsPlain
-misuse_ends_as_plain asked fault before after _ refused_for (without_texts end none ends) =
-    without_texts (end_unexplained end) none (misused-plain asked fault before after end refused_for ends)
-misuse_ends_as_plain asked fault before after _ refused_for (asked_with_texts a name end is named ends) = absurd (let no : ⊥ = cc in no)
+no-file-plain : (held : Option Content) (failed failed' : ℕ) (name : List ℕ) (stop : Stop) → IsNoFile held failed failed' name stop → IsNoFile held failed failed' name (unexplained stop)
+no-file-plain held failed failed' name _ (unread rose) = unread rose
+no-file-plain held failed failed' name _ (absent none) = absent none
+
+bad-plain : (flags : Flags) (script : Result (List Command) ScriptFault) (stop : Stop) → IsBad flags script stop → IsBad (plain_flags flags) script (unexplained stop)
+bad-plain flags script stop (fault, (advice_, (bad, (is, advised)))) = (fault, (advice.Nothing, (bad, (ap unexplained is, no_more_of_it))))
+
+none-plain : (flags : Flags) (a : Action) (held : Option Content) (failed failed' : ℕ) (stop : Stop) → AsksForNone flags a held failed failed' stop
+    → AsksForNone (plain_flags flags) a held failed failed' (unexplained stop)
+none-plain flags (action.ScriptText text unknown) held failed failed' stop bad = bad-plain flags _ stop bad
+none-plain flags (action.ScriptFile name unknown) held failed failed' stop (inl none) = inl (no-file-plain held failed failed' name stop none)
+none-plain flags (action.ScriptFile name unknown) held failed failed' stop (inr (bytes, has, bad)) = inr (bytes, has, bad-plain flags _ stop bad)
+none-plain flags (action.UndoChecked count name) held failed failed' stop none = no-file-plain held failed failed' name stop none
+none-plain flags _ held failed failed' stop none = absurd none
+
+ends-plain : (asked : Result Asked UsageFault) (before after : Seen) (end : Result Said Stop) → Ends asked before after end → Ends (plain_asked asked) before after (end_unexplained end)
+ends-plain asked before after _ (misused fault advice_ u is) = misused fault advice.Nothing u (ap plain_asked is)
+ends-plain asked before after _ (helped a text u is shows) = helped (plain_request a) text u (ap plain_asked is) shows
+ends-plain asked before after _ (told_version a u is shows) = told_version (plain_request a) u (ap plain_asked is) shows
+ends-plain asked before after _ (asks_for_none a stop u is none) =
+    asks_for_none (plain_request a) (unexplained stop) u (ap plain_asked is) (none-plain a.flags a.action before.content before.failures after.failures stop none)
+ends-plain asked before after _ (steps a step end is asks ends) =
+    steps (plain_request a) step (end_unexplained end) (ap plain_asked is) asks (explained_ends_as_plain a.dir step a.flags before after end ends)
+ends-plain asked before after _ (lists a listing end is asks ends) =
+    lists (plain_request a) listing (end_unexplained end) (ap plain_asked is) asks (listing-plain a.dir listing a.flags before after end ends)
+ends-plain asked before after _ (memory_ran_out stop u wants) = memory_ran_out (unexplained stop) u (memory-plain stop wants)
+
+texts-plain : (a : Asked) (name : List ℕ) (before after : Seen) (end : Result Said Stop) → TextsEnd a name before after end → TextsEnd (plain_request a) name before after (end_unexplained end)
+texts-plain a name before after _ (has_no_file stop u none) =
+    has_no_file (unexplained stop) u (no-file-plain before.content before.failures after.failures name stop none)
+texts-plain a name before after _ (has_no_texts bytes u has none) = has_no_texts bytes u has none
+texts-plain a name before after _ (as_with_files reached bytes texts end u v has lists_them ends) =
+    as_with_files reached bytes texts (end_unexplained end) u v has lists_them (ends-plain (Ok a) _ _ end ends)
+texts-plain a name before after _ (has_no_memory stop u wants) = has_no_memory (unexplained stop) u (memory-plain stop wants)
+
+same-texts : (asked : Result Asked UsageFault) → texts_of (plain_asked asked) ≡ texts_of asked
+same-texts (Err fault) = refl
+same-texts (Ok a) = refl
+
+pub explained_runs_as_plain : ExplainedRunsAsPlain
+explained_runs_as_plain asked before after _ (without_texts end none ends) =
+    without_texts (end_unexplained end) (same-texts asked ∙ none) (ends-plain asked before after end ends)
+explained_runs_as_plain asked before after _ (asked_with_texts a name end is named ends) =
+    asked_with_texts (plain_request a) name (end_unexplained end) (ap plain_asked is) named (texts-plain (plain a) name before after end ends)
 
 -- ---- what is written
 
 pub status_is_plain : StatusIsPlain
 status_is_plain exit_code (Ok said) = refl
 status_is_plain exit_code (Err (Usage fault advice_)) = refl
+status_is_plain exit_code (Err (Script fault advice_)) = refl
 status_is_plain exit_code (Err (Refused fault subject advice_)) = refl
 status_is_plain exit_code (Err _) = refl
 
@@ -134,6 +182,9 @@ pub lines_are_plain : LinesArePlain
 lines_are_plain (Usage fault (advice.Lines text)) =
     (text, ap (λ (l : List ℕ). l ++ text) (sym (append-nil (line (codes "error: " ++ stop_text (Usage fault (advice.Lines text)))))))
 lines_are_plain (Usage fault advice_) = ([], sym (append-nil _))
+lines_are_plain (Script fault (advice.Lines text)) =
+    (text, ap (λ (l : List ℕ). l ++ text) (sym (append-nil (line (codes "error: " ++ stop_text (Script fault (advice.Lines text)))))))
+lines_are_plain (Script fault advice_) = ([], sym (append-nil _))
 lines_are_plain (Refused fault subject (advice.Lines text)) =
     (text, ap (λ (l : List ℕ). l ++ text) (sym (append-nil (line (codes "error: " ++ stop_text (Refused fault subject (advice.Lines text)))))))
 lines_are_plain (Refused fault subject advice_) = ([], sym (append-nil _))
@@ -179,6 +230,18 @@ members_are_plain (Usage fault (advice.Members notes help)) key h n =
     let same = after key (codes "message") message (member (codes "notes") told no_members) no_members (passes key (codes "notes") told no_members n) in
     after key (codes "code") (string (usage_code fault)) (member (codes "help") helps rest) plain (passes key (codes "help") helps rest h ∙ same)
 members_are_plain (Usage fault advice_) key h n = refl
+members_are_plain (Script fault (advice.Members notes help)) key h n =
+    let told = array (items_of (map note_data notes)) in
+    let helps = array (items_of (map string help)) in
+    let message = string (script_fault_text fault) in
+    let name = script_subject fault in
+    let named = after-text key (codes "name") name (member (codes "notes") told no_members) no_members (passes key (codes "notes") told no_members n) in
+    let rest = member (codes "message") message (with_text (codes "name") name (member (codes "notes") told no_members)) in
+    let plain = member (codes "message") message (with_text (codes "name") name no_members) in
+    let same = after key (codes "message") message _ _ named in
+    after key (codes "code") (string (script_code fault)) _ _
+    (after-number key (codes "entry") (script_entry fault) (member (codes "help") helps rest) plain (passes key (codes "help") helps rest h ∙ same))
+members_are_plain (Script fault advice_) key h n = refl
 members_are_plain (Refused fault subject (advice.Members notes help)) key h n =
     let told = array (items_of (map note_data notes)) in
     let helps = array (items_of (map string help)) in

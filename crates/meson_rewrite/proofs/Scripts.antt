@@ -7,6 +7,7 @@ use Rattle.meson_json.specs.Scripts.{script_of}
 use Rattle.meson_json.specs.declared.member_check.UnknownMembers.{UnknownMembers}
 use Rattle.meson_json.specs.declared.fault.ScriptFault.{ScriptFault}
 use Rattle.meson_json.specs.declared.fault.ScriptFault.TheVariants.{NotJson}
+use Rattle.meson_command.specs.declared.asked.Flags.{Flags}
 use Rattle.meson_steps.specs.declared.command.Command.{Command}
 use Rattle.meson_store.specs.Content.{Content}
 use Rattle.meson_store.specs.declared.store_fault.StoreFault.{StoreFault}
@@ -39,16 +40,16 @@ pub of-no-text : (unknown : UnknownMembers) (bytes : List ℕ) → (IsUtf8 bytes
 of-no-text unknown bytes other = by-test-not (is_utf8 bytes) _ _ (not-text (is_utf8 bytes) bytes refl other)
 
 -- a fault of the bytes is one of the file
-pub bad-file : (held : Option Content) (failed failed' : ℕ) (name bytes : List ℕ) (unknown : UnknownMembers) (why : Stop) → HasBytes held name bytes
-    → WantsMemory why ⊎ IsBad (script_in unknown bytes) why → WantsMemory why ⊎ IsNoScript held failed failed' name unknown why
-bad-file held failed failed' name bytes unknown why has (inl m) = inl m
-bad-file held failed failed' name bytes unknown why has (inr bad) = inr (inr (bytes, has, bad))
+pub bad-file : (flags : Flags) (held : Option Content) (failed failed' : ℕ) (name bytes : List ℕ) (unknown : UnknownMembers) (why : Stop) → HasBytes held name bytes
+    → WantsMemory why ⊎ IsBad flags (script_in unknown bytes) why → WantsMemory why ⊎ IsNoScript flags held failed failed' name unknown why
+bad-file flags held failed failed' name bytes unknown why has (inl m) = inl m
+bad-file flags held failed failed' name bytes unknown why has (inr bad) = inr (inr (bytes, has, bad))
 
 -- where there is no file, there is no script
-pub no-script : (held : Option Content) (failed failed' : ℕ) (name : List ℕ) (unknown : UnknownMembers) (why : Stop) → WantsMemory why ⊎ IsNoFile held failed failed' name why
-    → WantsMemory why ⊎ IsNoScript held failed failed' name unknown why
-no-script held failed failed' name unknown why (inl m) = inl m
-no-script held failed failed' name unknown why (inr none) = inr (inl none)
+pub no-script : (flags : Flags) (held : Option Content) (failed failed' : ℕ) (name : List ℕ) (unknown : UnknownMembers) (why : Stop) → WantsMemory why ⊎ IsNoFile held failed failed' name why
+    → WantsMemory why ⊎ IsNoScript flags held failed failed' name unknown why
+no-script flags held failed failed' name unknown why (inl m) = inl m
+no-script flags held failed failed' name unknown why (inr none) = inr (inl none)
 
 -- a file that is not read
 pub unread-file : (held : Option Content) (failed failed' : ℕ) (name : List ℕ) (fault : StoreFault) → IsUnread failed failed' name fault

@@ -32,6 +32,7 @@ use Rattle.meson_rewrite.specs.Stops.{WantsMemory, gathering_stop, undo_stop, un
 use Rattle.meson_rewrite.specs.declared.request.Step.{Step}
 use Rattle.meson_rewrite.specs.declared.request.Step.TheVariants.{Run, Tell, Undo, UndoTo, UndoChecked, Redo, ForgetOldest, ForgetAll}
 use Rattle.meson_rewrite.specs.declared.said.Said.{Said}
+use Rattle.meson_rewrite.specs.declared.advice.Advice.TheVariants.{Nothing}
 use Rattle.meson_rewrite.specs.declared.stop.Stop.{Stop}
 use Rattle.meson_rewrite.specs.declared.stop.Stop.TheVariants.{Script, Refused, Store}
 
@@ -46,22 +47,22 @@ gathered-unread gather.TooManyFiles = refl
 gathered-unread (gather.Store fault) = refl
 
 -- the log
-pub log-unread : (text : List ℕ) (why : Stop) → WantsMemory why ⊎ ((why ≡ Script script.BadLog) × (logged text ≡ None)) → unread_by why ≡ None
+pub log-unread : (text : List ℕ) (why : Stop) → WantsMemory why ⊎ ((why ≡ Script script.BadLog Nothing) × (logged text ≡ None)) → unread_by why ≡ None
 log-unread text why (inl m) = memory-unread why m
 log-unread text why (inr bad) = ap unread_by bad.0
 
 -- ---- what is asked for
 
-pub bad-unread : (r : Result (List Command) ScriptFault) (why : Stop) → WantsMemory why ⊎ IsBad r why → unread_by why ≡ None
-bad-unread r why (inl m) = memory-unread why m
-bad-unread r why (inr bad) = ap unread_by bad.2
+pub bad-unread : (flags : Flags) (r : Result (List Command) ScriptFault) (why : Stop) → WantsMemory why ⊎ IsBad flags r why → unread_by why ≡ None
+bad-unread flags r why (inl m) = memory-unread why m
+bad-unread flags r why (inr bad) = ap unread_by bad.1.1.1.0
 
-pub asked-unread : (a : Action) (why : Stop) → names_file a ≡ false → WantsMemory why ⊎ AsksForNone a None 0 0 why → unread_by why ≡ None
-asked-unread a why unnamed (inl m) = memory-unread why m
-asked-unread (action.ScriptText text unknown) why unnamed (inr bad) = ap unread_by bad.2
-asked-unread (action.ScriptFile name unknown) why unnamed (inr none) = absurd (let no : ⊥ = cc in no)
-asked-unread (action.UndoChecked count name) why unnamed (inr none) = absurd (let no : ⊥ = cc in no)
-asked-unread _ why unnamed (inr none) = absurd none
+pub asked-unread : (flags : Flags) (a : Action) (why : Stop) → names_file a ≡ false → WantsMemory why ⊎ AsksForNone flags a None 0 0 why → unread_by why ≡ None
+asked-unread flags a why unnamed (inl m) = memory-unread why m
+asked-unread flags (action.ScriptText text unknown) why unnamed (inr bad) = ap unread_by bad.1.1.1.0
+asked-unread flags (action.ScriptFile name unknown) why unnamed (inr none) = absurd (let no : ⊥ = cc in no)
+asked-unread flags (action.UndoChecked count name) why unnamed (inr none) = absurd (let no : ⊥ = cc in no)
+asked-unread flags _ why unnamed (inr none) = absurd none
 
 -- ---- a step that is refused
 

@@ -9,7 +9,7 @@ use Rattle.meson_rewrite.specs.Stops.{WantsMemory}
 use Rattle.meson_rewrite.specs.declared.advice.Advice.TheVariants.{Nothing}
 use Rattle.meson_rewrite.specs.declared.stop.Stop.TheVariants.{Script, Usage}
 
-pub script-or-memory : (P : ScriptFault → Type 0) (fault : ScriptFault) → (fault ≢ script.OutOfMemory → P fault) → WantsMemory (Script fault) ⊎ P fault
+pub script-or-memory : (P : ScriptFault → Type 0) (fault : ScriptFault) → (fault ≢ script.OutOfMemory → P fault) → WantsMemory (Script fault Nothing) ⊎ P fault
 script-or-memory P script.NotJson h = inr (h (λ e. cc))
 script-or-memory P script.NotArray h = inr (h (λ e. cc))
 script-or-memory P script.TooMany h = inr (h (λ e. cc))
@@ -20,7 +20,7 @@ script-or-memory P (script.UnknownOperation i) h = inr (h (λ e. cc))
 script-or-memory P (script.Unsupported i) h = inr (h (λ e. cc))
 script-or-memory P (script.UnknownMember i name) h = inr (h (λ e. cc))
 script-or-memory P script.BadLog h = inr (h (λ e. cc))
-script-or-memory P script.OutOfMemory h = inl refl
+script-or-memory P script.OutOfMemory h = inl (refl, refl)
 
 pub usage-or-memory : (P : UsageFault → Type 0) (fault : UsageFault) → (fault ≢ usage.OutOfMemory → P fault) → WantsMemory (Usage fault Nothing) ⊎ P fault
 usage-or-memory P usage.Usage h = inr (h (λ e. cc))

@@ -13,11 +13,12 @@ use Rattle.meson_rewrite.specs.declared.advice.Advice.TheVariants.{Nothing}
 use Rattle.meson_rewrite.specs.declared.request.Step.{Step}
 use Rattle.meson_rewrite.specs.declared.said.Said.{Said}
 use Rattle.meson_rewrite.specs.declared.stop.Stop.{Stop}
-use Rattle.meson_rewrite.specs.declared.stop.Stop.TheVariants.{Refused, Usage}
+use Rattle.meson_rewrite.specs.declared.stop.Stop.TheVariants.{Refused, Script, Usage}
 
 -- the stop without what explains it
 abbrev pub unexplained : Stop → Stop
 unexplained (Usage fault advice) = Usage fault Nothing
+unexplained (Script fault advice) = Script fault Nothing
 unexplained (Refused fault subject advice) = Refused fault subject Nothing
 unexplained stop = stop
 
@@ -29,16 +30,23 @@ end_unexplained (Err stop) = Err (unexplained stop)
 abbrev pub plain_flags : Flags → Flags
 plain_flags flags = record flags { explain = false }
 
+abbrev pub plain_request : Asked → Asked
+plain_request a = record a { flags = plain_flags a.flags }
+
+abbrev pub plain_asked : Result Asked UsageFault → Result Asked UsageFault
+plain_asked (Err fault) = Err fault
+plain_asked (Ok a) = Ok (plain_request a)
+
 -- However a step ends where the words ask for an explanation, it may end so where they do not: the store is then as after that, what is said is the same, and
 -- a refusal is the same without what explains it.
 abbrev pub ExplainedEndsAsPlain : Type 0
 ExplainedEndsAsPlain = (dir : Option (List ℕ)) (step : Step) (flags : Flags) (before after : Seen) (end : Result Said Stop)
     → StepEnds dir step flags before after end → StepEnds dir step (plain_flags flags) before after (end_unexplained end)
 
--- However a run ends for words that are not a request, it may end so without what explains them: the store is then as after that.
-abbrev pub MisuseEndsAsPlain : Type 0
-MisuseEndsAsPlain = (asked : Result Asked UsageFault) (fault : UsageFault) (before after : Seen) (end : Result Said Stop) → asked ≡ Err fault
-    → RunEnds asked before after end → RunEnds asked before after (end_unexplained end)
+-- The same of a whole run, also for words that are not a request and for a script that is not valid.
+abbrev pub ExplainedRunsAsPlain : Type 0
+ExplainedRunsAsPlain = (asked : Result Asked UsageFault) (before after : Seen) (end : Result Said Stop)
+    → RunEnds asked before after end → RunEnds (plain_asked asked) before after (end_unexplained end)
 
 -- The status is the same.
 abbrev pub StatusIsPlain : Type 0

@@ -99,7 +99,7 @@ store_code store.OutOfMemory = memory_code
 
 abbrev pub stop_code : Stop → List ℕ
 stop_code (Usage fault advice) = usage_code fault
-stop_code (Script fault) = script_code fault
+stop_code (Script fault advice) = script_code fault
 stop_code (Parse name fault) = file_fault_code fault
 stop_code TooManyFiles = codes "M1"
 stop_code (BadFileName place) = codes "M2"

@@ -33,7 +33,7 @@ file_text name fault = name ++ (codes ": " ++ parse_fault_text fault)
 -- why a run was stopped
 abbrev pub stop_text : Stop → List ℕ
 stop_text (Usage fault advice) = usage_fault_text fault
-stop_text (Script fault) = script_fault_text fault
+stop_text (Script fault advice) = script_fault_text fault
 stop_text (Parse name fault) = file_text name fault
 stop_text TooManyFiles = load_fault_text load.TooManyFiles
 stop_text (BadFileName place) = load_fault_text (load.BadFileName place)
@@ -53,7 +53,7 @@ abbrev pub left_by : Stop → List (List ℕ)
 left_by (Store fault) = still_new fault
 left_by _ = []
 
--- the lines of what explains a refused command, or words
+-- the lines of what explains a refused command, a script, or words
 abbrev pub advice_lines : Advice → List ℕ
 advice_lines (advice.Lines text) = text
 advice_lines _ = []
@@ -61,6 +61,7 @@ advice_lines _ = []
 -- what is below the line of a fault: the files that may have their new bytes, or what explains it
 abbrev pub lines_below : Stop → List ℕ
 lines_below (Usage fault advice) = advice_lines advice
+lines_below (Script fault advice) = advice_lines advice
 lines_below (Refused fault subject advice) = advice_lines advice
 lines_below (Store fault) = left_lines (still_new fault)
 lines_below _ = []

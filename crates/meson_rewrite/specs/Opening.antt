@@ -14,6 +14,7 @@ use Rattle.meson_rewrite.specs.Logs.{IsBadLog, IsLogFor, log_name}
 use Rattle.meson_rewrite.specs.Stops.{gathering_stop}
 use Rattle.meson_rewrite.specs.declared.opening.LogUse.{LogUse}
 use Rattle.meson_rewrite.specs.declared.opening.LogUse.TheVariants.{Kept}
+use Rattle.meson_rewrite.specs.declared.advice.Advice.TheVariants.{Nothing}
 use Rattle.meson_rewrite.specs.declared.stop.Stop.{Stop}
 use Rattle.meson_rewrite.specs.declared.stop.Stop.TheVariants.{Script, Store}
 
@@ -27,7 +28,7 @@ module _ (how : LogUse) (before : Option Content) (dir : Option (List ℕ)) wher
   -- why there is no log, except out of memory: one that is kept is not read, or is not valid
   pub data IsNoLog (failed failed' : ℕ) : Stop → Type 0 where
     log_unread : how ≡ Kept → Rose failed failed' → IsNoLog failed failed' (Store (ReadFailed log_name))
-    bad_log : how ≡ Kept → Told before (λ content. IsBadLog (held_bytes content dir log_name)) → IsNoLog failed failed' (Script BadLog)
+    bad_log : how ≡ Kept → Told before (λ content. IsBadLog (held_bytes content dir log_name)) → IsNoLog failed failed' (Script BadLog Nothing)
 
   -- the files are not a project, or they are and have no log
   pub data OpensNone (failed failed' : ℕ) : Stop → Type 0 where

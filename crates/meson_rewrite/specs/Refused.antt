@@ -69,7 +69,7 @@ script_entry (script.UnknownMember index member_) = Some index
 script_entry _ = None
 
 abbrev pub stop_entry : Stop → Option ℕ
-stop_entry (Script fault) = script_entry fault
+stop_entry (Script fault advice) = script_entry fault
 stop_entry _ = None
 
 -- ---- the name of the file
@@ -127,11 +127,11 @@ script_subject (script.UnknownMember index member_) = Some member_
 script_subject _ = None
 
 abbrev pub stop_name : Stop → Option (List ℕ)
-stop_name (Script fault) = script_subject fault
+stop_name (Script fault advice) = script_subject fault
 stop_name (Refused fault subject advice) = refusal_subject fault.refusal subject
 stop_name _ = None
 
--- ---- what explains a refused command, or words
+-- ---- what explains a refused command, a script, or words
 
 abbrev pub advice_help : Advice → Option (List (List ℕ))
 advice_help (advice.Members notes help) = Some help
@@ -139,6 +139,7 @@ advice_help _ = None
 
 abbrev pub stop_help : Stop → Option (List (List ℕ))
 stop_help (Usage fault advice_) = advice_help advice_
+stop_help (Script fault advice_) = advice_help advice_
 stop_help (Refused fault subject advice_) = advice_help advice_
 stop_help _ = None
 
@@ -148,6 +149,7 @@ advice_notes _ = None
 
 abbrev pub stop_notes : Stop → Option (List PlacedNote)
 stop_notes (Usage fault advice_) = advice_notes advice_
+stop_notes (Script fault advice_) = advice_notes advice_
 stop_notes (Refused fault subject advice_) = advice_notes advice_
 stop_notes _ = None
 

@@ -1,10 +1,13 @@
--- What explains words that are not a request, where one of them asks for it.
+-- What explains words that are not a request, and a script that is not valid, where the words ask for it.
 use Rattle.std.specs.Prelude.{◌≡◌, ◌≢◌, ⊤, ℕ, Bool, true, bytes_eq, codes, List, [], map, Result, Err, IfErr}
 use Rattle.std.specs.List.{list_any}
 use Rattle.meson_command.specs.declared.asked.Asked.{Asked}
+use Rattle.meson_command.specs.declared.asked.Flags.{Flags}
 use Rattle.meson_command.specs.declared.fault.UsageFault.{UsageFault}
 use Rattle.meson_command.specs.declared.fault.UsageFault.TheVariants as usage
 use Rattle.meson_explaining.specs.Notes.{plain_note}
+use Rattle.meson_json.specs.declared.fault.ScriptFault.{ScriptFault}
+use Rattle.meson_json.specs.declared.fault.ScriptFault.TheVariants as script
 use Rattle.meson_rewrite.specs.Advising.{advice_of}
 use Rattle.meson_rewrite.specs.declared.advice.Advice.{Advice}
 use Rattle.meson_rewrite.specs.declared.advice.Advice.TheVariants.{Nothing}
@@ -16,6 +19,8 @@ use Rattle.meson_rewrite.specs.declared.stop.Stop.TheVariants.{Usage}
 abbrev pub TellsOfNoFile : Bool → Advice → Type 0
 TellsOfNoFile json advice =
     (notes : List (List ℕ)) × ((help : List (List ℕ)) × (advice ≡ advice_of json [] (record { notes = map plain_note notes; help = help })))
+
+-- ---- words
 
 -- one of the words is `--explain`
 abbrev pub asks_to_explain : List (List ℕ) → Bool
@@ -39,3 +44,10 @@ Advises explains json asked end = (fault : UsageFault) → asked ≡ Err fault �
 pub data IsMisused (explains json : Bool) (fault : UsageFault) : Result Said Stop → Type 0 where
   words_refused : (advice : Advice) → IsMisuseAdvice explains json fault advice → IsMisused explains json fault (Err (Usage fault advice))
   no_memory_left : IsMisused explains json fault (Err (Usage usage.OutOfMemory Nothing))
+
+-- ---- a script
+
+-- Nothing is said of memory that ran out, nor where the words do not ask for it. If memory runs out in explaining, no more is said.
+pub data IsScriptAdvice (flags : Flags) (fault : ScriptFault) : Advice → Type 0 where
+  no_more_of_it : IsScriptAdvice flags fault Nothing
+  told_of_it : (advice : Advice) → flags.explain ≡ true → fault ≢ script.OutOfMemory → TellsOfNoFile flags.json advice → IsScriptAdvice flags fault advice

@@ -10,6 +10,9 @@ use Rattle.meson_json.specs.declared.member_check.UnknownMembers.{UnknownMembers
 use Rattle.meson_json.specs.declared.script.Script.{Script}
 use Rattle.meson_json.specs.Scripts.{script_of}
 use Rattle.meson_command.specs.declared.asked.Action.{Action}
+use Rattle.meson_command.specs.declared.asked.Flags.{Flags}
+use Rattle.meson_rewrite.specs.Remarks.{IsScriptAdvice}
+use Rattle.meson_rewrite.specs.declared.advice.Advice.{Advice}
 use Rattle.meson_command.specs.declared.asked.Action.TheVariants as action
 use Rattle.meson_store.specs.Content.{Content, Rose}
 use Rattle.meson_store.specs.declared.store_fault.StoreFault.TheVariants as store
@@ -46,18 +49,18 @@ script commands = record { commands = commands }
 abbrev pub script_in : UnknownMembers → List ℕ → Result (List Command) ScriptFault
 script_in unknown bytes = if is_utf8 bytes then script_of unknown (read bytes) else Err NotJson
 
--- it is the fault of what is not a valid script
-abbrev pub IsBad : Result (List Command) ScriptFault → Stop → Type 0
-IsBad script why = (fault : ScriptFault) × (script ≡ Err fault) × (why ≡ stop.Script fault)
+-- it is the fault of what is not a valid script, with what explains it
+abbrev pub IsBad : Flags → Result (List Command) ScriptFault → Stop → Type 0
+IsBad flags script why = (fault : ScriptFault) × ((advice : Advice) × ((script ≡ Err fault) × ((why ≡ stop.Script fault advice) × IsScriptAdvice flags fault advice)))
 
 -- the commands of the file of that name
 abbrev pub IsScriptOf : Option Content → List ℕ → UnknownMembers → List Command → Type 0
 IsScriptOf held name unknown commands = (bytes : List ℕ) × HasBytes held name bytes × (script_in unknown bytes ≡ Ok commands)
 
 -- the file of that name is not read, is not there, or is not a valid script
-abbrev pub IsNoScript : Option Content → ℕ → ℕ → List ℕ → UnknownMembers → Stop → Type 0
-IsNoScript held failed failed' name unknown why =
-    IsNoFile held failed failed' name why ⊎ ((bytes : List ℕ) × HasBytes held name bytes × IsBad (script_in unknown bytes) why)
+abbrev pub IsNoScript : Flags → Option Content → ℕ → ℕ → List ℕ → UnknownMembers → Stop → Type 0
+IsNoScript flags held failed failed' name unknown why =
+    IsNoFile held failed failed' name why ⊎ ((bytes : List ℕ) × HasBytes held name bytes × IsBad flags (script_in unknown bytes) why)
 
 -- ---- the step that an action requests, a run with this title, and that it is one
 
@@ -84,8 +87,8 @@ AsksFor title action.Version held r = r ≡ request.Show version_line
 
 -- ---- why there is no request, except out of memory
 
-abbrev pub AsksForNone : Action → Option Content → ℕ → ℕ → Stop → Type 0
-AsksForNone (action.ScriptText text unknown) held failed failed' why = IsBad (script_of unknown (read text)) why
-AsksForNone (action.ScriptFile name unknown) held failed failed' why = IsNoScript held failed failed' name unknown why
-AsksForNone (action.UndoChecked count name) held failed failed' why = IsNoFile held failed failed' name why
-AsksForNone _ held failed failed' why = ⊥
+abbrev pub AsksForNone : Flags → Action → Option Content → ℕ → ℕ → Stop → Type 0
+AsksForNone flags (action.ScriptText text unknown) held failed failed' why = IsBad flags (script_of unknown (read text)) why
+AsksForNone flags (action.ScriptFile name unknown) held failed failed' why = IsNoScript flags held failed failed' name unknown why
+AsksForNone flags (action.UndoChecked count name) held failed failed' why = IsNoFile held failed failed' name why
+AsksForNone flags _ held failed failed' why = ⊥

@@ -106,7 +106,7 @@ pub data Ends (asked : Result Asked UsageFault) (before after : Seen) : Result S
       → Ends asked before after (Ok (shown_text version_line))
   -- the words request a script that is not valid
   asks_for_none : (a : Asked) (stop : Stop) → Untouched before after → asked ≡ Ok (without_text a)
-      → AsksForNone a.action before.content before.failures after.failures stop → Ends asked before after (Err stop)
+      → AsksForNone a.flags a.action before.content before.failures after.failures stop → Ends asked before after (Err stop)
   steps : (a : Asked) (step : Step) (end : Result Said Stop) → asked ≡ Ok (without_text a) → AsksFor a.title a.action before.content (request.Step step)
       → StepEnds a.dir step a.flags before after end → Ends asked before after end
   lists : (a : Asked) (listing : Listing) (end : Result Said Stop) → asked ≡ Ok (without_text a)

@@ -39,7 +39,7 @@ undo_stop files (undo.Load load.OutOfMemory) = Store store.OutOfMemory
 -- an allocation failed, whichever step made it
 abbrev pub WantsMemory : Stop → Type 0
 WantsMemory (Usage fault advice) = (fault ≡ usage.OutOfMemory) × (advice ≡ Nothing)
-WantsMemory (Script fault) = fault ≡ script.OutOfMemory
+WantsMemory (Script fault advice) = (fault ≡ script.OutOfMemory) × (advice ≡ Nothing)
 WantsMemory (Refused fault subject advice) = (fault.refusal ≡ refusal.OutOfMemory) × (advice ≡ Nothing)
 WantsMemory (Splice fault) = fault ≡ splice.OutOfMemory
 WantsMemory (Store fault) = fault ≡ store.OutOfMemory

@@ -132,7 +132,7 @@ pub(crate) fn code_of(stop: &Stop) -> &'static str
 {
     match stop {
         Stop::Usage { fault, .. } => usage_code(fault),
-        Stop::Script(fault) => script_code(fault),
+        Stop::Script { fault, .. } => script_code(fault),
         Stop::Parse { fault, .. } => file_fault_code(*fault),
         Stop::TooManyFiles => "M1",
         Stop::BadFileName(_) => "M2",

@@ -1,7 +1,7 @@
 //! Laws of checked undos, of the status of a change, of a read that failed, of answers and refusals as objects, and of texts in place of files. The functions
 //! do nothing; the contract of each is a law.
 
-ghost use Rattle.meson_rewrite.specs.AdviceLaws.{ExplainedEndsAsPlain, LinesArePlain, MembersArePlain, MisuseEndsAsPlain, StatusIsPlain};
+ghost use Rattle.meson_rewrite.specs.AdviceLaws.{ExplainedEndsAsPlain, ExplainedRunsAsPlain, LinesArePlain, MembersArePlain, StatusIsPlain};
 ghost use Rattle.meson_rewrite.specs.Laws.{CheckedUndosRestore, OneUnread, SameSumsUndo, StatusesTellChanges};
 ghost use Rattle.meson_rewrite.specs.ObjectLaws.{EditsOfObjectsMake};
 ghost use Rattle.meson_rewrite.specs.RefusalLaws.{CodesAreWords, MembersAreWords, SubjectsAreWords};
@@ -68,7 +68,7 @@ pub fn texts_are_files()
 /// and so are the output, the status, the line and the other members.
 pub fn explained_as_plain()
     ensures ends { ExplainedEndsAsPlain }
-    ensures misuse { MisuseEndsAsPlain }
+    ensures runs { ExplainedRunsAsPlain }
     ensures status { StatusIsPlain }
     ensures lines { LinesArePlain }
     ensures members { MembersArePlain }

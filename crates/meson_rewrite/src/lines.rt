@@ -42,6 +42,10 @@ fn tell_below<O: Output>(alloc: Global, to: &mut O, stop: &Stop) -> io::Result<(
             advice: Advice::Lines(lines),
             ..
         }
+        | Stop::Script {
+            advice: Advice::Lines(lines),
+            ..
+        }
         | Stop::Refused {
             advice: Advice::Lines(lines),
             ..

@@ -3,6 +3,7 @@
 ghost use Rattle.std.specs.Prelude.{◌≡◌, ◌≤◌, ◌⊎◌, IfOk, IfErr, None, OnOk, Some, true};
 ghost use Rattle.meson_json.specs.Log.{is_text_history, logged};
 ghost use Rattle.meson_json.specs.declared.fault.ScriptFault.TheVariants.{BadLog};
+ghost use Rattle.meson_rewrite.specs.declared.advice.Advice.TheVariants.{Nothing};
 ghost use Rattle.meson_rewrite.specs.declared.stop.Stop.TheVariants.{Script};
 ghost use Rattle.meson_gathering.specs.Gathering.{Told, held_bytes, named_folder};
 ghost use Rattle.meson_rewrite.specs.Logs.{IsLog, IsLogFor, log_name, log_use};
@@ -12,6 +13,7 @@ ghost use Rattle.meson_rewrite.specs.Stops.{WantsMemory, unread_by};
 ghost use Rattle.meson_store.specs.StoreCalls.{one_more};
 ghost use Rattle.meson_gathering.specs.ReadCounts.{MayAsk};
 
+use crate::advice::Advice;
 use crate::stop::Stop;
 use meson_gathering::{gather, read_file};
 use meson_json::{empty_log, read_log};
@@ -56,11 +58,14 @@ struct Log {
 fn log_in(alloc: Global, text: Vec<u8>) -> Result<Log, Stop>
     ensures log { IfOk result (λ log. (log.text ≡ text) × (logged text.items ≡ Some log.history)) }
     ensures text { IfOk result (λ log. is_text_history log.history ≡ true) }
-    ensures none { IfErr result (λ why. WantsMemory why ⊎ ((why ≡ Script BadLog) × (logged text.items ≡ None))) }
+    ensures none { IfErr result (λ why. WantsMemory why ⊎ ((why ≡ Script BadLog Nothing) × (logged text.items ≡ None))) }
 {
     match read_log(alloc, text.as_slice()) {
         Ok(history) => Ok(Log { text, history }),
-        Err(fault) => Err(Stop::Script(fault)),
+        Err(fault) => Err(Stop::Script {
+            fault,
+            advice: Advice::Nothing,
+        }),
     }
 }
 
@@ -95,7 +100,10 @@ fn no_changes(alloc: Global) -> Result<Log, Stop>
             text,
             history: History::new(alloc),
         }),
-        Err(fault) => Err(Stop::Script(fault)),
+        Err(fault) => Err(Stop::Script {
+            fault,
+            advice: Advice::Nothing,
+        }),
     }
 }
 

@@ -122,7 +122,7 @@ fn answer<S: Store>(alloc: Global, store: &mut S, asked: Asked) -> Result<Said, 
         texts: _,
         action,
     } = asked;
-    match request_of(alloc, store, action, title) {
+    match request_of(alloc, store, action, title, flags) {
         Ok(ProgramRequest::Show(text)) => Ok(Said::show(alloc, text)),
         Ok(ProgramRequest::Step(step)) => { do_step(alloc, store, folder(&dir), &step, flags) }
         Ok(ProgramRequest::List(listing)) => list(alloc, store, folder(&dir), listing, flags),

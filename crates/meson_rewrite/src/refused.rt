@@ -96,14 +96,15 @@ impl Stop {
         ensures { result ≡ stop_entry self.now }
     {
         match self {
-            Stop::Script(
-                ScriptFault::NotObject(index)
+            Stop::Script {
+                fault: ScriptFault::NotObject(index)
                 | ScriptFault::UnknownType(index)
                 | ScriptFault::BadField(index, _)
                 | ScriptFault::UnknownOperation(index)
                 | ScriptFault::Unsupported(index)
                 | ScriptFault::UnknownMember(index, _),
-            ) => Some(*index),
+                ..
+            } => Some(*index),
             _ => None,
         }
     }
@@ -151,6 +152,10 @@ impl Stop {
                 advice: Advice::Members { help, .. },
                 ..
             }
+            | Stop::Script {
+                advice: Advice::Members { help, .. },
+                ..
+            }
             | Stop::Refused {
                 advice: Advice::Members { help, .. },
                 ..
@@ -168,6 +173,10 @@ impl Stop {
                 advice: Advice::Members { notes, .. },
                 ..
             }
+            | Stop::Script {
+                advice: Advice::Members { notes, .. },
+                ..
+            }
             | Stop::Refused {
                 advice: Advice::Members { notes, .. },
                 ..
@@ -182,9 +191,10 @@ impl Stop {
     {
         match self {
             Stop::Refused { fault, subject, .. } => refusal_subject(&fault.refusal, subject),
-            Stop::Script(
-                ScriptFault::BadField(_, member) | ScriptFault::UnknownMember(_, member),
-            ) => Some(member.get()),
+            Stop::Script {
+                fault: ScriptFault::BadField(_, member) | ScriptFault::UnknownMember(_, member),
+                ..
+            } => Some(member.get()),
             _ => None,
         }
     }

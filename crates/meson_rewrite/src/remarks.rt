@@ -1,13 +1,13 @@
-//! What explains words that are not a request.
+//! What explains words that are not a request, and a script that is not valid.
 
 ghost use Rattle.std.specs.Prelude.{◌≡◌, IfOk, map, string_bytes};
 ghost use Rattle.meson_explaining.specs.Notes.{plain_note};
-ghost use Rattle.meson_rewrite.specs.Remarks.{IsMisuseAdvice, TellsOfNoFile, asks_to_explain};
+ghost use Rattle.meson_rewrite.specs.Remarks.{IsMisuseAdvice, IsScriptAdvice, TellsOfNoFile, asks_to_explain};
 
 use crate::advice::{Advice, advice_of};
-use meson_command::{UsageFault, explain_words};
+use meson_command::{Flags, UsageFault, explain_words};
 use meson_explaining::{Explanation, Note};
-use meson_json::Remarks;
+use meson_json::{Remarks, ScriptFault, explain_script};
 use meson_splice::{FileSet, Many, Text};
 use std::alloc::{AllocError, Global};
 
@@ -75,6 +75,37 @@ pub(crate) fn misuse_advice(
     match fault {
         UsageFault::OutOfMemory => Advice::Nothing,
         _ if asks_to_explain(words) => match words_explained(alloc, words, fault, json) {
+            Ok(advice) => advice,
+            Err(AllocError) => Advice::Nothing,
+        },
+        _ => Advice::Nothing,
+    }
+}
+
+/// What explains a script of these bytes that is not valid.
+fn script_explained(
+    alloc: Global,
+    bytes: &[u8],
+    fault: &ScriptFault,
+    json: bool,
+) -> Result<Advice, AllocError>
+    ensures { IfOk result (TellsOfNoFile json) }
+{
+    remarked(alloc, explain_script(alloc, bytes, fault)?, json)
+}
+
+/// What explains a script of these bytes that is not valid, if the flags ask for it. If it is out of memory, no more is said than without it.
+pub(crate) fn script_advice(
+    alloc: Global,
+    bytes: &[u8],
+    fault: &ScriptFault,
+    flags: Flags,
+) -> Advice
+    ensures { IsScriptAdvice flags fault.now result }
+{
+    match fault {
+        ScriptFault::OutOfMemory => Advice::Nothing,
+        _ if flags.explain => match script_explained(alloc, bytes, fault, flags.json) {
             Ok(advice) => advice,
             Err(AllocError) => Advice::Nothing,
         },

@@ -13,9 +13,11 @@ ghost use Rattle.meson_rewrite.specs.Stops.{WantsMemory, unread_by};
 ghost use Rattle.meson_store.specs.StoreCalls.{one_more};
 ghost use Rattle.meson_gathering.specs.ReadCounts.{AsksNone, MayAsk};
 
+use crate::advice::Advice;
 use crate::lines::version_text;
+use crate::remarks::script_advice;
 use crate::stop::Stop;
-use meson_command::Action;
+use meson_command::{Action, Flags};
 use meson_gathering::read_file;
 use meson_json::{Script, ScriptFault, UnknownMembers};
 use meson_splice::{Bytes, Text};
@@ -79,24 +81,41 @@ pub(crate) enum Step {
 }
 
 /// The script of a text of JSON.
-fn script_from(alloc: Global, text: &str, unknown: UnknownMembers) -> Result<Script, Stop>
+fn script_from(
+    alloc: Global,
+    text: &str,
+    unknown: UnknownMembers,
+    flags: Flags,
+) -> Result<Script, Stop>
     ensures ok { IfOk result (λ s. script_of unknown (read text.now) ≡ Ok s.commands) }
-    ensures none { IfErr result (λ why. WantsMemory why ⊎ IsBad (script_of unknown (read text.now)) why) }
+    ensures none { IfErr result (λ why. WantsMemory why ⊎ IsBad flags (script_of unknown (read text.now)) why) }
 {
     match Script::from_json_with(alloc, text, unknown) {
         Ok(script) => Ok(script),
-        Err(fault) => Err(Stop::Script(fault)),
+        Err(fault) => {
+            let advice = script_advice(alloc, text.as_bytes(), &fault, flags);
+            Err(Stop::Script { fault, advice })
+        }
     }
 }
 
 /// The script of a file's bytes.
-fn script_in(alloc: Global, bytes: &[u8], unknown: UnknownMembers) -> Result<Script, Stop>
+fn script_in(
+    alloc: Global,
+    bytes: &[u8],
+    unknown: UnknownMembers,
+    flags: Flags,
+) -> Result<Script, Stop>
     ensures ok { IfOk result (λ s. script_in unknown bytes.now ≡ Ok s.commands) }
-    ensures none { IfErr result (λ why. WantsMemory why ⊎ IsBad (script_in unknown bytes.now) why) }
+    ensures none { IfErr result (λ why. WantsMemory why ⊎ IsBad flags (script_in unknown bytes.now) why) }
 {
     match from_utf8(bytes) {
-        Ok(text) => script_from(alloc, text, unknown),
-        Err(_) => Err(Stop::Script(ScriptFault::NotJson)),
+        Ok(text) => script_from(alloc, text, unknown, flags),
+        Err(_) => {
+            let fault = ScriptFault::NotJson;
+            let advice = script_advice(alloc, bytes, &fault, flags);
+            Err(Stop::Script { fault, advice })
+        }
     }
 }
 
@@ -130,9 +149,10 @@ fn read_script<S: Store>(
     store: &mut S,
     name: Text,
     unknown: UnknownMembers,
+    flags: Flags,
 ) -> Result<Script, Stop>
     ensures read { IfOk result (λ s. IsScriptOf (S.content store.old) name unknown s.commands) }
-    ensures none { IfErr result (λ why. WantsMemory why ⊎ IsNoScript (S.content store.old) (S.failures store.old) (S.failures store.new) name unknown why) }
+    ensures none { IfErr result (λ why. WantsMemory why ⊎ IsNoScript flags (S.content store.old) (S.failures store.old) (S.failures store.new) name unknown why) }
     ensures kept { S.content store.new ≡ S.content store.old }
     ensures counts { S.failures store.old ≤ S.failures store.new }
     ensures no_replace { S.replaces store.new ≡ S.replaces store.old }
@@ -140,7 +160,7 @@ fn read_script<S: Store>(
     ensures asks_at_most { IfErr result (λ why. MayAsk name (S.reads store.old) (S.reads store.new) (unread_by why)) }
 {
     let file = read_named(alloc, store, name)?;
-    script_in(alloc, file.bytes.get(), unknown)
+    script_in(alloc, file.bytes.get(), unknown, flags)
 }
 
 /// The script of one command.
@@ -150,7 +170,10 @@ fn script_of_one(alloc: Global, command: Command) -> Result<Script, Stop>
 {
     match Script::of(alloc, command) {
         Ok(script) => Ok(script),
-        Err(fault) => Err(Stop::Script(fault)),
+        Err(fault) => Err(Stop::Script {
+            fault,
+            advice: Advice::Nothing,
+        }),
     }
 }
 
@@ -172,12 +195,17 @@ fn version_asked(alloc: Global) -> Result<ProgramRequest, Stop>
 }
 
 /// The request of an action that names no file; a run keeps its change under the title.
-fn asked_for(alloc: Global, action: Action, title: Text) -> Result<ProgramRequest, Stop>
+fn asked_for(
+    alloc: Global,
+    action: Action,
+    title: Text,
+    flags: Flags,
+) -> Result<ProgramRequest, Stop>
     requires title { is_title title ≡ true }
     requires no_file { names_file action ≡ false }
     ensures asks { IfOk result (λ r. AsksFor title action None r) }
     ensures titled { IfOk result StepsTitled }
-    ensures none { IfErr result (λ why. WantsMemory why ⊎ AsksForNone action None 0 0 why) }
+    ensures none { IfErr result (λ why. WantsMemory why ⊎ AsksForNone flags action None 0 0 why) }
 {
     match action {
         Action::Help(text) => Ok(ProgramRequest::Show(text)),
@@ -185,7 +213,7 @@ fn asked_for(alloc: Global, action: Action, title: Text) -> Result<ProgramReques
         Action::Run(script) => Ok(ProgramRequest::Step(Step::Run { script, title })),
         Action::Info(command) => told_of(alloc, command),
         Action::ScriptText { text, unknown } => {
-            let script = script_from(alloc, text.get(), unknown)?;
+            let script = script_from(alloc, text.get(), unknown, flags)?;
             Ok(ProgramRequest::Step(Step::Run { script, title }))
         }
         Action::Undo => Ok(ProgramRequest::Step(Step::Undo)),
@@ -213,11 +241,12 @@ pub(crate) fn request_of<S: Store>(
     store: &mut S,
     action: Action,
     title: Text,
+    flags: Flags,
 ) -> Result<ProgramRequest, Stop>
     requires { is_title title ≡ true }
     ensures asks { IfOk result (λ r. AsksFor title action (S.content store.old) r) }
     ensures titled { IfOk result StepsTitled }
-    ensures none { IfErr result (λ why. WantsMemory why ⊎ AsksForNone action (S.content store.old) (S.failures store.old) (S.failures store.new) why) }
+    ensures none { IfErr result (λ why. WantsMemory why ⊎ AsksForNone flags action (S.content store.old) (S.failures store.old) (S.failures store.new) why) }
     ensures kept { S.content store.new ≡ S.content store.old }
     ensures counts { S.failures store.old ≤ S.failures store.new }
     ensures no_replace { S.replaces store.new ≡ S.replaces store.old }
@@ -228,13 +257,13 @@ pub(crate) fn request_of<S: Store>(
 {
     match action {
         Action::ScriptFile { name, unknown } => {
-            let script = read_script(alloc, store, name, unknown)?;
+            let script = read_script(alloc, store, name, unknown, flags)?;
             Ok(ProgramRequest::Step(Step::Run { script, title }))
         }
         Action::UndoChecked { count, sums } => {
             let kept = read_named(alloc, store, sums)?;
             Ok(ProgramRequest::Step(Step::UndoChecked { count, kept }))
         }
-        action => asked_for(alloc, action, title),
+        action => asked_for(alloc, action, title, flags),
     }
 }

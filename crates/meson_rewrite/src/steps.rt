@@ -14,7 +14,7 @@ ghost use Rattle.meson_script.specs.Listings.{listings_text};
 ghost use Rattle.meson_script.specs.Undoing.{StepsBack};
 ghost use Rattle.meson_splice.specs.Past.{Forgets};
 
-use crate::advice::refused;
+use crate::advice::{Advice, refused};
 use crate::opening::{LOG, LogUse, StoredSession, leave};
 use crate::request::{NamedFile, Step};
 use crate::said::Said;
@@ -184,7 +184,10 @@ fn new_log(alloc: Global, session: &Session) -> Result<Vec<u8>, Stop>
 {
     match log_text(alloc, session) {
         Ok(text) => Ok(text),
-        Err(fault) => Err(Stop::Script(fault)),
+        Err(fault) => Err(Stop::Script {
+            fault,
+            advice: Advice::Nothing,
+        }),
     }
 }
 

@@ -20,8 +20,11 @@ pub(crate) enum Stop {
         fault: UsageFault,
         advice: Advice,
     },
-    /// The script or the log is not valid.
-    Script(ScriptFault),
+    /// The script or the log is not valid. The advice explains it of a script.
+    Script {
+        fault: ScriptFault,
+        advice: Advice,
+    },
     /// The file of this name is not a valid build file, or would not be one.
     Parse {
         name: Text,
@@ -56,7 +59,7 @@ impl fmt::Display for Stop {
     fn fmt<W: fmt::Write>(&self, f: &mut fmt::Formatter<W>) -> fmt::Result {
         match self {
             Stop::Usage { fault, .. } => write!(f, "{fault}"),
-            Stop::Script(fault) => write!(f, "{fault}"),
+            Stop::Script { fault, .. } => write!(f, "{fault}"),
             Stop::Parse { name, fault } => match fault {
                 ParseFault::OutOfMemory => write!(f, "{fault}"),
                 _ => write!(f, "{name}: {fault}"),

@@ -15,4 +15,4 @@ returns-in_default-clause-asks g c =
 pub returns-in_default-clause-reads_at_most : goal.returns-in_default-clause-reads_at_most
 returns-in_default-clause-reads_at_most g c =
     let unnamed = names-none c.args.action c.in_default.not-ScriptFile c.in_default.not-UndoChecked in
-    IfErr-weaker c.asked_for.result _ _ (λ why none. inl (refl, asked-unread c.args.action why unnamed none)) c.asked_for.ensures.none
+    IfErr-weaker c.asked_for.result _ _ (λ why none. inl (refl, asked-unread c.args.flags c.args.action why unnamed none)) c.asked_for.ensures.none

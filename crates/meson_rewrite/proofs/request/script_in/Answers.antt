@@ -11,7 +11,7 @@ returns-in-Ok-clause-ok c =
 
 pub returns-in-Ok-clause-none : goal.returns-in-Ok-clause-none
 returns-in-Ok-clause-none c =
-    subst (λ r. IfErr c.script_from.result (λ why. WantsMemory why ⊎ IsBad r why)) (sym (of-text c.args.unknown c.args.bytes.now c.in-Ok.text.now c.in-Ok.ensures.cases.0 c.in-Ok.ensures.cases.1)) c.script_from.ensures.none
+    subst (λ r. IfErr c.script_from.result (λ why. WantsMemory why ⊎ IsBad c.args.flags r why)) (sym (of-text c.args.unknown c.args.bytes.now c.in-Ok.text.now c.in-Ok.ensures.cases.0 c.in-Ok.ensures.cases.1)) c.script_from.ensures.none
 
 pub returns-in-Err-clause-none : goal.returns-in-Err-clause-none
-returns-in-Err-clause-none c = inr (_, of-no-text c.args.unknown c.args.bytes.now c.in-Err.ensures.cases.0, refl)
+returns-in-Err-clause-none c = inr (_, (_, (of-no-text c.args.unknown c.args.bytes.now c.in-Err.ensures.cases.0, (refl, c.script_advice-advice.ensures))))

@@ -4,6 +4,7 @@ use Rattle.meson_json.specs.declared.fault.ScriptFault.{ScriptFault}
 use Rattle.meson_splice.specs.declared.history.History.{History}
 use Rattle.meson_rewrite.proofs.Wants.{script-or-memory}
 use Rattle.meson_rewrite.specs.Stops.{WantsMemory}
+use Rattle.meson_rewrite.specs.declared.advice.Advice.TheVariants.{Nothing}
 use Rattle.meson_rewrite.specs.declared.stop.Stop.TheVariants.{Script}
 use Rattle.meson_rewrite.proofs.steps.new_log.Goals as goal
 
@@ -14,7 +15,7 @@ has-log : (h : History) (fault : ScriptFault) → is_text_history h ≡ true →
 unfolding log_of
 has-log h fault text is = no-fault _ fault (rw text at is)
 
-memory-alone : (h : History) (fault : ScriptFault) → is_text_history h ≡ true → WantsMemory (Script fault) ⊎ (log_of h ≡ Err fault) → WantsMemory (Script fault)
+memory-alone : (h : History) (fault : ScriptFault) → is_text_history h ≡ true → WantsMemory (Script fault Nothing) ⊎ (log_of h ≡ Err fault) → WantsMemory (Script fault Nothing)
 memory-alone h fault text (inl m) = m
 memory-alone h fault text (inr e) = absurd (has-log h fault text e)
 
