@@ -106,7 +106,7 @@ fn kind_of(value: &Value) -> &'static str {
     }
 }
 
-/// The text of a value in one line, of which at most so many characters are shown.
+/// The text of a value in one line, cut after a number of characters.
 fn shown(alloc: Global, value: &Value) -> Result<String, AllocError> {
     let text = value.to_string(alloc)?;
     let mut shown = String::new(alloc);

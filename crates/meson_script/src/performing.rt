@@ -1,6 +1,6 @@
 //! The commands of a script, one after another.
 
-ghost use Rattle.std.specs.Prelude.{◌≡◌, ◌≢◌, [], IfErr, IfOk, IsTrue, List, OnErr, OnOk};
+ghost use Rattle.std.specs.Prelude.{◌≡◌, ◌≢◌, ◌++◌, [], IfErr, IfOk, IsTrue, List, OnErr, OnOk};
 ghost use Rattle.serde_json.specs.Data.{Data};
 ghost use Rattle.meson_calls.specs.declared.refusal.Refusal.TheVariants.{OutOfMemory};
 ghost use Rattle.meson_calls.specs.Loading.{IsProject};
@@ -105,6 +105,25 @@ pub(crate) fn counted(
     })
 }
 
+/// Adds the splices of what the command of this number changed.
+///
+/// # Errors
+/// Out of memory, during that command.
+fn add_splices(splices: &mut Vec<Splice>, change: Change, index: usize) -> Result<(), RunFault>
+    ensures done { OnOk result (splices.new.items ≡ splices.old.items ++ change.splices) }
+    ensures refused { IfErr result (λ fault. fault ≡ record { index = index; refusal = OutOfMemory }) }
+{
+    let Change {
+        splices: its,
+        title: _,
+    } = change;
+    let mut its = its.take();
+    splices.append(&mut its).map_err(|refused| RunFault {
+        index,
+        refusal: Refusal::from(refused),
+    })
+}
+
 /// Performs the commands in order, without a history, and lists in this form. If one is refused, those before it are done.
 ///
 /// # Errors
@@ -134,16 +153,8 @@ pub fn perform_all(
             change,
             relexed: more,
         } = done;
-        let Change {
-            splices: its,
-            title: _,
-        } = change;
-        let mut its = its.take();
         relexed = relexed.saturating_add(more);
-        if let Err(refused) = splices.append(&mut its) {
-            let refusal = Refusal::from(refused);
-            return Err(RunFault { index, refusal });
-        }
+        add_splices(&mut splices, change, index)?;
     }
     Ok(Ran {
         splices,
