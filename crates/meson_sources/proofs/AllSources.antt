@@ -1,29 +1,6 @@
 -- The law on all sources after an addition.
-use Rattle.std.specs.Prelude.{◌⊎◌, ◌||◌, All, is_some, option_map, Ok}
-use Rattle.std.specs.List.{filter_map, list_any}
-use Rattle.std.proofs.Common.{◌≡◌, ℕ, ◌+◌, ◌≤◌, Bool, true, false, List, [], ◌∷◌, ◌++◌, length, Option, Some, None, refl, sym, ap, ◌∙◌, subst, inl, inr, IsUtf8}
-use Rattle.meson_lex.specs.declared.kinds.Span.{Span}
-use Rattle.meson_syntax.specs.Children.{an_expression, a_block}
-use Rattle.meson_syntax.specs.Paths.{block_of}
-use Rattle.meson_syntax.specs.Tree.{Nowhere, Name, Expression, call, Argument, plain, named, pair, Arguments, no_arguments, argument, arguments_of, erase_arguments}
-use Rattle.meson_syntax.proofs.paths.Every.{Every}
-use Rattle.meson_calls.specs.declared.call.CallRef.{CallRef}
 use Rattle.meson_calls.specs.declared.call.Role.TheVariants as role
-use Rattle.meson_calls.specs.Calls.{Call, Numbered, first_argument, first_of, keyword, kept_number, numbered, value_without_name}
-use Rattle.meson_variables.specs.Expansion.{max_followed}
-use Rattle.meson_calls.specs.Finding.{the_call}
-use Rattle.meson_calls.specs.Loading.{IsProject, Loaded, project}
-use Rattle.meson_calls.specs.Project.{Placed}
-use Rattle.meson_calls.specs.Roles.{one_of, target_functions}
-use Rattle.meson_variables.specs.TargetSources.{first_empty, first_list, home, or_call, or_option, source_marks, sources}
-use Rattle.meson_calls.specs.NamedArguments.{once, sources_key}
-use Rattle.meson_steps.specs.Names.{checked_names}
-use Rattle.meson_steps.specs.ResultLimits.{plain_trees}
-use Rattle.meson_steps.specs.Steps.{Step, all_stepped}
-use Rattle.meson_steps.proofs.WentWell.{then_was}
-use Rattle.meson_sources.specs.Effects.{strings}
-use Rattle.meson_sources.specs.SourceEdits.{inserted_in, is_plain, new_names, sources_added}
-use Rattle.meson_sources.specs.WholeSources.{AllSourcesGrow, file_names}
+use Rattle.meson_sources.proofs.Words.{filter_map, list_any, All, is_some, Ok, option_map, ◌||◌, ◌⊎◌, [], ap, Bool, false, inl, inr, IsUtf8, length, List, None, Option, refl, Some, subst, sym, true, ℕ, ◌++◌, ◌+◌, ◌∙◌, ◌∷◌, ◌≡◌, ◌≤◌, Span, a_block, an_expression, block_of, Argument, argument, Arguments, arguments_of, call, erase_arguments, Expression, Name, named, no_arguments, Nowhere, pair, plain, Every, Call, first_argument, first_of, kept_number, keyword, Numbered, numbered, value_without_name, the_call, IsProject, Loaded, project, once, sources_key, Placed, one_of, target_functions, CallRef, max_followed, first_empty, first_list, home, or_call, or_option, source_marks, sources, checked_names, plain_trees, all_stepped, Step, then_was, strings, inserted_in, is_plain, new_names, sources_added, AllSourcesGrow, file_names}
 use Rattle.meson_sources.proofs.Arrivals.{outside}
 use Rattle.meson_sources.proofs.Bares.{expand_with, values_of}
 use Rattle.meson_sources.proofs.CallForms.{CallIn, bare_arguments, bare_form, called, stands_bare, target_at}

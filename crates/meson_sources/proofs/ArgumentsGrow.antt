@@ -1,24 +1,8 @@
 -- An argument of a call that is an array gets strings, one behind the other, and the call's other arguments stay.
-use Rattle.std.proofs.Common.{◌≡◌, ℕ, zero, suc, Bool, true, false, List, [], ◌∷◌, ◌++◌, append-nil, append_assoc, length, length-append, take, drop, Option, Some, refl, sym, ap, ap₂, ◌∙◌, subst, arith}
-use Rattle.std.specs.Prelude.{if◌then◌else◌, option_and_then, option_map}
-use Rattle.meson_syntax.specs.Operators.{holds_pairs}
-use Rattle.meson_syntax.specs.Grammar.{LevelFile}
-use Rattle.meson_syntax.specs.Paths.{ListAt, list_at, nth, value_of}
-use Rattle.meson_syntax.specs.Tree.{Nowhere, Plain, Expression, Listing, listing, Argument, plain, named, pair, arguments_of}
-use Rattle.meson_syntax.proofs.parsing.Steps.{some-injective}
-use Rattle.meson_syntax.proofs.paths.Reaching.{and-then-some, map-some}
-use Rattle.meson_edit.specs.Edits.{After, edited, edited_elements, elements, element_added, is_empty, with_elements, with_value}
 use Rattle.meson_edit.specs.Sequences.{MayFollow}
-use Rattle.meson_edit.proofs.sequences.Levelled.{insertions-keep-levels}
-use Rattle.meson_calls.specs.declared.call.CallRef.{CallRef}
-use Rattle.meson_calls.specs.Project.{child}
-use Rattle.meson_steps.specs.Steps.{all_stepped, step_in, stepped}
 use Rattle.meson_steps.proofs.InnerPlaces.{array_container, exchanged_at, inner_place}
-use Rattle.meson_steps.proofs.Insertable.{elements_back, elements_with, there_again}
-use Rattle.meson_steps.proofs.WithOne.{change_made}
-use Rattle.meson_sources.specs.Effects.{OnlyList, array_holding, elements_found, strings}
 use Rattle.meson_sources.specs.SourceEdits as edits
-use Rattle.meson_sources.specs.SourceEdits.{written_source}
+use Rattle.meson_sources.proofs.Words.{if◌then◌else◌, option_and_then, option_map, [], ap, append-nil, append_assoc, ap₂, arith, Bool, drop, false, length, length-append, List, Option, refl, Some, subst, suc, sym, take, true, zero, ℕ, ◌++◌, ◌∙◌, ◌∷◌, ◌≡◌, LevelFile, holds_pairs, list_at, ListAt, nth, value_of, Argument, arguments_of, Expression, Listing, listing, named, Nowhere, pair, Plain, plain, some-injective, and-then-some, map-some, After, edited, edited_elements, element_added, elements, is_empty, with_elements, with_value, insertions-keep-levels, child, CallRef, all_stepped, step_in, stepped, elements_back, elements_with, there_again, change_made, array_holding, elements_found, OnlyList, strings, written_source}
 use Rattle.meson_sources.proofs.OnlyLists.{both_only}
 
 -- ---- lists

@@ -1,17 +1,5 @@
 -- What is met in the array that an argument `extra_files:` gets.
-use Rattle.std.specs.Prelude.{bytes_eq, if◌then◌else◌, option_map}
-use Rattle.std.specs.List.{cons_option}
-use Rattle.std.proofs.Common.{◌≡◌, ℕ, zero, suc, ◌+◌, ◌≤◌, Bool, true, false, List, [], ◌∷◌, ◌++◌, append-nil, length, Some, None, refl, sym, ap, ap₂, ◌∙◌, subst, arith, IsUtf8}
-use Rattle.meson_syntax.specs.Paths.{value_of}
-use Rattle.meson_syntax.specs.Tree.{Nowhere, Expression, string, Argument, plain, named, pair, arguments_of}
-use Rattle.meson_syntax.proofs.paths.Every.{Every}
-use Rattle.meson_edit.specs.Edits.{with_value}
-use Rattle.meson_calls.specs.declared.call.CallRef.{CallRef}
-use Rattle.meson_calls.specs.Calls.{Numbered, literal_of}
-use Rattle.meson_variables.specs.Expansion.{literal_item, Expansion, Stand, both_expanded, element, expand_by, expand_each, fixed, known, max_followed, met}
-use Rattle.meson_calls.specs.Project.{child}
-use Rattle.meson_sources.specs.Effects.{array_holding, extra_argument, strings}
-use Rattle.meson_sources.specs.SourceEdits.{extra_key}
+use Rattle.meson_sources.proofs.Words.{cons_option, bytes_eq, if◌then◌else◌, option_map, [], ap, append-nil, ap₂, arith, Bool, false, IsUtf8, length, List, None, refl, Some, subst, suc, sym, true, zero, ℕ, ◌++◌, ◌+◌, ◌∙◌, ◌∷◌, ◌≡◌, ◌≤◌, value_of, Argument, arguments_of, Expression, named, Nowhere, pair, plain, string, Every, with_value, literal_of, Numbered, child, CallRef, both_expanded, element, expand_by, expand_each, Expansion, fixed, known, literal_item, max_followed, met, Stand, array_holding, extra_argument, strings, extra_key}
 use Rattle.meson_sources.proofs.Bares.{Values, expand_with}
 use Rattle.meson_sources.proofs.CallTrees.{keyed, list_with}
 use Rattle.meson_sources.proofs.Gists.{Gist, all_known, gist, gist_append, gist_within}

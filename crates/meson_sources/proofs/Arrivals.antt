@@ -1,24 +1,6 @@
 -- The sources or extra files of a call after another list has got strings.
-use Rattle.std.specs.Prelude.{◌⊎◌, All}
-use Rattle.std.proofs.Common.{◌≡◌, ℕ, Bool, true, false, List, [], ◌∷◌, ◌++◌, Option, Some, None, refl, sym, ap, ◌∙◌, subst, inl, inr}
-use Rattle.std.proofs.lemmas.Slice.Eq.{bytes_eq-Decides}
-use Rattle.meson_lex.specs.declared.kinds.Span.{Span}
-use Rattle.meson_syntax.specs.Children.{Any, an_expression, a_statement, a_block, arguments_parts}
-use Rattle.meson_syntax.specs.inside.Children.{child_nodes, node_at}
-use Rattle.meson_syntax.specs.Paths.{nth, block_of}
 use Rattle.meson_syntax.specs.Paths as paths
-use Rattle.meson_syntax.specs.Tree.{Nowhere, Plain, Name, Expression, call, listing, Argument, Arguments, assign, erase_name}
-use Rattle.meson_syntax.proofs.parsing.Steps.{some-injective}
-use Rattle.meson_syntax.proofs.paths.Every.{Every}
-use Rattle.meson_syntax.proofs.paths.Reaching.{and-then-some}
-use Rattle.meson_calls.specs.declared.call.CallRef.{CallRef}
-use Rattle.meson_variables.specs.Expansion.{Mark, Expansion, Stand, is_files, is_operand_by, is_value_by, expand_by}
-use Rattle.meson_calls.specs.Loading.{Loaded, project}
-use Rattle.meson_calls.specs.Project.{BuildFile, Placed, child, expression_at, nth_file}
-use Rattle.meson_calls.specs.Roles.{one_of}
-use Rattle.meson_variables.specs.Variables.{single}
-use Rattle.meson_steps.specs.ListSteps.{MayStandBetween}
-use Rattle.meson_steps.specs.ResultLimits.{plain_trees}
+use Rattle.meson_sources.proofs.Words.{All, ◌⊎◌, [], ap, Bool, false, inl, inr, List, None, Option, refl, Some, subst, sym, true, ℕ, ◌++◌, ◌∙◌, ◌∷◌, ◌≡◌, bytes_eq-Decides, Span, a_block, a_statement, an_expression, Any, arguments_parts, block_of, nth, Argument, Arguments, assign, call, erase_name, Expression, listing, Name, Nowhere, Plain, child_nodes, node_at, some-injective, Every, and-then-some, Loaded, project, BuildFile, child, expression_at, nth_file, Placed, one_of, CallRef, expand_by, Expansion, is_files, is_operand_by, is_value_by, Mark, Stand, single, MayStandBetween, plain_trees, Differ}
 use Rattle.meson_sources.proofs.Bares.{values_of}
 use Rattle.meson_sources.proofs.CallForms.{CallIn, CallNode, bare_arguments, bare_form, called, stands_bare}
 use Rattle.meson_sources.proofs.ErasedNodes.{expression_node}
@@ -28,7 +10,6 @@ use Rattle.meson_sources.proofs.MarkLists.{below, below_child, below_itself}
 use Rattle.meson_sources.proofs.Kins.{node_level, placed_of}
 use Rattle.meson_sources.proofs.Outcomes.{Clear, Either, as_before, grown, How, stays, comes, Outcome, Along}
 use Rattle.meson_sources.proofs.Owners.{no_statement, node_between, owner, owner_is, single_named}
-use Rattle.meson_steps.proofs.PartsPut.{Differ}
 use Rattle.meson_sources.proofs.PathTrees.{files_alike}
 use Rattle.meson_sources.proofs.PlacesBelow.{Far, IsIt, far_deeper, far_apart, aside_far, above_it, under, without_last}
 use Rattle.meson_sources.proofs.SceneKins.{kin_v, kin_c}

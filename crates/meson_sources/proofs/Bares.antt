@@ -1,15 +1,6 @@
 -- What variables stand for, in trees without spans; and that an expansion looks at no span.
-use Rattle.std.proofs.Common.{◌≡◌, ℕ, zero, suc, ◌+◌, Bool, true, false, List, [], ◌∷◌, map, Option, Some, None, refl, sym, ap, ap₂, ◌∙◌}
-use Rattle.std.specs.Prelude.{not, ◌&&◌, if◌then◌else◌, bytes_eq, codes, option_map}
-use Rattle.std.proofs.lemmas.List.{map-append}
-use Rattle.meson_lex.specs.Literals.{value}
-use Rattle.meson_syntax.specs.Operators.{string_kind}
-use Rattle.meson_syntax.specs.Tree.{Nowhere, Expression, identifier, string, array, call, row, Operands, no_operands, operand, Listing, listing, Argument, plain, named, pair, Arguments, no_arguments, argument, erase_expression, erase_operands, erase_listing, erase_argument, erase_arguments}
-use Rattle.meson_calls.specs.declared.call.CallRef.{CallRef}
-use Rattle.meson_variables.specs.Expansion.{Mark, known, opaque, empty, Expansion, Stand, both_expanded, met, element, operand_at, or_empty, within, is_files, has_names, is_plus, are_plus, is_operand_by, is_value_by, is_single_by, is_list_variable, is_list_operand, max_followed, literal_item, expand_by, expand_operands, expand_listing, expand_each, expand_argument, expand, follow_single, of_variable}
-use Rattle.meson_calls.specs.Project.{Project, Placed, placed}
-use Rattle.meson_calls.specs.Roles.{one_of}
-use Rattle.meson_variables.specs.Variables.{single}
+use Rattle.meson_variables.specs.Expansion.{is_list_operand}
+use Rattle.meson_sources.proofs.Words.{bytes_eq, codes, if◌then◌else◌, not, option_map, ◌&&◌, [], ap, ap₂, Bool, false, List, map, None, Option, refl, Some, suc, sym, true, zero, ℕ, ◌+◌, ◌∙◌, ◌∷◌, ◌≡◌, map-append, value, string_kind, Argument, argument, Arguments, array, call, erase_argument, erase_arguments, erase_expression, erase_listing, erase_operands, Expression, identifier, Listing, listing, named, no_arguments, no_operands, Nowhere, operand, Operands, pair, plain, row, string, Placed, placed, Project, one_of, CallRef, are_plus, both_expanded, element, empty, expand, expand_argument, expand_by, expand_each, expand_listing, expand_operands, Expansion, follow_single, has_names, is_files, is_list_variable, is_operand_by, is_plus, is_single_by, is_value_by, known, literal_item, Mark, max_followed, met, of_variable, opaque, operand_at, or_empty, Stand, within, single}
 
 -- ---- what variables stand for
 

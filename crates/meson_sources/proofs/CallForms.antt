@@ -1,24 +1,6 @@
 -- A call by its parts: where it stands, and with spans again where it stands without them.
-use Rattle.std.specs.Prelude.{◌&&◌, is_some, option_and_then, Ok}
-use Rattle.std.proofs.Common.{◌≡◌, ℕ, zero, suc, Bool, true, false, List, [], ◌∷◌, map, Some, refl, sym, ap, ◌∙◌, subst}
-use Rattle.meson_lex.specs.declared.kinds.Span.{Span}
-use Rattle.meson_splice.specs.declared.file_set.File.{File}
-use Rattle.meson_syntax.specs.declared.tree.Parsed.{Parsed}
-use Rattle.meson_syntax.specs.Children.{an_expression, a_block}
-use Rattle.meson_syntax.specs.inside.Children.{node_at}
-use Rattle.meson_syntax.specs.Paths.{nth, block_of, expression_on_path}
-use Rattle.meson_syntax.specs.Tree.{Nowhere, Plain, Name, Expression, call, listing, Arguments, erase, erase_arguments, erase_expression, erase_name}
-use Rattle.meson_syntax.specs.View.{view}
-use Rattle.meson_syntax.proofs.parsing.Steps.{some-injective}
-use Rattle.meson_calls.specs.declared.call.CallRef.{CallRef}
 use Rattle.meson_calls.specs.declared.call.Role.TheVariants as role
-use Rattle.meson_calls.specs.Calls.{Call, call_of, first_argument}
-use Rattle.meson_calls.specs.Finding.{the_call}
-use Rattle.meson_calls.specs.Loading.{Loaded, named_trees, project, views}
-use Rattle.meson_calls.specs.Project.{BuildFile, Placed, Project, placed, expression_at, nth_file}
-use Rattle.meson_calls.specs.Roles.{has_role, one_of, target_functions}
-use Rattle.meson_calls.proofs.CallsFound.{role_found}
-use Rattle.meson_steps.specs.ResultLimits.{plain_trees}
+use Rattle.meson_sources.proofs.Words.{is_some, Ok, option_and_then, ◌&&◌, [], ap, Bool, false, List, map, refl, Some, subst, suc, sym, true, zero, ℕ, ◌∙◌, ◌∷◌, ◌≡◌, Span, File, a_block, an_expression, block_of, expression_on_path, nth, Arguments, call, erase, erase_arguments, erase_expression, erase_name, Expression, listing, Name, Nowhere, Plain, view, Parsed, node_at, some-injective, Call, call_of, first_argument, the_call, Loaded, named_trees, project, views, BuildFile, expression_at, nth_file, Placed, placed, Project, has_role, one_of, target_functions, CallRef, role_found, plain_trees}
 use Rattle.meson_sources.proofs.ErasedNodes.{node_with_spans}
 use Rattle.meson_sources.proofs.Scenes.{NodeIn, bare_in}
 

@@ -1,39 +1,11 @@
 -- The call of a target after strings have gone from its lists of sources or of extra files.
-use Rattle.std.specs.Prelude.{All, Ok}
-use Rattle.std.proofs.Common.{◌≡◌, ℕ, zero, suc, ◌+◌, Bool, true, false, List, Some, None, refl, sym, ap, ◌∙◌, subst, arith, inl, inr}
-use Rattle.meson_lex.specs.Literals.{value}
-use Rattle.meson_lex.specs.declared.kinds.Span.{Span}
 use Rattle.meson_syntax.specs.declared.operator.Assignment.TheVariants as assignment
-use Rattle.meson_syntax.specs.declared.operator.StringKind.{StringKind}
-use Rattle.meson_syntax.specs.Grammar.{LevelExpression}
-use Rattle.meson_syntax.specs.Operators.{string_kind}
-use Rattle.meson_syntax.specs.Children.{an_expression, a_statement}
-use Rattle.meson_syntax.specs.inside.Children.{child_nodes}
-use Rattle.meson_syntax.specs.Paths.{nth}
-use Rattle.meson_syntax.specs.Tree.{Nowhere, Plain, Name, Expression, string, call, assign, listing, plain, named, pair, Arguments, no_arguments, argument, erase_expression}
-use Rattle.meson_syntax.proofs.paths.Every.{Every}
-use Rattle.meson_syntax.proofs.paths.Reaching.{map-some}
-use Rattle.meson_calls.specs.declared.call.CallRef.{CallRef}
-use Rattle.meson_variables.specs.Expansion.{Item, Stand, literal_item, max_followed}
 use Rattle.meson_calls.specs.declared.call.Role.TheVariants as role
-use Rattle.meson_calls.specs.Calls.{call_of}
-use Rattle.meson_calls.specs.Finding.{the_call}
-use Rattle.meson_calls.specs.Loading.{Loaded, project}
-use Rattle.meson_calls.specs.Project.{Placed, child}
-use Rattle.meson_calls.specs.Roles.{one_of, target_functions}
-use Rattle.meson_variables.specs.Variables.{single}
-use Rattle.meson_steps.specs.ListSteps.{MayStandBetween}
-use Rattle.meson_steps.specs.Names.{distinct}
-use Rattle.meson_steps.specs.ResultLimits.{plain_trees}
-use Rattle.meson_steps.specs.Steps.{all_stepped}
-use Rattle.meson_sources.specs.Effects.{AreSpotsOf, goes, trees_without}
-use Rattle.meson_sources.specs.Without.{expression_without, from_child}
+use Rattle.meson_sources.proofs.Words.{All, Ok, ap, arith, Bool, false, inl, inr, List, None, refl, Some, subst, suc, sym, true, zero, ℕ, ◌+◌, ◌∙◌, ◌≡◌, value, Span, a_statement, an_expression, LevelExpression, string_kind, nth, argument, Arguments, assign, call, erase_expression, Expression, listing, Name, named, no_arguments, Nowhere, pair, Plain, plain, string, StringKind, child_nodes, Every, map-some, call_of, the_call, Loaded, project, child, Placed, one_of, target_functions, CallRef, Item, literal_item, max_followed, Stand, single, MayStandBetween, distinct, plain_trees, all_stepped, AreSpotsOf, goes, trees_without, removal_steps, Spot, file_names, expression_without, from_child}
 use Rattle.meson_sources.proofs.NodesMoved.{child_place, node_moved, place_left}
 use Rattle.meson_sources.proofs.TreesLeft.{trees_left}
 use Rattle.meson_sources.proofs.WithoutLoses.{Lost, gone_at, loses, strings_lost}
 use Rattle.meson_sources.proofs.WithoutPlaces.{any_without}
-use Rattle.meson_sources.specs.SourceEdits.{Spot, removal_steps}
-use Rattle.meson_sources.specs.WholeSources.{file_names}
 use Rattle.meson_sources.proofs.FoundAgain.{Names}
 use Rattle.meson_sources.proofs.NamedAgain.{SetStays, named_again}
 use Rattle.meson_sources.proofs.TargetNames.{by_bare, call_by, call_tells, first_plain, tell_call, SameNames}

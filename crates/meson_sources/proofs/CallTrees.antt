@@ -1,21 +1,7 @@
 -- The arguments of a call that hold sources, in two projects where one argument may have become another.
-use Rattle.std.specs.Prelude.{◌⊎◌, if◌then◌else◌, bytes_eq, option_map}
-use Rattle.std.specs.List.{cons_option, filter_map}
-use Rattle.std.proofs.Common.{◌≡◌, ℕ, zero, suc, ◌+◌, ◌≤◌, Bool, true, false, List, [], ◌∷◌, Some, None, sym, ap, ◌∙◌, subst, arith, inl, inr}
-use Rattle.meson_syntax.specs.declared.operator.Bracket.{Bracket}
-use Rattle.meson_syntax.specs.Grammar.{LevelExpression, LevelArguments}
-use Rattle.meson_syntax.specs.Operators.{holds_pairs}
-use Rattle.meson_syntax.specs.Children.{Any, an_expression, arguments_parts}
-use Rattle.meson_syntax.specs.Tree.{Nowhere, Expression, plain, named, pair, Arguments, no_arguments, argument}
-use Rattle.meson_calls.specs.declared.call.CallRef.{CallRef}
-use Rattle.meson_calls.specs.Calls.{Numbered, kept_number, numbered, value_without_name, value_with_name}
-use Rattle.meson_variables.specs.Expansion.{Slot, in_list, fixed, Expansion, Stand, both_expanded, nothing_met}
-use Rattle.meson_calls.specs.Project.{child}
-use Rattle.meson_variables.specs.TargetSources.{list_of_slot}
-use Rattle.meson_calls.specs.NamedArguments.{rest, sources_key}
+use Rattle.meson_sources.proofs.Words.{cons_option, filter_map, bytes_eq, if◌then◌else◌, option_map, ◌⊎◌, [], ap, arith, Bool, false, inl, inr, List, None, Some, subst, suc, sym, true, zero, ℕ, ◌+◌, ◌∙◌, ◌∷◌, ◌≡◌, ◌≤◌, an_expression, Any, arguments_parts, LevelArguments, LevelExpression, holds_pairs, argument, Arguments, Expression, named, no_arguments, Nowhere, pair, plain, Bracket, kept_number, Numbered, numbered, value_with_name, value_without_name, rest, sources_key, child, CallRef, both_expanded, Expansion, fixed, in_list, nothing_met, Slot, Stand, list_of_slot, Differ}
 use Rattle.meson_sources.proofs.MarkLists.{below, below_child}
 use Rattle.meson_sources.proofs.Outcomes.{Outcome, Along, joined, nothing_both, still, along_same, along_first, along_behind}
-use Rattle.meson_steps.proofs.PartsPut.{Differ}
 use Rattle.meson_sources.proofs.Shapes.{Becomes, blanks, differ_none, differ_here, differ_there, same_arguments}
 
 abbrev pub Expand : Type 0

@@ -1,19 +1,8 @@
 -- Another node in the place of a child: where it is without what goes what the child was, so is the whole.
-use Rattle.std.proofs.Common.{◌≡◌, ℕ, suc, ◌+◌, ◌<◌, ◌≤◌, Bool, List, [], ◌∷◌, ◌++◌, length, refl, ap, ap₂, ◌∙◌, arith}
 use Rattle.meson_lex.specs.declared.kinds.Kind.{Kind}
 use Rattle.meson_lex.specs.declared.kinds.Kind.TheVariants as k
-use Rattle.meson_lex.specs.Significant.{Word, new_line}
-use Rattle.meson_syntax.specs.declared.operator.Bracket.{Bracket}
 use Rattle.meson_syntax.specs.declared.operator.Bracket.TheVariants as bracket
-use Rattle.meson_syntax.specs.Operators.{opens, closes}
-use Rattle.meson_syntax.specs.Tree.{Nowhere, Expression, paren, array, dictionary, call, unary, row, postfix, conditional, Operands, no_operands, operand, Tail, method, index, Tails, no_tails, tail, Listing, listing, plain, named, pair, Arguments, no_arguments, argument, arguments_of, Statement, evaluate, assign, selection, iteration, Branches, no_branches, branch, Otherwise, nothing_else, otherwise, Statements, no_statements, statement, Block, block}
-use Rattle.meson_syntax.specs.Grammar.{mark, argument_words, block_words, branches_words, comma_words, expression_words, operator_words, otherwise_words, statement_words, tail_words, tails_words}
-use Rattle.meson_syntax.specs.Paths.{Sort, of_expression, of_statement, of_block, Node, Hole, around, all_around, children, arguments_children, listing_children, operands_children, tail_children, tails_children, expression_children, branches_children, otherwise_children, statement_children, statements_children, block_children}
-use Rattle.meson_syntax.specs.Children.{arguments_parts, branches_parts, tail_parts}
-use Rattle.meson_edit.specs.Edits.{with_elements}
-use Rattle.meson_edit.proofs.paths.Positions.{EveryAt, every-at-append, length-around}
-use Rattle.meson_sources.specs.Without.{Gone, arguments_without, block_without, branches_without, but, expression_without, from_child, listing_without, operands_without, otherwise_without, statement_without, statements_without, tail_without, tails_without}
-use Rattle.meson_steps.proofs.PartsPut.{branches_count, tail_count}
+use Rattle.meson_sources.proofs.Words.{[], ap, ap₂, arith, Bool, length, List, refl, suc, ℕ, ◌++◌, ◌+◌, ◌<◌, ◌∙◌, ◌∷◌, ◌≡◌, ◌≤◌, new_line, Word, arguments_parts, branches_parts, tail_parts, argument_words, block_words, branches_words, comma_words, expression_words, mark, operator_words, otherwise_words, statement_words, tail_words, tails_words, closes, opens, all_around, arguments_children, around, block_children, branches_children, children, expression_children, Hole, listing_children, Node, of_block, of_expression, of_statement, operands_children, otherwise_children, Sort, statement_children, statements_children, tail_children, tails_children, argument, Arguments, arguments_of, array, assign, Block, block, branch, Branches, call, conditional, dictionary, evaluate, Expression, index, iteration, Listing, listing, method, named, no_arguments, no_branches, no_operands, no_statements, no_tails, nothing_else, Nowhere, operand, Operands, Otherwise, otherwise, pair, paren, plain, postfix, row, selection, Statement, statement, Statements, Tail, tail, Tails, unary, Bracket, with_elements, every-at-append, EveryAt, length-around, branches_count, tail_count, arguments_without, block_without, branches_without, but, expression_without, from_child, Gone, listing_without, operands_without, otherwise_without, statement_without, statements_without, tail_without, tails_without}
 
 abbrev pub node_without : (sort : Sort) → Gone → Node sort Nowhere → Node sort Nowhere
 node_without of_expression g e = expression_without g e

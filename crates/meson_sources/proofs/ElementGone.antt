@@ -1,16 +1,6 @@
 -- An element goes from a list of a tree: what is left is the tree without it.
-use Rattle.std.specs.Prelude.{option_map}
-use Rattle.std.proofs.Common.{◌≡◌, ℕ, zero, suc, Bool, true, false, List, [], ◌∷◌, Some, refl, sym, ap, ap₂, ◌∙◌, subst, arith}
-use Rattle.meson_lex.specs.Significant.{Word}
-use Rattle.meson_syntax.specs.Tree.{Nowhere, Plain, Expression, array, dictionary, call, Listing, listing, Argument, plain, named, pair, Arguments, no_arguments, argument, argument_list, arguments_of, Block, file}
-use Rattle.meson_syntax.specs.Paths.{Sort, of_expression, of_statement, of_block, Node, Hole, around, children, nth, nth_hole, reach, ListIn, list_in, ListAt, list_at, list_within, list_of_node}
-use Rattle.meson_syntax.proofs.parsing.Complete.{list-of-arguments}
-use Rattle.meson_syntax.proofs.parsing.Steps.{some-injective}
-use Rattle.meson_syntax.proofs.paths.Reaching.{map-some, and-then-some}
-use Rattle.meson_edit.specs.Edits.{Remove, edited, element_removed, elements, with_elements}
 use Rattle.meson_edit.proofs.sequences.Changed.{changed}
-use Rattle.meson_edit.proofs.paths.Positions.{every-at-nth}
-use Rattle.meson_sources.specs.Without.{Gone, arguments_without, but, expression_without, from_child, listing_without, tree_without}
+use Rattle.meson_sources.proofs.Words.{option_map, [], ap, ap₂, arith, Bool, false, List, refl, Some, subst, suc, sym, true, zero, ℕ, ◌∙◌, ◌∷◌, ◌≡◌, Word, around, children, Hole, list_at, list_in, list_of_node, list_within, ListAt, ListIn, Node, nth, nth_hole, of_block, of_expression, of_statement, reach, Sort, Argument, argument, argument_list, Arguments, arguments_of, array, Block, call, dictionary, Expression, file, Listing, listing, named, no_arguments, Nowhere, pair, Plain, plain, list-of-arguments, some-injective, and-then-some, map-some, edited, element_removed, elements, Remove, with_elements, every-at-nth, arguments_without, but, expression_without, from_child, Gone, listing_without, tree_without}
 use Rattle.meson_sources.proofs.ChildFollows.{Follows, node_follows, node_without}
 use Rattle.meson_sources.proofs.ListsBut.{but_none, but_one}
 use Rattle.meson_sources.proofs.NothingGone.{nothing}

@@ -1,26 +1,11 @@
 -- The value of an element of an array or a call stands at the child of its number, where no list in round or square brackets has pairs.
-use Rattle.std.proofs.Common.{◌≡◌, ℕ, zero, suc, List, [], ◌∷◌, ◌++◌, length, Some, ap, ◌∙◌, subst, false}
-use Rattle.std.specs.Prelude.{option_and_then}
-use Rattle.meson_lex.specs.declared.kinds.Span.{Span}
 use Rattle.meson_lex.specs.Located.{located}
 use Rattle.meson_splice.specs.declared.file_set.File as splice
-use Rattle.meson_syntax.specs.declared.tree.Parsed.{Parsed}
-use Rattle.meson_syntax.specs.Grammar.{LevelListing, LevelFile}
-use Rattle.meson_syntax.specs.Paths.{ListIn, list_in, nth, value_of}
 use Rattle.meson_syntax.specs.Paths as paths
 use Rattle.meson_syntax.specs.Reads.{of_files}
-use Rattle.meson_syntax.specs.View.{view}
-use Rattle.meson_syntax.specs.Tree.{Expression, Argument}
 use Rattle.meson_syntax.proofs.parsing.Levels.{file-level}
-use Rattle.meson_syntax.proofs.parsing.Steps.{some-injective}
-use Rattle.meson_syntax.proofs.paths.Reaching.{and-then-some, list-fits}
-use Rattle.meson_edit.specs.Edits.{elements}
-use Rattle.meson_calls.specs.declared.call.CallRef.{CallRef}
-use Rattle.meson_calls.specs.Loading.{AreParsed, named_trees, views}
-use Rattle.meson_calls.specs.Project.{Project, BuildFile, child, nth_file, expression_at}
 use Rattle.meson_steps.proofs.ListParts.{list_part}
-use Rattle.meson_calls.proofs.ListNodes.{list_of, value_below}
-use Rattle.meson_syntax.specs.Operators.{holds_pairs}
+use Rattle.meson_sources.proofs.Words.{option_and_then, [], ap, false, length, List, Some, subst, suc, zero, ℕ, ◌++◌, ◌∙◌, ◌∷◌, ◌≡◌, Span, LevelFile, LevelListing, holds_pairs, list_in, ListIn, nth, value_of, Argument, Expression, view, Parsed, some-injective, and-then-some, list-fits, elements, AreParsed, named_trees, views, BuildFile, child, expression_at, nth_file, Project, CallRef, list_of, value_below}
 
 -- each list of its files has what its brackets hold
 abbrev pub AreLevel : Project Span → Type 0

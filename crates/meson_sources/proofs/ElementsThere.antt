@@ -1,14 +1,5 @@
 -- An element stands in a tree where the nodes on the way to its list say so.
-use Rattle.std.specs.Prelude.{option_map, option_and_then}
-use Rattle.std.proofs.Common.{◌≡◌, ℕ, List, Option, Some, None, refl, sym, ap, ◌∙◌}
-use Rattle.meson_syntax.specs.Tree.{Nowhere, Plain, string, Listing, Argument, plain}
-use Rattle.meson_syntax.specs.declared.operator.StringKind.{StringKind}
-use Rattle.meson_syntax.specs.Paths.{ListIn, list_in, ListAt, list_at, nth, block_of}
-use Rattle.meson_syntax.specs.Children.{Any, an_expression, a_statement, a_block}
-use Rattle.meson_syntax.specs.inside.Children.{expression_any, node_at}
-use Rattle.meson_syntax.proofs.paths.Reaching.{and-then-some}
-use Rattle.meson_syntax.proofs.PathNodes.{expression-reached, list-reached}
-use Rattle.meson_edit.specs.Edits.{elements}
+use Rattle.meson_sources.proofs.Words.{option_and_then, option_map, ap, List, None, Option, refl, Some, sym, ℕ, ◌∙◌, ◌≡◌, a_block, a_statement, an_expression, Any, block_of, list_at, list_in, ListAt, ListIn, nth, Argument, Listing, Nowhere, Plain, plain, string, StringKind, expression_any, node_at, expression-reached, list-reached, and-then-some, elements}
 use Rattle.meson_sources.proofs.NodeLists.{element_at, list_any}
 
 -- The element of this number in the list that the path names is this one.

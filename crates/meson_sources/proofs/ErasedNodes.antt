@@ -1,16 +1,7 @@
 -- A path names the same node in the tree without spans, without its own.
-use Rattle.std.specs.Prelude.{option_and_then, option_map}
-use Rattle.std.proofs.Common.{◌≡◌, ℕ, List, [], ◌∷◌, Option, Some, None, refl, sym, ap, ◌∙◌}
-use Rattle.meson_lex.specs.declared.kinds.Span.{Span}
-use Rattle.meson_syntax.specs.Children.{Any, an_expression, a_statement, a_block}
-use Rattle.meson_syntax.specs.inside.Children.{child_nodes, expression_any, node_at}
-use Rattle.meson_syntax.specs.Paths.{block_of, expression_on_path, nth}
-use Rattle.meson_syntax.specs.Tree.{Nowhere, Expression, File, file, erase, erase_expression}
-use Rattle.meson_syntax.proofs.PathNodes.{expression-reached}
-use Rattle.meson_syntax.proofs.parsing.Steps.{some-injective}
-use Rattle.meson_syntax.proofs.paths.Reaching.{and-then-some, map-some}
+use Rattle.meson_syntax.specs.Tree.{File}
 use Rattle.meson_edit.proofs.paths.Mapped.{nth_map}
-use Rattle.meson_calls.proofs.nodes.Erased.{children_erased, erase_any}
+use Rattle.meson_sources.proofs.Words.{option_and_then, option_map, [], ap, List, None, Option, refl, Some, sym, ℕ, ◌∙◌, ◌∷◌, ◌≡◌, Span, a_block, a_statement, an_expression, Any, block_of, expression_on_path, nth, erase, erase_expression, Expression, file, Nowhere, child_nodes, expression_any, node_at, expression-reached, some-injective, and-then-some, map-some, children_erased, erase_any}
 
 module _ {S : Type 0} where
   through : (path : List ℕ) (o : Option (Any S)) → ((x : Any S) → node_at (erase_any x) path ≡ option_map erase_any (node_at x path))

@@ -1,33 +1,7 @@
 -- The extra files that are added come into their list, into a new argument, or behind a lone value.
-use Rattle.std.proofs.Common.{◌≡◌, ℕ, zero, suc, ◌-◌, ◌<◌, List, [], ◌∷◌, ◌++◌, length, take, drop, Option, Some, None, refl, sym, ap, ◌∙◌, subst, arith}
-use Rattle.std.specs.Prelude.{Ok, Result, option_and_then, option_map}
-use Rattle.meson_lex.specs.declared.kinds.Span.{Span}
-use Rattle.meson_syntax.specs.Operators.{holds_pairs}
-use Rattle.meson_syntax.specs.Grammar.{LevelFile}
-use Rattle.meson_syntax.specs.Paths.{ListAt, list_at, nth, value_of}
-use Rattle.meson_syntax.specs.Tree.{Nowhere, Plain, Expression, Argument, plain, erase, erase_argument, erase_expression}
-use Rattle.meson_syntax.proofs.parsing.Steps.{some-injective}
-use Rattle.meson_syntax.proofs.paths.Reaching.{and-then-some}
-use Rattle.meson_edit.specs.Edits.{Edit, After, Wrap, array_of, edited, edited_elements, edited_list, elements, exchanged, element_added, with_elements, with_value}
-use Rattle.meson_calls.specs.declared.call.CallRef.{CallRef}
-use Rattle.meson_calls.specs.Calls.{Call, Numbered, keyword}
 use Rattle.meson_calls.specs.Calls as calls
-use Rattle.meson_calls.specs.declared.refusal.Refusal.{Refusal}
-use Rattle.meson_variables.specs.Expansion.{Mark}
-use Rattle.meson_calls.specs.Loading.{IsProject, Loaded, project}
-use Rattle.meson_calls.specs.Project.{Placed, child}
-use Rattle.meson_variables.specs.TargetSources.{first_empty, first_list, or_option}
-use Rattle.meson_steps.specs.ListSteps.{MayStandBetween}
-use Rattle.meson_steps.specs.ResultLimits.{plain_trees}
-use Rattle.meson_steps.specs.Steps.{Step, all_stepped, step_in, stepped}
-use Rattle.meson_steps.specs.WrittenTexts.{string_of}
-use Rattle.meson_steps.proofs.Insertable.{edited_there, elements_with, there_again}
-use Rattle.meson_steps.proofs.PlainTrees.{PlainPlace, element_erased, plain_place, tree_is, value_erased}
-use Rattle.meson_steps.proofs.WentWell.{then_was}
-use Rattle.meson_steps.proofs.WithOne.{all_nth, change_made}
-use Rattle.meson_sources.specs.Effects.{ArgumentComes, ArgumentGrows, ArgumentHolds, ExtraComes, ExtraIsAdded, array_holding, elements_found, extra_argument, strings}
 use Rattle.meson_sources.specs.SourceEdits as edits
-use Rattle.meson_sources.specs.SourceEdits.{array_with, behind_value, checked_extra, elements_there, extra_inserted, extra_key, extra_marks, inserted_in, into_new_list, new_names, without_home, written_keyword}
+use Rattle.meson_sources.proofs.Words.{Ok, option_and_then, option_map, Result, [], ap, arith, drop, length, List, None, Option, refl, Some, subst, suc, sym, take, zero, ℕ, ◌++◌, ◌-◌, ◌<◌, ◌∙◌, ◌∷◌, ◌≡◌, Span, LevelFile, holds_pairs, list_at, ListAt, nth, value_of, Argument, erase, erase_argument, erase_expression, Expression, Nowhere, Plain, plain, some-injective, and-then-some, After, array_of, Edit, edited, edited_elements, edited_list, element_added, elements, exchanged, with_elements, with_value, Wrap, Call, keyword, Numbered, IsProject, Loaded, project, child, Placed, CallRef, Refusal, Mark, first_empty, first_list, or_option, MayStandBetween, plain_trees, all_stepped, Step, step_in, stepped, string_of, edited_there, elements_with, there_again, element_erased, plain_place, PlainPlace, tree_is, value_erased, then_was, all_nth, change_made, ArgumentComes, ArgumentGrows, ArgumentHolds, array_holding, elements_found, extra_argument, ExtraComes, ExtraIsAdded, strings, array_with, behind_value, checked_extra, elements_there, extra_inserted, extra_key, extra_marks, inserted_in, into_new_list, new_names, without_home, written_keyword}
 use Rattle.meson_sources.proofs.Standings.{TargetThere}
 use Rattle.meson_sources.proofs.ArgumentsGrow.{Holding, all_more, arguments_are, other_there, put_last}
 use Rattle.meson_sources.proofs.ExtrasAddable.{as_many, checked_marks, not_empty}

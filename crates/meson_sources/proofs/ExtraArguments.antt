@@ -1,24 +1,5 @@
 -- The extra files of a target after its call has got an argument for them, or an array in the place of a lone one.
-use Rattle.std.specs.Prelude.{option_and_then, option_map}
-use Rattle.std.proofs.Common.{◌≡◌, ℕ, ◌+◌, ◌≤◌, List, [], ◌∷◌, ◌++◌, append-nil, length, map, Some, refl, sym, ap, ◌∙◌, subst, arith, IsUtf8, None}
-use Rattle.meson_lex.specs.declared.kinds.Span.{Span}
-use Rattle.meson_syntax.specs.Children.{an_expression}
-use Rattle.meson_syntax.specs.Paths.{ListAt, ListIn, list_at, list_in}
-use Rattle.meson_syntax.specs.Tree.{Nowhere, Plain, Expression, string, call, Argument, plain, Arguments, arguments_of, erase_expression}
-use Rattle.meson_syntax.proofs.parsing.Complete.{list-of-arguments}
-use Rattle.meson_syntax.proofs.parsing.Steps.{some-injective}
-use Rattle.meson_syntax.proofs.paths.Every.{Every}
-use Rattle.meson_edit.specs.Edits.{elements, with_value}
-use Rattle.meson_calls.specs.declared.call.CallRef.{CallRef}
-use Rattle.meson_calls.specs.Calls.{Numbered, literal_of}
-use Rattle.meson_variables.specs.Expansion.{Expansion, fixed, max_followed}
-use Rattle.meson_calls.specs.Loading.{Loaded, project}
-use Rattle.meson_calls.specs.Project.{Project}
-use Rattle.meson_steps.specs.ResultLimits.{plain_trees}
-use Rattle.meson_sources.specs.Effects.{ArgumentComes, ArgumentGrows, OnlyList, array_holding, elements_found, extra_argument, strings}
-use Rattle.meson_sources.specs.SourceEdits.{extra_key}
-use Rattle.meson_sources.specs.Extras.{extra_files}
-use Rattle.meson_sources.specs.WholeSources.{file_names}
+use Rattle.meson_sources.proofs.Words.{option_and_then, option_map, [], ap, append-nil, arith, IsUtf8, length, List, map, None, refl, Some, subst, sym, ℕ, ◌++◌, ◌+◌, ◌∙◌, ◌∷◌, ◌≡◌, ◌≤◌, Span, an_expression, list_at, list_in, ListAt, ListIn, Argument, Arguments, arguments_of, call, erase_expression, Expression, Nowhere, Plain, plain, string, list-of-arguments, some-injective, Every, elements, with_value, literal_of, Numbered, Loaded, project, Project, CallRef, Expansion, fixed, max_followed, plain_trees, ArgumentComes, ArgumentGrows, array_holding, elements_found, extra_argument, OnlyList, strings, extra_files, extra_key, file_names}
 use Rattle.meson_sources.proofs.ArrayFiles.{keyed_value, lone_array, lone_literal, lone_wrapped, new_keyed, other_keyed}
 use Rattle.meson_sources.proofs.Bares.{expand_with, values_of}
 use Rattle.meson_sources.proofs.CallForms.{CallIn, CallNode, bare_arguments, bare_form, stands_bare, called}

@@ -1,16 +1,6 @@
 -- The extra files of a call are met as the sources of one with other names of arguments.
-use Rattle.std.specs.Prelude.{bytes_eq, if◌then◌else◌, option_map}
-use Rattle.std.specs.List.{cons_option}
-use Rattle.std.proofs.Common.{◌≡◌, ℕ, ◌+◌, Bool, true, false, [], ◌∷◌, map, Some, None, refl, sym, ap, ◌∙◌}
 use Rattle.meson_syntax.specs.declared.operator.Bracket.TheVariants as bracket
-use Rattle.meson_syntax.specs.Grammar.{LevelArguments}
-use Rattle.meson_syntax.specs.Operators.{holds_pairs}
-use Rattle.meson_syntax.specs.Children.{an_expression, arguments_parts}
-use Rattle.meson_syntax.specs.Tree.{bare_name, Nowhere, Name, Expression, Argument, plain, named, pair, Arguments, no_arguments, argument}
-use Rattle.meson_calls.specs.declared.call.CallRef.{CallRef}
-use Rattle.meson_variables.specs.Expansion.{fixed, in_list, both_expanded}
-use Rattle.meson_calls.specs.NamedArguments.{rest, sources_key}
-use Rattle.meson_sources.specs.SourceEdits.{extra_key}
+use Rattle.meson_sources.proofs.Words.{cons_option, bytes_eq, if◌then◌else◌, option_map, [], ap, Bool, false, map, None, refl, Some, sym, true, ℕ, ◌+◌, ◌∙◌, ◌∷◌, ◌≡◌, an_expression, arguments_parts, LevelArguments, holds_pairs, Argument, argument, Arguments, bare_name, Expression, Name, named, no_arguments, Nowhere, pair, plain, rest, sources_key, CallRef, both_expanded, fixed, in_list, extra_key}
 use Rattle.meson_sources.proofs.CallTrees.{Expand, keyed, keys, list_with, plains, whole}
 use Rattle.meson_sources.proofs.Shapes.{blank, blanks}
 

@@ -1,22 +1,5 @@
 -- Where the arguments of a target's call become others by which the same is told, its id names it.
-use Rattle.std.specs.Prelude.{bytes_eq, if◌then◌else◌, option_and_then, option_map}
-use Rattle.std.specs.List.{cons_option}
-use Rattle.std.proofs.Common.{◌≡◌, ℕ, ◌+◌, List, [], ◌∷◌, ◌++◌, append-nil, Some, None, false, refl, sym, ap, ◌∙◌, inr}
-use Rattle.meson_lex.specs.declared.kinds.Span.{Span}
-use Rattle.meson_syntax.specs.Children.{an_expression, argument_parts, arguments_parts}
-use Rattle.meson_syntax.specs.Paths.{ListAt, ListIn, list_at, list_in, value_of}
-use Rattle.meson_syntax.specs.Tree.{Nowhere, Expression, array, dictionary, call, Listing, listing, Argument, plain, named, pair, arguments_of}
-use Rattle.meson_syntax.proofs.parsing.Complete.{list-of-arguments}
-use Rattle.meson_syntax.proofs.parsing.Steps.{some-injective}
-use Rattle.meson_edit.specs.Edits.{elements, with_value}
-use Rattle.meson_edit.proofs.paths.PutThere.{lists-stay}
-use Rattle.meson_calls.specs.Calls.{Call}
-use Rattle.meson_calls.specs.Loading.{Loaded}
-use Rattle.meson_calls.specs.Project.{Placed}
-use Rattle.meson_steps.specs.ResultLimits.{plain_trees}
-use Rattle.meson_sources.specs.Effects.{OnlyList, array_holding, elements_found, extra_argument, strings}
-use Rattle.meson_sources.specs.SourceEdits.{is_plain}
-use Rattle.meson_sources.specs.WholeSources.{file_names}
+use Rattle.meson_sources.proofs.Words.{cons_option, bytes_eq, if◌then◌else◌, option_and_then, option_map, [], ap, append-nil, false, inr, List, None, refl, Some, sym, ℕ, ◌++◌, ◌+◌, ◌∙◌, ◌∷◌, ◌≡◌, Span, an_expression, argument_parts, arguments_parts, list_at, list_in, ListAt, ListIn, value_of, Argument, arguments_of, array, call, dictionary, Expression, Listing, listing, named, Nowhere, pair, plain, list-of-arguments, some-injective, elements, with_value, lists-stay, Call, Loaded, Placed, plain_trees, array_holding, elements_found, extra_argument, OnlyList, strings, is_plain, file_names}
 use Rattle.meson_sources.proofs.ArrayFiles.{same_value}
 use Rattle.meson_sources.proofs.CallTrees.{keyed}
 use Rattle.meson_sources.proofs.MarkLists.{below_itself}

@@ -1,38 +1,13 @@
 -- Extra files may be put where they go, one after another: into a list, into a new one, or behind a lone value.
-use Rattle.std.proofs.Common.{◌≡◌, ℕ, zero, suc, ◌-◌, ◌<◌, ◌≤◌, List, [], ◌∷◌, length, Option, Some, None, refl, sym, ap, ◌∙◌, subst, arith, IsUtf8}
-use Rattle.std.specs.Prelude.{All, Ok}
-use Rattle.std.proofs.lemmas.List.Elements.{All-head, All-tail}
-use Rattle.meson_lex.specs.declared.kinds.Span.{Span}
-use Rattle.meson_splice.specs.Patch.{then_ok}
-use Rattle.meson_syntax.specs.Tree.{Plain, Expression, Listing, listing, Argument, Arguments, no_arguments, argument, argument_list, erase, erase_expression, erase_argument, erase_arguments, erase_listing}
-use Rattle.meson_syntax.specs.Grammar.{LevelFile, file_depth}
-use Rattle.meson_syntax.specs.Paths.{nth}
-use Rattle.meson_edit.specs.Edits.{After, Wrap, elements}
-use Rattle.meson_calls.specs.declared.call.CallRef.{CallRef}
-use Rattle.meson_calls.specs.Calls.{Call, Numbered, keyword}
 use Rattle.meson_calls.specs.Calls as calls
-use Rattle.meson_variables.specs.Expansion.{Mark}
-use Rattle.meson_steps.specs.ListSteps.{MayStandBetween, AreDoable, none}
-use Rattle.meson_calls.specs.Loading.{Loaded, AreParsed, project}
-use Rattle.meson_steps.specs.ResultLimits.{plain_trees}
-use Rattle.meson_calls.specs.Project.{Project, Placed, child}
-use Rattle.meson_steps.specs.Steps.{step_in, Step}
-use Rattle.meson_sources.specs.SourceEdits.{checked_extra, extra_key, extra_marks, new_names, insertion_steps, inserted_in, written_keyword, elements_there, into_new_list, behind_value, without_home, extra_inserted}
-use Rattle.meson_steps.specs.Names.{checked_names}
-use Rattle.meson_calls.specs.NamedArguments.{not_hidden, kwargs_key, once}
-use Rattle.meson_variables.specs.TargetSources.{first_list, first_empty, or_option}
+use Rattle.meson_sources.proofs.Words.{All, Ok, [], ap, arith, IsUtf8, length, List, None, Option, refl, Some, subst, suc, sym, zero, ℕ, ◌-◌, ◌<◌, ◌∙◌, ◌∷◌, ◌≡◌, ◌≤◌, All-head, All-tail, Span, then_ok, file_depth, LevelFile, holds_pairs, nth, Argument, argument, argument_list, Arguments, erase, erase_argument, erase_arguments, erase_expression, erase_listing, Expression, Listing, listing, no_arguments, Plain, After, elements, Wrap, Call, keyword, Numbered, AreParsed, Loaded, project, kwargs_key, not_hidden, once, child, Placed, Project, CallRef, Mark, first_empty, first_list, or_option, AreDoable, MayStandBetween, none, checked_names, plain_trees, Step, step_in, element_erased, parsed_shallow, plain_place, tree_is, value_erased, once_was, then_was, all_nth, behind_value, checked_extra, elements_there, extra_inserted, extra_key, extra_marks, inserted_in, insertion_steps, into_new_list, new_names, without_home, written_keyword}
 use Rattle.meson_sources.proofs.Standings.{MarkStands, TargetThere, ExtrasMayBeAdded}
 use Rattle.meson_sources.proofs.Homes.{Home, marked_home, home_doable, all_stand}
-use Rattle.meson_steps.proofs.PlainTrees.{tree_is}
 use Rattle.meson_sources.proofs.KeywordText.{keyword_written}
 use Rattle.meson_sources.proofs.NamedPlaces.{keyword_there}
 use Rattle.meson_sources.proofs.NewLists.{keyword_grown, wrapped_grown, array_doable}
 use Rattle.meson_sources.proofs.SourcesAddable.{new_texts, some_first}
 use Rattle.meson_sources.proofs.PlainCounts.{plain_count, elements_are}
-use Rattle.meson_steps.proofs.PlainTrees.{parsed_shallow, element_erased, value_erased, plain_place}
-use Rattle.meson_steps.proofs.WentWell.{then_was, once_was}
-use Rattle.meson_steps.proofs.WithOne.{all_nth}
-use Rattle.meson_syntax.specs.Operators.{holds_pairs}
 
 -- ---- as many elements without their spans
 

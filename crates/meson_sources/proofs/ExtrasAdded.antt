@@ -1,31 +1,10 @@
 -- Extra files added: by the argument that is there, or by the home.
-use Rattle.std.proofs.Common.{◌≡◌, ℕ, ◌<◌, List, [], ◌∷◌, length, get_or, map, refl, sym, ap, ◌∙◌, arith}
-use Rattle.std.specs.Prelude.{Option, Some, None, Ok, Err}
-use Rattle.meson_lex.specs.declared.kinds.Span.{Span}
-use Rattle.meson_splice.specs.Patch.{then_ok}
 use Rattle.meson_syntax.specs.declared.tree.Arg.{Arg}
 use Rattle.meson_syntax.specs.declared.tree.Arg.TheVariants as arg
 use Rattle.meson_syntax.specs.declared.tree.Expr.{Expr}
 use Rattle.meson_syntax.specs.declared.tree.List as rust
-use Rattle.meson_syntax.specs.Tree.{Expression}
-use Rattle.meson_syntax.specs.View.{expr_view}
-use Rattle.meson_calls.specs.declared.call.CallRef.{CallRef}
-use Rattle.meson_calls.specs.declared.refusal.Refusal.{Refusal}
-use Rattle.meson_steps.specs.declared.step.ListStep.{ListStep}
-use Rattle.meson_calls.specs.Calls.{Call, Numbered, keyword, value_with_name, literal_of}
-use Rattle.meson_variables.specs.Expansion.{max_followed}
-use Rattle.meson_calls.specs.NamedArguments.{IsFirstNamed, kept_args}
-use Rattle.meson_steps.specs.ListSteps.{bare}
-use Rattle.meson_sources.specs.inside.Naming.{new_among}
-use Rattle.meson_calls.specs.ChosenNotes.{placed_call}
-use Rattle.meson_calls.specs.Project.{Project, Placed}
-use Rattle.meson_variables.specs.TargetSources.{or_option, first_list, first_empty}
-use Rattle.meson_sources.specs.SourceEdits.{extra_key, checked_extra, extra_added, extra_inserted, without_home, into_new_list, behind_value, insertion_steps, inserted_in, plain_len, elements_there, new_names}
-use Rattle.meson_variables.specs.Tallies.{Tally}
-use Rattle.meson_sources.specs.inside.Targeted.{extra_gathered, lone_or_new, new_list_steps}
-use Rattle.meson_steps.specs.Meanings.{AreMeant, AreBehind}
-use Rattle.meson_calls.proofs.KeywordArguments.{keyword_is}
 use Rattle.meson_calls.proofs.FirstValue.{value_is}
+use Rattle.meson_sources.proofs.Words.{Err, Ok, [], ap, arith, get_or, length, List, map, None, Option, refl, Some, sym, ℕ, ◌<◌, ◌∙◌, ◌∷◌, ◌≡◌, Span, then_ok, Expression, expr_view, Call, keyword, literal_of, Numbered, value_with_name, placed_call, IsFirstNamed, kept_args, Placed, Project, CallRef, Refusal, keyword_is, max_followed, Tally, first_empty, first_list, or_option, bare, AreBehind, AreMeant, ListStep, behind_value, checked_extra, elements_there, extra_added, extra_inserted, extra_key, inserted_in, insertion_steps, into_new_list, new_names, plain_len, without_home, new_among, extra_gathered, lone_or_new, new_list_steps}
 use Rattle.meson_sources.proofs.Marked.{new_are}
 use Rattle.meson_sources.proofs.ExtrasMeant.{extras, extra_fields}
 

@@ -1,30 +1,7 @@
 -- The steps that commands on extra files mean, by what the code finds.
-use Rattle.std.proofs.Common.{◌≡◌, ℕ, ◌<◌, ◌≤◌, List, [], ◌∷◌, length, refl, sym, ap, ◌∙◌, arith}
-use Rattle.std.specs.Prelude.{Result, Ok, Err}
-use Rattle.meson_lex.specs.declared.kinds.Span.{Span}
-use Rattle.meson_splice.specs.Patch.{then_ok}
 use Rattle.meson_syntax.specs.declared.tree.List as rust
-use Rattle.meson_calls.specs.declared.call.CallRef.{CallRef}
-use Rattle.meson_calls.specs.declared.refusal.Refusal.{Refusal}
-use Rattle.meson_calls.specs.declared.refusal.Refusal.TheVariants.{DuplicateKeyword}
-use Rattle.meson_steps.specs.declared.step.ListStep.{ListStep}
-use Rattle.meson_calls.specs.Project.{Project, Placed}
-use Rattle.meson_calls.specs.Calls.{Call, keyword, value_with_name}
-use Rattle.meson_variables.specs.Expansion.{Mark, fixed, max_followed}
-use Rattle.meson_calls.specs.ChosenNotes.{placed_call}
-use Rattle.meson_sources.specs.inside.CodeSpots.{spots_of_names}
-use Rattle.meson_calls.specs.NamedArguments.{kwargs_key, once, kept_args, not_hidden}
-use Rattle.meson_variables.specs.TargetSources.{expand_arguments}
-use Rattle.meson_sources.specs.SourceEdits.{extra_key, extra_marks, checked_extra, spots_named, removed_at, extra_removed}
-use Rattle.meson_steps.specs.Names.{checked_names, distinct}
-use Rattle.meson_steps.specs.Steps.{Step}
-use Rattle.meson_variables.specs.Tallies.{Tally, all_marked, no_marks}
-use Rattle.meson_sources.specs.inside.Targeted.{extra_gathered}
-use Rattle.meson_steps.specs.Meanings.{AreMeant}
-use Rattle.meson_calls.proofs.KeywordArguments.{keyword_is}
-use Rattle.meson_variables.proofs.Answered.{arguments_are}
+use Rattle.meson_sources.proofs.Words.{Err, Ok, Result, [], ap, arith, length, List, refl, sym, ℕ, ◌<◌, ◌∙◌, ◌∷◌, ◌≡◌, ◌≤◌, Span, then_ok, Call, keyword, value_with_name, placed_call, kept_args, kwargs_key, not_hidden, once, Placed, Project, CallRef, Refusal, DuplicateKeyword, once_few, once_twice, keyword_is, fixed, Mark, max_followed, all_marked, no_marks, Tally, expand_arguments, arguments_are, AreMeant, checked_names, distinct, Step, ListStep, checked_extra, extra_key, extra_marks, extra_removed, removed_at, spots_named, spots_of_names, extra_gathered}
 use Rattle.meson_sources.proofs.Marked.{Told, told, told_spots}
-use Rattle.meson_calls.proofs.AtMostOnce.{once_few, once_twice}
 
 none_hidden : {X : Type 0} (xs : List X) → length xs ≤ 0 → not_hidden xs ≡ Ok tt
 none_hidden [] none = refl

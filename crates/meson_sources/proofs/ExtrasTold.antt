@@ -1,26 +1,9 @@
 -- What gathered marks say of the extra files of a call.
-use Rattle.std.proofs.Common.{◌≡◌, ℕ, ◌<◌, ◌≤◌, List, [], length, sym, ap, ◌∙◌}
-use Rattle.std.specs.Prelude.{Option, Ok, Err}
-use Rattle.meson_lex.specs.declared.kinds.Span.{Span}
 use Rattle.meson_syntax.specs.declared.tree.List as rust
-use Rattle.meson_calls.specs.declared.call.CallRef.{CallRef}
-use Rattle.meson_variables.specs.declared.source.SourceItem.{SourceItem}
 use Rattle.meson_variables.specs.declared.source.Sources.{Sources}
-use Rattle.meson_calls.specs.declared.refusal.Refusal.TheVariants.{DuplicateKeyword}
-use Rattle.meson_calls.specs.Calls.{value_with_name}
-use Rattle.meson_variables.specs.Expansion.{Mark, max_followed}
-use Rattle.meson_calls.specs.ChosenNotes.{placed_call}
-use Rattle.meson_calls.specs.Project.{Project}
-use Rattle.meson_calls.specs.NamedArguments.{kept_args, once}
-use Rattle.meson_variables.specs.TargetSources.{sources_of_marks, first_empty, first_list, opaque_count, or_call, or_option}
-use Rattle.meson_variables.specs.Tallies.{Tally}
-use Rattle.meson_sources.specs.Extras.{extra_of_call}
-use Rattle.meson_sources.specs.SourceEdits.{extra_key, extra_marks}
-use Rattle.meson_sources.specs.inside.Targeted.{extra_gathered}
-use Rattle.meson_calls.proofs.KeywordArguments.{keyword_is}
+use Rattle.meson_sources.proofs.Words.{Err, Ok, [], ap, length, List, Option, sym, ℕ, ◌<◌, ◌∙◌, ◌≡◌, ◌≤◌, Span, value_with_name, placed_call, kept_args, once, Project, CallRef, DuplicateKeyword, once_few, once_twice, keyword_is, Mark, max_followed, Tally, first_empty, first_list, opaque_count, or_call, or_option, sources_of_marks, SourceItem, extra_of_call, extra_key, extra_marks, extra_gathered}
 use Rattle.meson_sources.proofs.ExtrasMeant.{extra_fields}
 use Rattle.meson_sources.proofs.Marked.{Told}
-use Rattle.meson_calls.proofs.AtMostOnce.{once_few, once_twice}
 
 abbrev sources_with : CallRef → List SourceItem → ℕ → Option CallRef → Option CallRef → Sources
 sources_with c items unknown list vacant = record { items = items; opaque = unknown; home = or_call c (or_option list vacant) }

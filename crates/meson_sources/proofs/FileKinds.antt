@@ -1,22 +1,6 @@
 -- The two kinds of files of a target: its sources, and its extra files. Those of either kind are met as the sources of a call.
-use Rattle.std.specs.Prelude.{option_and_then, option_map, Ok}
-use Rattle.std.proofs.Common.{◌≡◌, ℕ, ◌≤◌, Bool, false, List, [], ◌++◌, append-nil, length, map, Some, refl, sym, ap, ◌∙◌, subst}
-use Rattle.std.proofs.lemmas.List.{map-append}
-use Rattle.meson_lex.specs.declared.kinds.Span.{Span}
 use Rattle.meson_syntax.specs.declared.operator.Bracket.TheVariants as bracket
-use Rattle.meson_syntax.specs.Grammar.{LevelArguments}
-use Rattle.meson_syntax.specs.Children.{arguments_parts}
-use Rattle.meson_syntax.specs.Tree.{Nowhere, Expression, Arguments}
-use Rattle.meson_syntax.proofs.paths.Every.{Every, every-append}
-use Rattle.meson_calls.specs.declared.call.CallRef.{CallRef}
-use Rattle.meson_calls.specs.Calls.{Call, Numbered, call_of}
-use Rattle.meson_variables.specs.Expansion.{Expansion, Mark, fixed, in_list, max_followed, then_expand}
-use Rattle.meson_calls.specs.Project.{Placed, Project, placed}
-use Rattle.meson_variables.specs.TargetSources.{expand_arguments, first_empty, first_list, hidden, or_option, source_marks, sources, sources_of_call, sources_of_marks}
-use Rattle.meson_calls.specs.NamedArguments.{kwargs_key, once, rest, sources_key}
-use Rattle.meson_sources.specs.Extras.{extra_files, extra_of_call}
-use Rattle.meson_sources.specs.SourceEdits.{extra_key, extra_marks}
-use Rattle.meson_sources.specs.WholeSources.{Reading}
+use Rattle.meson_sources.proofs.Words.{Ok, option_and_then, option_map, [], ap, append-nil, Bool, false, length, List, map, refl, Some, subst, sym, ℕ, ◌++◌, ◌∙◌, ◌≡◌, ◌≤◌, map-append, Span, arguments_parts, LevelArguments, Arguments, Expression, Nowhere, Every, every-append, Call, call_of, Numbered, kwargs_key, once, rest, sources_key, Placed, placed, Project, CallRef, once_few, Expansion, fixed, in_list, Mark, max_followed, then_expand, expand_arguments, first_empty, first_list, hidden, or_option, source_marks, sources, sources_of_call, sources_of_marks, extra_files, extra_of_call, extra_key, extra_marks, Reading}
 use Rattle.meson_sources.proofs.Bares.{bare_mark, expand_with, values_of}
 use Rattle.meson_sources.proofs.CallForms.{CallIn, bare_arguments, called}
 use Rattle.meson_sources.proofs.CallTrees.{keyed, keys, list_with, plains, whole}
@@ -26,7 +10,6 @@ use Rattle.meson_sources.proofs.Gists.{gist, gist_append}
 use Rattle.meson_sources.proofs.Outcomes.{Clear}
 use Rattle.meson_sources.proofs.PlacesBelow.{IsIt}
 use Rattle.meson_sources.proofs.Shapes.{blanks}
-use Rattle.meson_calls.proofs.AtMostOnce.{once_few}
 use Rattle.meson_sources.proofs.SourceTotals.{gist_bare, hidden_clear, keyed_bare, list_bare, no_home, whole_bare}
 
 pub record FileKind : Type 0 where

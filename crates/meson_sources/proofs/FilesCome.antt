@@ -1,20 +1,6 @@
 -- All files of a target after another list than its call's has got strings.
-use Rattle.std.specs.Prelude.{All}
-use Rattle.std.proofs.Common.{◌≡◌, ℕ, ◌≤◌, Bool, true, false, List, [], ◌∷◌, ◌++◌, length, Some, refl, sym, ◌∙◌, subst, inl, IsUtf8}
 use Rattle.meson_syntax.specs.declared.operator.Bracket.TheVariants as bracket
-use Rattle.meson_syntax.specs.Children.{Any, an_expression, a_block}
-use Rattle.meson_syntax.specs.inside.Children.{node_at}
-use Rattle.meson_syntax.specs.Paths.{block_of}
-use Rattle.meson_syntax.specs.Tree.{Nowhere, Name, Expression, array, call, dictionary, Listing, listing, Argument, arguments_of}
-use Rattle.meson_syntax.proofs.paths.Every.{Every}
-use Rattle.meson_calls.specs.declared.call.CallRef.{CallRef}
-use Rattle.meson_variables.specs.Expansion.{is_files, is_operand_by}
-use Rattle.meson_calls.specs.Loading.{IsProject, Loaded, project}
-use Rattle.meson_calls.specs.Roles.{one_of, target_functions}
-use Rattle.meson_steps.specs.ListSteps.{MayStandBetween}
-use Rattle.meson_steps.specs.ResultLimits.{plain_trees}
-use Rattle.meson_sources.specs.Effects.{strings}
-use Rattle.meson_sources.specs.WholeSources.{file_names}
+use Rattle.meson_sources.proofs.Words.{All, [], Bool, false, inl, IsUtf8, length, List, refl, Some, subst, sym, true, ℕ, ◌++◌, ◌∙◌, ◌∷◌, ◌≡◌, ◌≤◌, a_block, an_expression, Any, block_of, Argument, arguments_of, array, call, dictionary, Expression, Listing, listing, Name, Nowhere, node_at, Every, IsProject, Loaded, project, one_of, target_functions, CallRef, is_files, is_operand_by, MayStandBetween, plain_trees, strings, file_names}
 use Rattle.meson_sources.proofs.Arrivals.{CallGrows, arrives}
 use Rattle.meson_sources.proofs.CallForms.{CallIn, bare_arguments, called}
 use Rattle.meson_sources.proofs.CallTrees.{keyed}

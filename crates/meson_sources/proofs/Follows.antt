@@ -1,15 +1,5 @@
 -- Variables that stand for the same in two projects, or for an expression in which another node stands on the way to it: what is met behind them.
-use Rattle.std.specs.Prelude.{◌⊎◌, ◌&&◌}
-use Rattle.std.proofs.Common.{◌≡◌, ℕ, zero, suc, Bool, true, false, List, [], ◌∷◌, Some, None, refl, sym, ap, ap₂, ◌∙◌, subst, inl, inr}
-use Rattle.meson_syntax.specs.Grammar.{LevelExpression}
-use Rattle.meson_syntax.specs.Children.{Any, an_expression}
-use Rattle.meson_syntax.specs.inside.Children.{operands_parts}
-use Rattle.meson_syntax.specs.Tree.{Nowhere, Expression, identifier, string, array, call, row}
-use Rattle.meson_calls.specs.declared.call.CallRef.{CallRef}
-use Rattle.meson_variables.specs.Expansion.{Mark, opaque, Expansion, Stand, met, are_plus, is_operand_by, is_value_by, is_single_by, max_followed, expand_by, follow_single, of_variable}
-use Rattle.meson_calls.specs.Project.{Placed, child}
-use Rattle.meson_calls.specs.Roles.{one_of}
-use Rattle.meson_variables.specs.TargetSources.{list_of_slot}
+use Rattle.meson_sources.proofs.Words.{◌&&◌, ◌⊎◌, [], ap, ap₂, Bool, false, inl, inr, List, None, refl, Some, subst, suc, sym, true, zero, ℕ, ◌∙◌, ◌∷◌, ◌≡◌, an_expression, Any, LevelExpression, array, call, Expression, identifier, Nowhere, row, string, operands_parts, child, Placed, one_of, CallRef, are_plus, expand_by, Expansion, follow_single, is_operand_by, is_single_by, is_value_by, Mark, max_followed, met, of_variable, opaque, Stand, list_of_slot}
 use Rattle.meson_sources.proofs.Bares.{Values, list_by, lists_by, expand_with}
 use Rattle.meson_sources.proofs.MarkLists.{below}
 use Rattle.meson_sources.proofs.Outcomes.{Either, as_before, grown, How, stays, comes, Outcome, Along, opaque_both}

@@ -1,27 +1,13 @@
 -- Where the same is told of targets and the call that an id named stands at a place, the id names that one alone.
-use Rattle.std.specs.Prelude.{◌⊎◌, ◌<◌, if◌then◌else◌, bytes_eq, option_map, slice_index_or, Ok}
-use Rattle.std.specs.List.{Contains, cons_option}
-use Rattle.std.proofs.Common.{◌≡◌, ℕ, zero, suc, ◌+◌, Bool, true, false, List, [], ◌∷◌, length, map, Option, Some, None, refl, sym, ap, ◌∙◌, subst, arith, inl, inr}
-use Rattle.meson_lex.specs.declared.kinds.Span.{Span}
 use Rattle.meson_syntax.specs.declared.operator.Assignment.TheVariants as assignment
-use Rattle.meson_syntax.specs.Tree.{Name, Expression, Statement, assign}
 use Rattle.meson_syntax.specs.Children as syntax
 use Rattle.meson_syntax.specs.inside.Children as tree_nodes
-use Rattle.meson_syntax.specs.Paths.{block_of}
-use Rattle.meson_syntax.proofs.parsing.Steps.{some-injective}
-use Rattle.meson_syntax.proofs.paths.Every.{Every}
-use Rattle.meson_calls.specs.declared.call.CallRef.{CallRef}
 use Rattle.meson_calls.specs.declared.call.Role.TheVariants as role
-use Rattle.meson_calls.specs.Calls.{Call, all_chosen, call_of, first_literal, is, part_call}
-use Rattle.meson_calls.specs.Finding.{only_one, the_call}
-use Rattle.meson_calls.specs.Parts.{Part, parts}
 use Rattle.meson_calls.specs.Parts as part
-use Rattle.meson_calls.specs.Project.{BuildFile, Placed, Project, placed, child, nth_file, place}
-use Rattle.meson_calls.specs.Roles.{has_role, is_target_call, with_role}
 use Rattle.meson_calls.specs.Naming.{or_else, part_set_to, set_to, value_of_assignment, with_name}
 use Rattle.meson_calls.proofs.CallsReached.{InProject, every_chosen, every_part}
 use Rattle.meson_calls.proofs.PartsContained.{all_has}
-use Rattle.meson_calls.proofs.nodes.PartsBelow.{any}
+use Rattle.meson_sources.proofs.Words.{cons_option, Contains, bytes_eq, if◌then◌else◌, Ok, option_map, slice_index_or, ◌⊎◌, [], ap, arith, Bool, false, inl, inr, length, List, map, None, Option, refl, Some, subst, suc, sym, true, zero, ℕ, ◌+◌, ◌<◌, ◌∙◌, ◌∷◌, ◌≡◌, Span, block_of, assign, Expression, Name, Statement, some-injective, Every, all_chosen, Call, call_of, first_literal, is, part_call, only_one, the_call, Part, parts, BuildFile, child, nth_file, place, Placed, placed, Project, has_role, is_target_call, with_role, CallRef, any}
 use Rattle.meson_sources.proofs.Owners.{node_between}
 use Rattle.meson_sources.proofs.TargetNames.{Naming, a_target, a_variable, tell_call, tell_statement, told}
 

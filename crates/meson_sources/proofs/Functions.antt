@@ -1,10 +1,5 @@
 -- Functions that make targets, and `files`.
-use Rattle.std.specs.Prelude.{◌||◌, not, ◌&&◌, bytes_eq, codes}
-use Rattle.std.proofs.Common.{◌≡◌, ℕ, Bool, true, false, List, refl, sym, ap, ap₂, ◌∙◌}
-use Rattle.std.proofs.lemmas.Slice.Eq.{bytes_eq-Decides}
-use Rattle.meson_syntax.specs.Tree.{Nowhere, Listing, listing, Arguments}
-use Rattle.meson_variables.specs.Expansion.{is_files, has_names}
-use Rattle.meson_calls.specs.Roles.{one_of, target_functions}
+use Rattle.meson_sources.proofs.Words.{bytes_eq, codes, not, ◌&&◌, ◌||◌, ap, ap₂, Bool, false, List, refl, sym, true, ℕ, ◌∙◌, ◌≡◌, bytes_eq-Decides, Arguments, Listing, listing, Nowhere, one_of, target_functions, has_names, is_files}
 use Rattle.meson_sources.proofs.Tells.{matters}
 
 no_other : (f g : List ℕ) → one_of target_functions f ≡ true → one_of target_functions g ≡ false → bytes_eq f g ≡ false

@@ -1,9 +1,5 @@
 -- What marks say without places: of each known source its text, and each that is not known.
-use Rattle.std.proofs.Common.{◌≡◌, ℕ, suc, List, [], ◌∷◌, ◌++◌, append_assoc, map, Option, Some, None, refl, sym, ap, ◌∙◌}
-use Rattle.meson_variables.specs.Expansion.{Mark, known, opaque, empty, or_empty}
-use Rattle.meson_variables.specs.TargetSources.{items, opaque_count}
-use Rattle.meson_calls.specs.declared.call.CallRef.{CallRef}
-use Rattle.meson_sources.specs.WholeSources.{TextsCome}
+use Rattle.meson_sources.proofs.Words.{[], ap, append_assoc, List, map, None, Option, refl, Some, suc, sym, ℕ, ◌++◌, ◌∙◌, ◌∷◌, ◌≡◌, CallRef, empty, known, Mark, opaque, or_empty, items, opaque_count, TextsCome}
 
 abbrev pub Gist : Type 0
 Gist = List (Option (List ℕ))

@@ -1,14 +1,5 @@
 -- Elements go from the lists of a node, and then others from those of what is left: the node is what it is without all of them.
-use Rattle.std.specs.Prelude.{◌||◌, ◌⊎◌, if◌then◌else◌}
-use Rattle.std.proofs.Common.{◌≡◌, ℕ, suc, ◌+◌, Bool, true, false, List, [], ◌∷◌, ◌++◌, length, Some, None, refl, sym, ap, ap₂, ◌∙◌, subst, arith, inl, inr}
-use Rattle.meson_syntax.specs.Tree.{Nowhere, Expression, paren, array, dictionary, call, unary, row, postfix, conditional, Operands, no_operands, operand, Tail, method, index, Tails, no_tails, tail, Listing, listing, Argument, plain, named, pair, Arguments, no_arguments, argument, argument_list, arguments_of, Statement, evaluate, assign, selection, iteration, Branches, no_branches, branch, Otherwise, nothing_else, otherwise, Statements, no_statements, statement, Block, block}
-use Rattle.meson_syntax.specs.Children.{an_expression, a_statement, a_block, arguments_parts, branches_parts, listing_parts, tail_parts}
-use Rattle.meson_syntax.specs.inside.Children.{child_nodes, operands_parts, otherwise_parts, statements_parts, tails_parts}
-use Rattle.meson_syntax.specs.Paths.{nth}
-use Rattle.meson_syntax.proofs.paths.Every.{Every}
-use Rattle.meson_edit.specs.Edits.{with_elements}
-use Rattle.meson_edit.proofs.paths.Positions.{EveryAt}
-use Rattle.meson_sources.specs.Without.{Gone, arguments_without, block_without, branches_without, but, expression_without, from_child, listing_without, operands_without, otherwise_without, statement_without, statements_without, tail_without, tails_without}
+use Rattle.meson_sources.proofs.Words.{if◌then◌else◌, ◌||◌, ◌⊎◌, [], ap, ap₂, arith, Bool, false, inl, inr, length, List, None, refl, Some, subst, suc, sym, true, ℕ, ◌++◌, ◌+◌, ◌∙◌, ◌∷◌, ◌≡◌, a_block, a_statement, an_expression, arguments_parts, branches_parts, listing_parts, tail_parts, nth, Argument, argument, argument_list, Arguments, arguments_of, array, assign, Block, block, branch, Branches, call, conditional, dictionary, evaluate, Expression, index, iteration, Listing, listing, method, named, no_arguments, no_branches, no_operands, no_statements, no_tails, nothing_else, Nowhere, operand, Operands, Otherwise, otherwise, pair, paren, plain, postfix, row, selection, Statement, statement, Statements, Tail, tail, Tails, unary, child_nodes, operands_parts, otherwise_parts, statements_parts, tails_parts, Every, with_elements, EveryAt, arguments_without, block_without, branches_without, but, expression_without, from_child, Gone, listing_without, operands_without, otherwise_without, statement_without, statements_without, tail_without, tails_without}
 use Rattle.meson_sources.proofs.ElementGone.{no_comma}
 use Rattle.meson_sources.proofs.ListsBut.{but_none, but_same, kept_by}
 use Rattle.meson_sources.proofs.OneGone.{HasOnePart}

@@ -1,18 +1,6 @@
 -- After an addition a target has its old files and the new ones.
-use Rattle.std.specs.Prelude.{Some, Ok}
-use Rattle.std.proofs.Common.{◌≡◌, ℕ, ◌≤◌, List, [], ◌∷◌, ◌++◌, length, map, refl, sym, ap, ap₂, ◌∙◌, arith}
-use Rattle.meson_lex.specs.declared.kinds.Span.{Span}
-use Rattle.meson_syntax.specs.Tree.{Nowhere, Expression, Arguments, erase_arguments}
-use Rattle.meson_calls.specs.declared.call.CallRef.{CallRef}
-use Rattle.meson_variables.specs.declared.source.SourceItem.{SourceItem}
 use Rattle.meson_variables.specs.declared.source.Sources as found
-use Rattle.meson_calls.specs.Calls.{Numbered}
-use Rattle.meson_variables.specs.Expansion.{Item}
-use Rattle.meson_calls.specs.Loading.{Loaded, project}
-use Rattle.meson_calls.specs.Project.{Project}
-use Rattle.meson_variables.specs.TargetSources.{hidden, items, source_item, sources_of_marks}
-use Rattle.meson_steps.specs.ResultLimits.{plain_trees}
-use Rattle.meson_sources.specs.WholeSources.{Reading, TextsCome, source_texts}
+use Rattle.meson_sources.proofs.Words.{Ok, [], ap, ap₂, arith, length, List, map, refl, Some, sym, ℕ, ◌++◌, ◌∙◌, ◌∷◌, ◌≡◌, ◌≤◌, Span, Arguments, erase_arguments, Expression, Nowhere, Numbered, Loaded, project, Project, CallRef, Item, hidden, items, source_item, sources_of_marks, SourceItem, plain_trees, Reading, source_texts, TextsCome}
 use Rattle.meson_sources.proofs.CallForms.{CallIn, CallNode, bare_arguments, call_again, called}
 use Rattle.meson_sources.proofs.CallTrees.{keyed}
 use Rattle.meson_sources.proofs.FileKinds.{FileKind, marks_say, met_in, read_once}

@@ -1,23 +1,7 @@
 -- A list that gets strings behind some of its elements: what is met in it, and these.
-use Rattle.std.proofs.Common.{◌≡◌, ℕ, ◌+◌, Bool, true, false, List, [], ◌∷◌, ◌++◌, Some, None, refl, sym, ap, ap₂, ◌∙◌, subst, IsUtf8}
-use Rattle.std.specs.Prelude.{not, ◌&&◌, if◌then◌else◌, bytes_eq, codes, All}
-use Rattle.std.proofs.lemmas.List.Elements.{All-head, All-tail}
-use Rattle.meson_lex.specs.Literals.{value, literal}
 use Rattle.meson_lex.proofs.Written.{literal_value}
 use Rattle.meson_syntax.specs.declared.operator.StringKind.TheVariants as quotes
-use Rattle.meson_syntax.specs.Operators.{string_kind}
-use Rattle.meson_syntax.specs.Children.{Any}
-use Rattle.meson_syntax.specs.Tree.{Nowhere, Name, Expression, array, call, listing, Argument, plain, named, pair, arguments_of}
-use Rattle.meson_syntax.proofs.paths.Every.{Every}
-use Rattle.meson_calls.specs.declared.call.CallRef.{CallRef}
-use Rattle.meson_variables.specs.Expansion.{in_list, fixed, Mark, known, opaque, Expansion, Stand, both_expanded, nothing_met, met, element, within, is_files, has_names, literal_item, expand_by, expand_each}
-use Rattle.meson_calls.specs.Project.{child}
-use Rattle.meson_calls.specs.Roles.{one_of}
-use Rattle.meson_variables.specs.TargetSources.{list_of_slot}
-use Rattle.meson_calls.specs.NamedArguments.{rest}
-use Rattle.meson_steps.specs.WrittenTexts.{string_of}
-use Rattle.meson_sources.specs.Effects.{strings}
-use Rattle.meson_sources.specs.SourceEdits.{is_plain}
+use Rattle.meson_sources.proofs.Words.{All, bytes_eq, codes, if◌then◌else◌, not, ◌&&◌, [], ap, ap₂, Bool, false, IsUtf8, List, None, refl, Some, subst, sym, true, ℕ, ◌++◌, ◌+◌, ◌∙◌, ◌∷◌, ◌≡◌, All-head, All-tail, literal, value, Any, string_kind, Argument, arguments_of, array, call, Expression, listing, Name, named, Nowhere, pair, plain, Every, rest, child, one_of, CallRef, both_expanded, element, expand_by, expand_each, Expansion, fixed, has_names, in_list, is_files, known, literal_item, Mark, met, nothing_met, opaque, Stand, within, list_of_slot, string_of, strings, is_plain}
 use Rattle.meson_sources.proofs.CallTrees.{Expand, list_with, plains, keys, keys_same}
 use Rattle.meson_sources.proofs.Gists.{gist, gist_append, gist_within, all_known, Grows, grows_first, grows_behind}
 use Rattle.meson_sources.proofs.Outcomes.{moved, Clear, Either, as_before, grown, How, stays, comes, Outcome, Along, still}

@@ -1,31 +1,8 @@
 -- The list to which further strings go: it holds nothing, or an element without a name; strings may be put into it.
-use Rattle.std.proofs.Common.{◌≡◌, ℕ, zero, suc, ◌<◌, true, false, List, [], ◌∷◌, Option, Some, None, sym, ap, ◌∙◌, subst, arith, inl, inr, IsUtf8}
-use Rattle.std.specs.Prelude.{◌⊎◌, All}
-use Rattle.std.proofs.lemmas.List.Elements.{All-head, All-tail}
-use Rattle.meson_lex.specs.declared.kinds.Span.{Span}
-use Rattle.meson_syntax.specs.declared.operator.Bracket.{Bracket}
-use Rattle.meson_syntax.specs.Tree.{Nowhere, Plain, Listing, listing, arguments_of, erase}
-use Rattle.meson_syntax.specs.Grammar.{LevelArguments, LevelListing, LevelFile}
-use Rattle.meson_syntax.proofs.parsing.Complete.{list-of-arguments}
-use Rattle.meson_syntax.proofs.paths.Reaching.{list-fits}
-use Rattle.meson_edit.specs.Edits.{elements}
-use Rattle.meson_calls.specs.declared.call.CallRef.{CallRef}
-use Rattle.meson_variables.specs.Expansion.{Slot, in_list, fixed, Mark, known, opaque, empty}
-use Rattle.meson_steps.specs.ListSteps.{MayStandBetween, AreDoable}
-use Rattle.meson_calls.specs.Loading.{Loaded, AreParsed, project}
-use Rattle.meson_steps.specs.ResultLimits.{plain_trees}
-use Rattle.meson_calls.specs.Project.{Project}
-use Rattle.meson_sources.specs.SourceEdits.{insertion_steps, inserted_in, plain_len, elements_there}
-use Rattle.meson_variables.specs.TargetSources.{first_list, first_empty, list_of_slot, or_option}
-use Rattle.meson_calls.specs.CallPlaces.{ListThere}
+use Rattle.meson_sources.proofs.Words.{All, ◌⊎◌, [], ap, arith, false, inl, inr, IsUtf8, List, None, Option, Some, subst, suc, sym, true, zero, ℕ, ◌<◌, ◌∙◌, ◌∷◌, ◌≡◌, All-head, All-tail, Span, LevelArguments, LevelFile, LevelListing, holds_values, arguments_of, erase, Listing, listing, Nowhere, Plain, Bracket, list-of-arguments, list-fits, elements, ListThere, AreParsed, Loaded, project, Project, CallRef, values_no_pairs, empty, fixed, in_list, known, Mark, opaque, Slot, first_empty, first_list, list_of_slot, or_option, AreDoable, MayStandBetween, plain_trees, Room, empty_erased, plain_place, tree_is, trees_stand, all_nth, elements_there, inserted_in, insertion_steps, plain_len}
 use Rattle.meson_sources.proofs.Standings.{StringThere, NothingThere, SlotStands, MarkStands}
-use Rattle.meson_steps.proofs.Insertable.{Room}
-use Rattle.meson_calls.proofs.ListNodes.{values_no_pairs}
 use Rattle.meson_sources.proofs.PlainCounts.{plain_count, plain_count_is, count_erased, some_plain, last_plain, elements_are}
-use Rattle.meson_steps.proofs.PlainTrees.{empty_erased, plain_place, tree_is, trees_stand}
 use Rattle.meson_sources.proofs.StringsDoable.{behind_doable, first_doable}
-use Rattle.meson_steps.proofs.WithOne.{all_nth}
-use Rattle.meson_syntax.specs.Operators.{holds_values}
 
 -- the list is there, and holds nothing or an element without a name
 pub record Home (p : Project Span) (c : CallRef) : Type 0 where

@@ -1,22 +1,7 @@
 -- Expressions and their slots.
-use Rattle.std.proofs.Common.{◌≡◌, ℕ, suc, ◌+◌, List, Some, None, refl, ap, ◌∙◌, subst, arith}
-use Rattle.std.specs.Prelude.{true}
-use Rattle.meson_lex.specs.declared.kinds.Span.{Span}
-use Rattle.meson_syntax.specs.declared.operator.StringKind.{StringKind}
-use Rattle.meson_syntax.specs.Operators.{holds_values}
-use Rattle.meson_syntax.specs.Paths.{ListIn, list_in, nth}
-use Rattle.meson_syntax.specs.Children.{an_expression}
-use Rattle.meson_syntax.specs.inside.Children.{operands_parts}
-use Rattle.meson_syntax.specs.Tree.{Expression, string, row, Operands, no_operands, operand, Argument, plain, Arguments, argument, argument_list}
-use Rattle.meson_edit.specs.Edits.{elements}
-use Rattle.meson_calls.specs.declared.call.CallRef.{CallRef}
-use Rattle.meson_variables.specs.Expansion.{Slot, in_list, fixed, Stand}
-use Rattle.meson_calls.specs.Project.{Project, child, expression_at}
-use Rattle.meson_calls.specs.CallPlaces.{ListThere}
+use Rattle.meson_sources.proofs.Words.{ap, arith, List, None, refl, Some, subst, suc, true, ℕ, ◌+◌, ◌∙◌, ◌≡◌, Span, an_expression, holds_values, list_in, ListIn, nth, Argument, argument, argument_list, Arguments, Expression, no_operands, operand, Operands, plain, row, string, StringKind, operands_parts, elements, ListThere, child, expression_at, Project, CallRef, child_stands, list_here, values_no_pairs, fixed, in_list, Slot, Stand}
 use Rattle.meson_sources.proofs.Standings.{SlotStands}
-use Rattle.meson_calls.proofs.ExpressionsAt.{list_here, child_stands}
 use Rattle.meson_sources.proofs.ElementsAt.{AreLevel, value_stands}
-use Rattle.meson_calls.proofs.ListNodes.{values_no_pairs}
 
 -- the element of this number of the list at a place is this expression
 pub record ElementThere (p : Project Span) (c : CallRef) (n : ℕ) (e : Expression Span) : Type 0 where

@@ -1,25 +1,6 @@
 -- Each known source stands where its slot says: its string has its text as value, and its list is one of sources.
-use Rattle.std.specs.Prelude.{◌⊎◌, ◌&&◌, if◌then◌else◌, bytes_eq, option_map, option_and_then}
-use Rattle.std.specs.List.{cons_option}
-use Rattle.std.proofs.Common.{◌≡◌, ℕ, zero, suc, ◌+◌, Bool, true, false, List, [], ◌∷◌, Option, Some, None, refl, sym, ap, ◌∙◌, subst, arith, inl, inr}
-use Rattle.meson_lex.specs.Literals.{value}
-use Rattle.meson_syntax.specs.declared.operator.Bracket.{Bracket}
 use Rattle.meson_syntax.specs.declared.operator.Bracket.TheVariants as bracket
-use Rattle.meson_syntax.specs.declared.operator.StringKind.{StringKind}
-use Rattle.meson_syntax.specs.Grammar.{LevelExpression, LevelListing, LevelArguments, LevelOperands}
-use Rattle.meson_syntax.specs.Operators.{holds_pairs, string_kind}
-use Rattle.meson_syntax.specs.Children.{an_expression, arguments_parts, listing_parts}
-use Rattle.meson_syntax.specs.inside.Children.{child_nodes, node_at, operands_parts}
-use Rattle.meson_syntax.specs.Paths.{nth}
-use Rattle.meson_syntax.specs.Tree.{Nowhere, Plain, Name, Expression, identifier, string, array, call, row, Operands, no_operands, operand, Listing, listing, Argument, plain, named, pair, Arguments, no_arguments, argument, argument_list, is_named}
-use Rattle.meson_syntax.proofs.paths.Every.{Every, every-append}
-use Rattle.meson_edit.specs.Edits.{elements}
-use Rattle.meson_calls.specs.declared.call.CallRef.{CallRef}
-use Rattle.meson_calls.specs.Calls.{Numbered}
-use Rattle.meson_variables.specs.Expansion.{Slot, in_list, fixed, Mark, known, opaque, empty, Expansion, Stand, met, element, operand_at, or_empty, is_files, are_plus, literal_item, expand_by, expand_operands, expand_listing, expand_each, follow_single, max_followed, of_variable}
-use Rattle.meson_calls.specs.Project.{Placed, child}
-use Rattle.meson_calls.specs.Roles.{one_of}
-use Rattle.meson_calls.specs.NamedArguments.{rest, sources_key}
+use Rattle.meson_sources.proofs.Words.{cons_option, bytes_eq, if◌then◌else◌, option_and_then, option_map, ◌&&◌, ◌⊎◌, [], ap, arith, Bool, false, inl, inr, List, None, Option, refl, Some, subst, suc, sym, true, zero, ℕ, ◌+◌, ◌∙◌, ◌∷◌, ◌≡◌, value, an_expression, arguments_parts, listing_parts, LevelArguments, LevelExpression, LevelListing, LevelOperands, holds_pairs, string_kind, nth, Argument, argument, argument_list, Arguments, array, call, Expression, identifier, is_named, Listing, listing, Name, named, no_arguments, no_operands, Nowhere, operand, Operands, pair, Plain, plain, row, string, Bracket, StringKind, child_nodes, node_at, operands_parts, Every, every-append, elements, Numbered, rest, sources_key, child, Placed, one_of, CallRef, are_plus, element, empty, expand_by, expand_each, expand_listing, expand_operands, Expansion, fixed, follow_single, in_list, is_files, known, literal_item, Mark, max_followed, met, of_variable, opaque, operand_at, or_empty, Slot, Stand}
 use Rattle.meson_sources.proofs.Bares.{Values, expand_with, lists_by}
 use Rattle.meson_sources.proofs.CallTrees.{keyed, list_with, plains, whole}
 use Rattle.meson_sources.proofs.ElementsThere.{root}

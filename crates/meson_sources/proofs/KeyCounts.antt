@@ -1,10 +1,5 @@
 -- How many arguments have a key.
-use Rattle.std.specs.Prelude.{bytes_eq, if◌then◌else◌, option_map, Ok}
-use Rattle.std.specs.List.{cons_option}
-use Rattle.std.proofs.Common.{◌≡◌, ℕ, suc, ◌+◌, ◌≤◌, Bool, true, false, List, [], ◌∷◌, ◌++◌, length, Some, None, refl, ap, ap₂, arith}
-use Rattle.meson_syntax.specs.Tree.{Nowhere, Name, Expression, Argument, plain, named, pair, Arguments, no_arguments, argument, arguments_of, erase_arguments}
-use Rattle.meson_calls.specs.NamedArguments.{once}
-use Rattle.meson_sources.specs.Effects.{strings}
+use Rattle.meson_sources.proofs.Words.{cons_option, bytes_eq, if◌then◌else◌, Ok, option_map, [], ap, ap₂, arith, Bool, false, length, List, None, refl, Some, suc, true, ℕ, ◌++◌, ◌+◌, ◌∷◌, ◌≡◌, ◌≤◌, Argument, argument, Arguments, arguments_of, erase_arguments, Expression, Name, named, no_arguments, Nowhere, pair, plain, once, strings}
 use Rattle.meson_sources.proofs.CallTrees.{keyed}
 use Rattle.meson_sources.proofs.Shapes.{blanks}
 

@@ -1,24 +1,17 @@
 -- What is written for a new list of extra files: `extra_files: ['NAME']` spells its argument.
-use Rattle.std.proofs.Common.{◌≡◌, ℕ, false, List, [], ◌∷◌, ◌++◌, codes, IsUtf8, refl, sym, ap, subst}
-use Rattle.std.specs.Prelude.{Ok}
 use Rattle.std.specs.Char.{encode_utf8}
 use Rattle.std.proofs.lemmas.Str.{IsUtf8-append}
 use Rattle.meson_lex.specs.declared.kinds.Kind.TheVariants as k
 use Rattle.meson_lex.specs.Bytes.{is_blank, begins}
 use Rattle.meson_lex.specs.Items.{Lexeme, joined, IsItem}
 use Rattle.meson_lex.specs.Kinds.{IsIdentifier, reserved}
-use Rattle.meson_lex.specs.Literals.{literal}
 use Rattle.meson_lex.specs.Words.{IsTight}
 use Rattle.meson_layout.specs.Pieces.{space}
-use Rattle.meson_syntax.specs.Tree.{Nowhere, Expression}
-use Rattle.meson_syntax.specs.Grammar.{argument_words, expression_words}
-use Rattle.meson_edit.specs.Edits.{Written}
 use Rattle.meson_edit.specs.Places.{IsWritten}
 use Rattle.meson_steps.specs.inside.WrittenValues.{IsSet}
-use Rattle.meson_steps.specs.WrittenTexts.{written_texts}
-use Rattle.meson_sources.specs.SourceEdits.{extra_key, array_with, written_keyword}
 use Rattle.meson_steps.proofs.Spellings.{differs, none_of}
 use Rattle.meson_steps.proofs.SetLiterals.{one_set}
+use Rattle.meson_sources.proofs.Words.{codes, Ok, [], ap, false, IsUtf8, List, refl, subst, sym, ℕ, ◌++◌, ◌∷◌, ◌≡◌, literal, argument_words, expression_words, Expression, Nowhere, Written, written_texts, array_with, extra_key, written_keyword}
 
 -- ---- the array
 

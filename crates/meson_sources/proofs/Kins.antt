@@ -1,30 +1,11 @@
 -- What variables stand for before and after one list has got strings: the same, or an expression with this list in it.
-use Rattle.std.specs.Prelude.{◌⊎◌, All, option_map}
-use Rattle.std.proofs.Common.{◌≡◌, ℕ, zero, suc, Bool, List, [], ◌∷◌, ◌++◌, Option, Some, None, refl, sym, ap, ◌∙◌, subst, inl, inr}
-use Rattle.meson_lex.specs.declared.kinds.Span.{Span}
-use Rattle.meson_syntax.specs.Grammar.{LevelExpression, LevelFile}
-use Rattle.meson_syntax.specs.Children.{Any, an_expression, a_block}
-use Rattle.meson_syntax.specs.inside.Children.{child_nodes, node_at, expression_any}
-use Rattle.meson_syntax.specs.Paths.{Sort, of_expression, of_statement, of_block, Node, nth, block_of, reach, expression_of, expression_on_path}
-use Rattle.meson_syntax.specs.Tree.{Nowhere, Plain, Expression, file, erase_expression}
 use Rattle.meson_syntax.specs.Tree as tree
-use Rattle.meson_syntax.proofs.PathNodes.{expression-reached}
-use Rattle.meson_syntax.proofs.parsing.Steps.{some-injective}
 use Rattle.meson_syntax.proofs.paths.Fits.{LevelNode}
-use Rattle.meson_syntax.proofs.paths.Reaching.{and-then-some, reach-fits}
-use Rattle.meson_calls.specs.declared.call.CallRef.{CallRef}
-use Rattle.meson_variables.specs.Expansion.{is_operand_by, is_value_by}
-use Rattle.meson_calls.specs.Loading.{Loaded, project}
-use Rattle.meson_calls.specs.Project.{Placed, child, expression_at}
-use Rattle.meson_variables.specs.Variables.{single}
-use Rattle.meson_steps.specs.ListSteps.{MayStandBetween}
-use Rattle.meson_steps.specs.ResultLimits.{plain_trees}
-use Rattle.meson_steps.proofs.WithOne.{all_nth}
+use Rattle.meson_sources.proofs.Words.{All, option_map, ◌⊎◌, [], ap, Bool, inl, inr, List, None, Option, refl, Some, subst, suc, sym, zero, ℕ, ◌++◌, ◌∙◌, ◌∷◌, ◌≡◌, Span, a_block, an_expression, Any, LevelExpression, LevelFile, block_of, expression_of, expression_on_path, Node, nth, of_block, of_expression, of_statement, reach, Sort, erase_expression, Expression, file, Nowhere, Plain, child_nodes, expression_any, node_at, expression-reached, some-injective, and-then-some, reach-fits, Loaded, project, child, expression_at, Placed, CallRef, is_operand_by, is_value_by, single, MayStandBetween, plain_trees, Differ, here, there, all_nth}
 use Rattle.meson_sources.proofs.Bares.{bare_value, values_of}
 use Rattle.meson_sources.proofs.Follows.{Kin, Equal, OnTheWay, neither, equal, on_the_way}
 use Rattle.meson_sources.proofs.MarkLists.{below}
 use Rattle.meson_sources.proofs.Owners.{node_between, single_stands}
-use Rattle.meson_steps.proofs.PartsPut.{Differ, here, there}
 use Rattle.meson_sources.proofs.Scenes.{NodeIn, bare_in}
 use Rattle.meson_sources.proofs.Shapes.{Becomes}
 

@@ -1,20 +1,6 @@
 -- After a removal a target has its old files without those that have gone.
-use Rattle.std.specs.Prelude.{not, if◌then◌else◌, Ok}
-use Rattle.std.specs.List.{filter}
-use Rattle.std.proofs.Common.{◌≡◌, ℕ, suc, ◌≤◌, Bool, true, false, List, [], ◌∷◌, ◌++◌, length, map, Some, refl, sym, ap, ap₂, ◌∙◌, arith}
-use Rattle.meson_lex.specs.declared.kinds.Span.{Span}
-use Rattle.meson_syntax.specs.Tree.{Nowhere, Expression, Arguments}
-use Rattle.meson_syntax.proofs.paths.Every.{Every}
-use Rattle.meson_calls.specs.declared.call.CallRef.{CallRef}
 use Rattle.meson_variables.specs.declared.source.Sources as found
-use Rattle.meson_calls.specs.Calls.{Numbered}
-use Rattle.meson_variables.specs.Expansion.{Item, Mark, known, opaque, empty}
-use Rattle.meson_calls.specs.Loading.{Loaded, project}
-use Rattle.meson_calls.specs.Project.{Project}
-use Rattle.meson_calls.specs.Roles.{one_of}
-use Rattle.meson_variables.specs.TargetSources.{hidden, items, opaque_count, sources_of_marks}
-use Rattle.meson_steps.specs.ResultLimits.{plain_trees}
-use Rattle.meson_sources.specs.WholeSources.{Reading, source_texts}
+use Rattle.meson_sources.proofs.Words.{filter, if◌then◌else◌, not, Ok, [], ap, ap₂, arith, Bool, false, length, List, map, refl, Some, suc, sym, true, ℕ, ◌++◌, ◌∙◌, ◌∷◌, ◌≡◌, ◌≤◌, Span, Arguments, Expression, Nowhere, Every, Numbered, Loaded, project, Project, one_of, CallRef, empty, Item, known, Mark, opaque, hidden, items, opaque_count, sources_of_marks, plain_trees, Reading, source_texts}
 use Rattle.meson_sources.proofs.Bares.{bare_mark}
 use Rattle.meson_sources.proofs.CallForms.{CallIn, CallNode, bare_arguments, call_again, called}
 use Rattle.meson_sources.proofs.CallTrees.{keyed}

@@ -1,3 +1,4 @@
+mod Words
 mod Standings
 mod ArgumentsGrow
 mod ElementsAt

@@ -1,16 +1,5 @@
 -- The children of an array, a dictionary or a call are the parts of its elements.
-use Rattle.std.specs.Prelude.{false}
-use Rattle.std.proofs.Common.{◌≡◌, List, [], ◌∷◌, Some, refl, sym, ap, ◌∙◌}
-use Rattle.meson_syntax.specs.declared.operator.Bracket.{Bracket}
-use Rattle.meson_syntax.specs.Operators.{holds_pairs}
-use Rattle.meson_syntax.specs.Tree.{Nowhere, array, dictionary, call, Listing, listing, Argument, arguments_of, argument_list}
-use Rattle.meson_syntax.specs.Grammar.{LevelListing}
-use Rattle.meson_syntax.specs.Children.{Any, an_expression, a_statement, a_block, arguments_parts, listing_parts}
-use Rattle.meson_syntax.specs.inside.Children.{child_nodes}
-use Rattle.meson_syntax.proofs.parsing.Complete.{list-of-arguments}
-use Rattle.meson_syntax.proofs.parsing.Steps.{some-injective}
-use Rattle.meson_syntax.proofs.paths.Every.{Every}
-use Rattle.meson_edit.specs.Edits.{elements, with_elements}
+use Rattle.meson_sources.proofs.Words.{[], ap, false, List, refl, Some, sym, ◌∙◌, ◌∷◌, ◌≡◌, a_block, a_statement, an_expression, Any, arguments_parts, listing_parts, LevelListing, holds_pairs, Argument, argument_list, arguments_of, array, call, dictionary, Listing, listing, Nowhere, Bracket, child_nodes, list-of-arguments, some-injective, Every, elements, with_elements}
 use Rattle.meson_sources.proofs.NodeLists.{list_any}
 use Rattle.meson_sources.proofs.OneGone.{HasOnePart, one_part_each}
 

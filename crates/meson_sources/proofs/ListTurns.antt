@@ -1,33 +1,6 @@
 -- The list that gets strings, before and after it: an array, a call or a dictionary.
-use Rattle.std.specs.Prelude.{if◌then◌else◌, option_and_then, option_map}
-use Rattle.std.specs.List.{filter}
-use Rattle.std.proofs.Common.{◌≡◌, ℕ, zero, suc, Bool, true, false, List, [], ◌∷◌, ◌++◌, Some, refl, sym, ap, ◌∙◌, subst}
-use Rattle.meson_lex.specs.declared.kinds.Span.{Span}
-use Rattle.meson_syntax.specs.declared.operator.Bracket.{Bracket}
 use Rattle.meson_syntax.specs.declared.operator.Bracket.TheVariants as bracket
-use Rattle.meson_syntax.specs.Grammar.{LevelArguments}
-use Rattle.meson_syntax.specs.Operators.{holds_names, holds_pairs, holds_values}
-use Rattle.meson_syntax.specs.Children.{Any, an_expression, a_block, arguments_parts}
-use Rattle.meson_syntax.specs.inside.Children.{node_at}
-use Rattle.meson_syntax.specs.Paths.{ListAt, ListIn, block_of, list_at, list_in, nth}
-use Rattle.meson_syntax.specs.Tree.{Nowhere, Plain, Name, Expression, array, dictionary, call, Listing, listing, Argument, plain, named, pair, arguments_of, erase}
-use Rattle.meson_syntax.proofs.parsing.Complete.{list-of-arguments}
-use Rattle.meson_syntax.proofs.parsing.Steps.{some-injective}
-use Rattle.meson_syntax.proofs.paths.Every.{Every}
-use Rattle.meson_syntax.proofs.paths.Reaching.{and-then-some, list-fits}
-use Rattle.meson_edit.specs.Edits.{elements}
-use Rattle.meson_edit.proofs.paths.PutThere.{lists-stay}
-use Rattle.meson_calls.specs.declared.call.CallRef.{CallRef}
-use Rattle.meson_variables.specs.Expansion.{has_names}
-use Rattle.meson_calls.specs.Loading.{IsProject, Loaded, project}
-use Rattle.meson_calls.specs.Project.{BuildFile, nth_file}
-use Rattle.meson_calls.proofs.ListNodes.{values_no_pairs}
-use Rattle.meson_steps.specs.ListSteps.{MayStandBetween}
-use Rattle.meson_steps.specs.ResultLimits.{plain_trees}
-use Rattle.meson_steps.proofs.PlainTrees.{plain_place, tree_is}
-use Rattle.meson_steps.proofs.WithOne.{all_nth}
-use Rattle.meson_sources.specs.Effects.{ListGets, not_plain, strings}
-use Rattle.meson_sources.specs.SourceEdits.{is_plain}
+use Rattle.meson_sources.proofs.Words.{filter, if◌then◌else◌, option_and_then, option_map, [], ap, Bool, false, List, refl, Some, subst, suc, sym, true, zero, ℕ, ◌++◌, ◌∙◌, ◌∷◌, ◌≡◌, Span, a_block, an_expression, Any, arguments_parts, LevelArguments, holds_names, holds_pairs, holds_values, block_of, list_at, list_in, ListAt, ListIn, nth, Argument, arguments_of, array, call, dictionary, erase, Expression, Listing, listing, Name, named, Nowhere, pair, Plain, plain, Bracket, node_at, list-of-arguments, some-injective, Every, and-then-some, list-fits, elements, lists-stay, IsProject, Loaded, project, BuildFile, nth_file, CallRef, values_no_pairs, has_names, MayStandBetween, plain_trees, plain_place, tree_is, all_nth, ListGets, not_plain, strings, is_plain}
 use Rattle.meson_sources.proofs.Homes.{Home, all_stand, list_levels}
 use Rattle.meson_sources.proofs.Shapes.{Becomes, list_becomes}
 use Rattle.meson_sources.proofs.SourcesAdded.{in_order}

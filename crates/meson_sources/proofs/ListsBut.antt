@@ -1,11 +1,5 @@
 -- Lists without some of their elements, by their numbers; and spots that are the same.
-use Rattle.std.specs.Prelude.{◌&&◌, ◌||◌, nat_eq, if◌then◌else◌}
-use Rattle.std.proofs.Common.{◌≡◌, ℕ, zero, suc, Bool, true, false, List, [], ◌∷◌, refl, sym, ap, ap₂, ◌∙◌, arith}
-use Rattle.std.proofs.lemmas.Bool.{eqb-true, eq-eqb}
-use Rattle.meson_calls.specs.Project.{place}
-use Rattle.meson_sources.specs.Effects.{same_spot}
-use Rattle.meson_sources.specs.Without.{but}
-use Rattle.meson_sources.specs.SourceEdits.{Spot, is_path}
+use Rattle.meson_sources.proofs.Words.{if◌then◌else◌, nat_eq, ◌&&◌, ◌||◌, [], ap, ap₂, arith, Bool, false, List, refl, suc, sym, true, zero, ℕ, ◌∙◌, ◌∷◌, ◌≡◌, eq-eqb, eqb-true, place, same_spot, is_path, Spot, but}
 use Rattle.meson_sources.proofs.OneGone.{without}
 use Rattle.meson_sources.proofs.SamePaths.{path_itself, same_paths}
 use Rattle.meson_sources.proofs.SpotsApart.{Apart}

@@ -1,13 +1,5 @@
 -- An expression without strings that have gone from its lists: as it is in trees before and after a removal.
-use Rattle.std.specs.Prelude.{◌⊎◌, ◌&&◌, not, bytes_eq, codes}
-use Rattle.std.proofs.Common.{◌≡◌, ℕ, ◌+◌, Bool, true, false, List, Some, refl, sym, ap, ap₂, ◌∙◌, inl, inr}
-use Rattle.meson_lex.specs.Literals.{value}
-use Rattle.meson_syntax.specs.declared.operator.StringKind.{StringKind}
-use Rattle.meson_syntax.specs.Operators.{string_kind}
-use Rattle.meson_syntax.specs.Tree.{Nowhere, Name, Expression, identifier, string, array, call, row, Operands, no_operands, operand, Listing, listing, Argument, plain, named, pair, Arguments, no_arguments, argument}
-use Rattle.meson_calls.specs.declared.call.CallRef.{CallRef}
-use Rattle.meson_variables.specs.Expansion.{Expansion, Stand, met, opaque, has_names, is_files, is_operand_by, is_plus, is_value_by, are_plus, expand_by}
-use Rattle.meson_calls.specs.Project.{child}
+use Rattle.meson_sources.proofs.Words.{bytes_eq, codes, not, ◌&&◌, ◌⊎◌, ap, ap₂, Bool, false, inl, inr, List, refl, Some, sym, true, ℕ, ◌+◌, ◌∙◌, ◌≡◌, value, string_kind, Argument, argument, Arguments, array, call, Expression, identifier, Listing, listing, Name, named, no_arguments, no_operands, Nowhere, operand, Operands, pair, plain, row, string, StringKind, child, CallRef, are_plus, expand_by, Expansion, has_names, is_files, is_operand_by, is_plus, is_value_by, met, opaque, Stand}
 
 -- a string that has a value
 pub record Valued (a : Argument Nowhere) : Type 0 where

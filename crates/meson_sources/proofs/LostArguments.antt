@@ -1,16 +1,5 @@
 -- The arguments of a call that hold sources after strings have gone from lists, that of the call among them.
-use Rattle.std.specs.Prelude.{if◌then◌else◌, bytes_eq, option_map}
-use Rattle.std.specs.List.{cons_option}
-use Rattle.std.proofs.Common.{◌≡◌, ℕ, suc, ◌+◌, Bool, true, false, List, [], ◌∷◌, Some, None, refl, sym, ap, ap₂, ◌∙◌, subst, inl, inr}
-use Rattle.meson_lex.specs.Literals.{value}
-use Rattle.meson_syntax.specs.declared.operator.StringKind.{StringKind}
-use Rattle.meson_syntax.specs.Operators.{string_kind}
-use Rattle.meson_syntax.specs.Tree.{Nowhere, Expression, string, plain, named, pair, Arguments, no_arguments, argument}
-use Rattle.meson_calls.specs.declared.call.CallRef.{CallRef}
-use Rattle.meson_calls.specs.Calls.{Numbered}
-use Rattle.meson_variables.specs.Expansion.{in_list, fixed, Expansion, Stand, both_expanded, literal_item}
-use Rattle.meson_calls.specs.Project.{child}
-use Rattle.meson_calls.specs.NamedArguments.{rest, sources_key}
+use Rattle.meson_sources.proofs.Words.{cons_option, bytes_eq, if◌then◌else◌, option_map, [], ap, ap₂, Bool, false, inl, inr, List, None, refl, Some, subst, suc, sym, true, ℕ, ◌+◌, ◌∙◌, ◌∷◌, ◌≡◌, value, string_kind, argument, Arguments, Expression, named, no_arguments, Nowhere, pair, plain, string, StringKind, Numbered, rest, sources_key, child, CallRef, both_expanded, Expansion, fixed, in_list, literal_item, Stand}
 use Rattle.meson_sources.proofs.CallTrees.{Expand, keyed, list_with, plains, whole}
 use Rattle.meson_sources.proofs.KeyCounts.{key_count}
 use Rattle.meson_sources.proofs.Losses.{Loses, EachLoses}

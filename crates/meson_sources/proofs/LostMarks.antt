@@ -1,13 +1,5 @@
 -- What is met after strings have gone from lists: what was met, without what stood there, each item at the place to which it has moved.
-use Rattle.std.specs.Prelude.{◌&&◌, if◌then◌else◌}
-use Rattle.std.proofs.Common.{◌≡◌, ℕ, ◌+◌, Bool, true, false, List, [], ◌∷◌, ◌++◌, Option, Some, None, refl, sym, ap, ap₂, ◌∙◌, subst, inl, inr}
-use Rattle.meson_lex.specs.Literals.{value}
-use Rattle.meson_syntax.specs.Operators.{string_kind}
-use Rattle.meson_syntax.specs.Tree.{Nowhere, Expression, identifier, string, array, call, row, Operands, no_operands, operand, Listing, listing, Argument, plain, named, pair, Arguments, no_arguments, argument}
-use Rattle.meson_calls.specs.declared.call.CallRef.{CallRef}
-use Rattle.meson_variables.specs.Expansion.{Item, Slot, in_list, fixed, Mark, known, opaque, empty, Expansion, Stand, both_expanded, met, element, operand_at, or_empty, within, is_files, are_plus, is_operand_by, literal_item, expand_by, expand_operands, expand_listing, expand_each, expand_argument}
-use Rattle.meson_calls.specs.Project.{child}
-use Rattle.meson_calls.specs.Roles.{one_of}
+use Rattle.meson_sources.proofs.Words.{if◌then◌else◌, ◌&&◌, [], ap, ap₂, Bool, false, inl, inr, List, None, Option, refl, Some, subst, sym, true, ℕ, ◌++◌, ◌+◌, ◌∙◌, ◌∷◌, ◌≡◌, value, string_kind, Argument, argument, Arguments, array, call, Expression, identifier, Listing, listing, named, no_arguments, no_operands, Nowhere, operand, Operands, pair, plain, row, string, child, one_of, CallRef, are_plus, both_expanded, element, empty, expand_argument, expand_by, expand_each, expand_listing, expand_operands, Expansion, fixed, in_list, is_files, is_operand_by, Item, known, literal_item, Mark, met, opaque, operand_at, or_empty, Slot, Stand, within}
 use Rattle.meson_sources.proofs.MarkContents.{mark_contents, contents_append, contents_within}
 use Rattle.meson_sources.proofs.NodesMoved.{child_place, place_left}
 use Rattle.meson_sources.proofs.NumbersLeft.{behind_gone, behind_left}

@@ -1,10 +1,5 @@
 -- What is met behind variables after strings have gone from lists.
-use Rattle.std.specs.Prelude.{◌⊎◌}
-use Rattle.std.proofs.Common.{◌≡◌, ℕ, zero, suc, Bool, false, List, ◌∷◌, Some, None, refl, sym, ap, ◌∙◌, subst, inl, inr}
-use Rattle.meson_syntax.specs.Tree.{Nowhere, Expression}
-use Rattle.meson_calls.specs.declared.call.CallRef.{CallRef}
-use Rattle.meson_variables.specs.Expansion.{Stand, met, opaque, is_operand_by, is_single_by, max_followed, follow_single, of_variable}
-use Rattle.meson_calls.specs.Project.{Placed}
+use Rattle.meson_sources.proofs.Words.{◌⊎◌, ap, Bool, false, inl, inr, List, None, refl, Some, subst, suc, sym, zero, ℕ, ◌∙◌, ◌∷◌, ◌≡◌, Expression, Nowhere, Placed, CallRef, follow_single, is_operand_by, is_single_by, max_followed, met, of_variable, opaque, Stand}
 use Rattle.meson_sources.proofs.Bares.{Values, list_by, lists_by, expand_with}
 use Rattle.meson_sources.proofs.Losses.{Loses, value_stays}
 use Rattle.meson_sources.proofs.NodesMoved.{place_left}

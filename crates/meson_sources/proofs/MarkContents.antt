@@ -1,14 +1,5 @@
 -- What marks tell: the items and, among them, what is not known, without spans and without the lists in which nothing is met.
-use Rattle.std.specs.Prelude.{if◌then◌else◌, option_and_then, option_map, ok_or, Ok}
-use Rattle.std.specs.List.{filter}
-use Rattle.std.proofs.Common.{◌≡◌, ℕ, suc, Bool, true, false, List, [], ◌∷◌, ◌++◌, map, refl, ap, ap₂, ◌∙◌}
-use Rattle.meson_splice.specs.Patch.{then_ok}
-use Rattle.meson_syntax.specs.Tree.{Nowhere}
-use Rattle.meson_calls.specs.declared.call.CallRef.{CallRef}
-use Rattle.meson_calls.specs.declared.refusal.Refusal.TheVariants.{NotRemovable}
-use Rattle.meson_variables.specs.Expansion.{Item, Mark, known, opaque, empty, or_empty}
-use Rattle.meson_variables.specs.TargetSources.{items, opaque_count}
-use Rattle.meson_sources.specs.SourceEdits.{has_text, items_of, spot_of, spots_by, spots_named, spots_of}
+use Rattle.meson_sources.proofs.Words.{filter, if◌then◌else◌, Ok, ok_or, option_and_then, option_map, [], ap, ap₂, Bool, false, List, map, refl, suc, true, ℕ, ◌++◌, ◌∙◌, ◌∷◌, ◌≡◌, then_ok, Nowhere, CallRef, NotRemovable, empty, Item, known, Mark, opaque, or_empty, items, opaque_count, has_text, items_of, spot_of, spots_by, spots_named, spots_of}
 use Rattle.meson_sources.proofs.Bares.{bare_mark}
 
 abbrev pub bare_item : {S : Type 0} → Item S → Item Nowhere

@@ -1,9 +1,5 @@
 -- The list in which a mark is met, and places below others.
-use Rattle.std.proofs.Common.{◌≡◌, ℕ, List, [], ◌∷◌, ◌++◌, append-nil, append_assoc, Option, Some, None, ap}
-use Rattle.meson_calls.specs.declared.call.CallRef.{CallRef}
-use Rattle.meson_variables.specs.Expansion.{Mark, known, opaque, empty}
-use Rattle.meson_calls.specs.Project.{place, child}
-use Rattle.meson_variables.specs.TargetSources.{list_of_slot}
+use Rattle.meson_sources.proofs.Words.{[], ap, append-nil, append_assoc, List, None, Option, Some, ℕ, ◌++◌, ◌∷◌, ◌≡◌, child, place, CallRef, empty, known, Mark, opaque, list_of_slot}
 
 abbrev pub list_of_mark : {S : Type 0} → Mark S → Option CallRef
 list_of_mark (known i) = list_of_slot i.slot

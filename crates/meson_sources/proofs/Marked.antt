@@ -1,20 +1,6 @@
 -- What gathered marks say of commands: the names that are new, where further ones go, and where the items of names stand.
-use Rattle.std.proofs.Common.{◌≡◌, ℕ, List, [], ◌∷◌, ◌++◌, length, map, refl, sym, ap, ◌∙◌, zero-add}
-use Rattle.std.specs.Prelude.{Bool, true, false, not, Option, ok_or, option_map, option_and_then, Ok, if◌then◌else◌}
-use Rattle.std.specs.List.{filter, list_any}
-use Rattle.std.proofs.lemmas.List.{length-map}
-use Rattle.meson_lex.specs.declared.kinds.Span.{Span}
-use Rattle.meson_splice.specs.Patch.{then_ok}
-use Rattle.meson_variables.specs.Expansion.{Slot, in_list, fixed, Item, Mark}
-use Rattle.meson_sources.specs.inside.CodeSpots.{spot_if_there, spots_at, all_there, spots_from, spots_of_names}
-use Rattle.meson_variables.specs.TargetSources.{items, opaque_count, first_list, first_empty, list_of_slot, source_item}
-use Rattle.meson_calls.specs.declared.refusal.Refusal.TheVariants.{NotRemovable}
-use Rattle.meson_sources.specs.SourceEdits.{new_names, has_text, is_known, items_of, Spot, spot_of, spots_of, spots_by, spots_named}
-use Rattle.meson_steps.specs.Names.{distinct}
-use Rattle.meson_sources.specs.inside.Naming.{has_value, new_among}
-use Rattle.meson_variables.specs.Tallies.{Tally, number_of_slot, all_marked, no_marks}
-use Rattle.meson_variables.proofs.Answered.{tally_is}
 use Rattle.meson_variables.proofs.Anys.{any-map}
+use Rattle.meson_sources.proofs.Words.{filter, list_any, if◌then◌else◌, not, Ok, ok_or, option_and_then, option_map, [], ap, Bool, false, length, List, map, Option, refl, sym, true, zero-add, ℕ, ◌++◌, ◌∙◌, ◌∷◌, ◌≡◌, length-map, Span, then_ok, NotRemovable, fixed, in_list, Item, Mark, Slot, all_marked, no_marks, number_of_slot, Tally, first_empty, first_list, items, list_of_slot, opaque_count, source_item, tally_is, distinct, has_text, is_known, items_of, new_names, Spot, spot_of, spots_by, spots_named, spots_of, all_there, spot_if_there, spots_at, spots_from, spots_of_names, has_value, new_among}
 
 -- ---- the fields of a tally of marks
 

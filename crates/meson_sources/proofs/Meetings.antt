@@ -1,14 +1,5 @@
 -- What is met stands where it says, and is met once: its items stand at different places.
-use Rattle.std.specs.Prelude.{◌⊎◌}
-use Rattle.std.proofs.Common.{◌≡◌, ℕ, ◌≤◌, Bool, true, false, List, [], ◌∷◌, ◌++◌, Option, Some, refl, sym, ap, ◌∙◌, subst, inl, inr}
-use Rattle.meson_lex.specs.declared.kinds.Span.{Span}
-use Rattle.meson_syntax.proofs.parsing.Steps.{some-injective}
-use Rattle.meson_syntax.proofs.paths.Every.{Every, every-append}
-use Rattle.meson_calls.specs.declared.call.CallRef.{CallRef}
-use Rattle.meson_calls.specs.Project.{Project, child}
-use Rattle.meson_calls.specs.Roles.{one_of}
-use Rattle.meson_variables.specs.Expansion.{Expansion, Item, Mark, both_expanded, empty, known, met, nothing_met, opaque, or_empty, within}
-use Rattle.meson_variables.specs.TargetSources.{items}
+use Rattle.meson_sources.proofs.Words.{◌⊎◌, [], ap, Bool, false, inl, inr, List, Option, refl, Some, subst, sym, true, ℕ, ◌++◌, ◌∙◌, ◌∷◌, ◌≡◌, ◌≤◌, Span, some-injective, Every, every-append, child, Project, one_of, CallRef, both_expanded, empty, Expansion, Item, known, Mark, met, nothing_met, opaque, or_empty, within, items}
 use Rattle.meson_sources.proofs.MarkLists.{below, below_child}
 use Rattle.meson_sources.proofs.NamedSpots.{every_weaker}
 use Rattle.meson_sources.proofs.Pairwise.{Pairwise, pairwise_append}

@@ -1,29 +1,7 @@
 -- Where the trees tell the same of targets and the call of one stands at a place, without spans, the id that named it names that one alone.
-use Rattle.std.specs.Prelude.{bytes_eq, option_map, Ok}
-use Rattle.std.proofs.Common.{◌≡◌, ℕ, suc, ◌+◌, true, List, [], ◌∷◌, ◌++◌, map, Some, refl, sym, ap, ap₂, ◌∙◌}
-use Rattle.std.proofs.lemmas.List.Elements.{filter_map-append}
-use Rattle.meson_lex.specs.declared.kinds.Span.{Span}
-use Rattle.meson_splice.specs.declared.file_set.File.{File}
-use Rattle.meson_syntax.specs.declared.operator.Assignment.{Assignment}
 use Rattle.meson_syntax.specs.declared.operator.Assignment.TheVariants as assignment
-use Rattle.meson_syntax.specs.declared.tree.Parsed.{Parsed}
-use Rattle.meson_syntax.specs.Children.{Any, an_expression, a_statement, a_block}
-use Rattle.meson_syntax.specs.inside.Children.{node_at}
-use Rattle.meson_syntax.specs.Paths.{block_of, nth}
-use Rattle.meson_syntax.specs.Tree.{Nowhere, Plain, Name, Expression, array, assign, erase, erase_expression, erase_name, file}
-use Rattle.meson_syntax.specs.View.{view}
-use Rattle.meson_syntax.proofs.paths.Reaching.{map-some}
-use Rattle.meson_calls.specs.declared.call.CallRef.{CallRef}
 use Rattle.meson_calls.specs.declared.call.Role.TheVariants as role
-use Rattle.meson_calls.specs.Calls.{Call, call_of}
-use Rattle.meson_calls.specs.Finding.{the_call}
-use Rattle.meson_calls.specs.Loading.{Loaded, named_trees, project, views}
-use Rattle.meson_calls.specs.Parts.{parts, parts_from, parts_of_file}
-use Rattle.meson_calls.specs.Project.{Placed, child}
-use Rattle.meson_calls.proofs.CallsFound.{role_found}
-use Rattle.meson_steps.specs.ResultLimits.{plain_trees}
-use Rattle.meson_steps.proofs.PlainTrees.{tree_there}
-use Rattle.meson_calls.proofs.nodes.Erased.{erase_any}
+use Rattle.meson_sources.proofs.Words.{bytes_eq, Ok, option_map, [], ap, ap₂, List, map, refl, Some, suc, sym, true, ℕ, ◌++◌, ◌+◌, ◌∙◌, ◌∷◌, ◌≡◌, filter_map-append, Span, File, a_block, a_statement, an_expression, Any, block_of, nth, array, assign, erase, erase_expression, erase_name, Expression, file, Name, Nowhere, Plain, view, Assignment, Parsed, node_at, map-some, Call, call_of, the_call, Loaded, named_trees, project, views, parts, parts_from, parts_of_file, child, Placed, CallRef, role_found, erase_any, plain_trees, tree_there}
 use Rattle.meson_sources.proofs.ElementsThere.{root}
 use Rattle.meson_sources.proofs.ErasedNodes.{expression_node, node_bare, node_with_spans, root_bare}
 use Rattle.meson_sources.proofs.FoundAgain.{Names, SetAt, again}

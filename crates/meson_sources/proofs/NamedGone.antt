@@ -1,12 +1,5 @@
 -- The sources that have gone are those with the names that are removed.
-use Rattle.std.specs.Prelude.{◌⊎◌, ◌||◌, bytes_eq, if◌then◌else◌}
-use Rattle.std.specs.List.{list_any}
-use Rattle.std.proofs.Common.{◌≡◌, ℕ, Bool, true, false, List, [], ◌∷◌, refl, sym, subst, inl, inr}
-use Rattle.std.proofs.lemmas.Bool.{or_left, or_right}
-use Rattle.std.proofs.lemmas.Slice.Eq.{bytes_eq-Decides}
-use Rattle.meson_syntax.proofs.paths.Every.{Every}
-use Rattle.meson_calls.specs.Roles.{one_of}
-use Rattle.meson_steps.specs.Names.{distinct, distinct_by}
+use Rattle.meson_sources.proofs.Words.{list_any, bytes_eq, if◌then◌else◌, ◌||◌, ◌⊎◌, [], Bool, false, inl, inr, List, refl, subst, sym, true, ℕ, ◌∷◌, ◌≡◌, or_left, or_right, bytes_eq-Decides, Every, one_of, distinct, distinct_by}
 
 -- ---- tests
 

@@ -1,12 +1,5 @@
 -- The arguments of a name stand in the list of their call, each at its number.
-use Rattle.std.proofs.Common.{◌≡◌, ℕ, suc, ◌+◌, true, false, List, ◌∷◌, Some, None, refl, sym, ap, ◌∙◌, arith}
-use Rattle.std.specs.Prelude.{Bool, if◌then◌else◌, bytes_eq, option_map}
-use Rattle.std.specs.List.{filter_map, cons_option}
-use Rattle.meson_lex.specs.declared.kinds.Span.{Span}
-use Rattle.meson_syntax.specs.Tree.{Name, Expression, Listing, listing, Argument, plain, named, pair, Arguments, no_arguments, argument, argument_list}
-use Rattle.meson_syntax.specs.Paths.{nth, value_of}
-use Rattle.meson_edit.specs.Edits.{elements}
-use Rattle.meson_calls.specs.Calls.{Call, Numbered, numbered, kept_number, value_with_name, keyword}
+use Rattle.meson_sources.proofs.Words.{cons_option, filter_map, bytes_eq, if◌then◌else◌, option_map, ap, arith, Bool, false, List, None, refl, Some, suc, sym, true, ℕ, ◌+◌, ◌∙◌, ◌∷◌, ◌≡◌, Span, nth, value_of, Argument, argument, argument_list, Arguments, Expression, Listing, listing, Name, named, no_arguments, pair, plain, elements, Call, kept_number, keyword, Numbered, numbered, value_with_name}
 
 record NamedThere (list : Arguments Span) (n : ℕ) (v : Numbered (Expression Span)) : Type 0 where
   number : ℕ

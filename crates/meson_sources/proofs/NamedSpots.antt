@@ -1,20 +1,6 @@
 -- The spots of names are those at which the items of these names stand, and no others.
-use Rattle.std.specs.Prelude.{Bool, true, false, ◌&&◌, ◌||◌, if◌then◌else◌, ok_or, option_map, Ok}
-use Rattle.std.specs.List.{filter, list_any}
-use Rattle.std.proofs.Common.{◌≡◌, ℕ, List, [], ◌∷◌, ◌++◌, Option, Some, None, refl, sym, ap, ◌∙◌, subst}
-use Rattle.std.proofs.lemmas.Bool.{or_left, or_right}
 use Rattle.std.proofs.lemmas.List.Folds.{list_any-append}
-use Rattle.meson_lex.specs.declared.kinds.Span.{Span}
-use Rattle.meson_splice.specs.Patch.{then_ok}
-use Rattle.meson_syntax.proofs.parsing.Steps.{some-injective}
-use Rattle.meson_syntax.proofs.paths.Every.{Every, every-append}
-use Rattle.meson_syntax.proofs.paths.Reaching.{and-then-some, map-some}
-use Rattle.meson_variables.specs.Expansion.{Item, Mark, Slot, fixed, in_list}
-use Rattle.meson_variables.specs.TargetSources.{items, opaque_count}
-use Rattle.meson_steps.proofs.WentWell.{then_was}
-use Rattle.meson_sources.specs.Effects.{AreSpotsOf, has_one_of, is_at}
-use Rattle.meson_calls.specs.declared.refusal.Refusal.TheVariants.{NotRemovable}
-use Rattle.meson_sources.specs.SourceEdits.{Spot, has_text, items_of, spot_of, spots_by, spots_named, spots_of}
+use Rattle.meson_sources.proofs.Words.{filter, list_any, if◌then◌else◌, Ok, ok_or, option_map, ◌&&◌, ◌||◌, [], ap, Bool, false, List, None, Option, refl, Some, subst, sym, true, ℕ, ◌++◌, ◌∙◌, ◌∷◌, ◌≡◌, or_left, or_right, Span, then_ok, some-injective, Every, every-append, and-then-some, map-some, NotRemovable, fixed, in_list, Item, Mark, Slot, items, opaque_count, then_was, AreSpotsOf, has_one_of, is_at, has_text, items_of, Spot, spot_of, spots_by, spots_named, spots_of}
 use Rattle.meson_sources.proofs.ListsBut.{spot_itself}
 
 -- ---- tests

@@ -1,24 +1,7 @@
 -- Where one node of a project has become another one of which the same is told, the id of a target names its call at the old place.
-use Rattle.std.specs.Prelude.{◌⊎◌, if◌then◌else◌, nat_eq, Ok}
-use Rattle.std.proofs.Common.{◌≡◌, ℕ, Bool, true, false, List, [], ◌∷◌, Option, Some, None, refl, sym, ap, ◌∙◌, subst, inl, inr}
-use Rattle.std.proofs.lemmas.Bool.{eqb-true, eq-eqb}
-use Rattle.meson_lex.specs.declared.kinds.Span.{Span}
 use Rattle.meson_syntax.specs.declared.operator.Assignment.TheVariants as assignment
-use Rattle.meson_syntax.specs.Children.{Any, an_expression, a_statement, a_block}
-use Rattle.meson_syntax.specs.inside.Children.{node_at}
-use Rattle.meson_syntax.specs.Paths.{block_of, nth}
-use Rattle.meson_syntax.specs.Tree.{Nowhere, Plain, Name, Expression, assign, erase_expression}
-use Rattle.meson_syntax.proofs.parsing.Steps.{some-injective}
-use Rattle.meson_calls.specs.declared.call.CallRef.{CallRef}
 use Rattle.meson_calls.specs.declared.call.Role.TheVariants as role
-use Rattle.meson_calls.specs.Calls.{Call, call_of, first_literal}
-use Rattle.meson_calls.specs.Finding.{the_call}
-use Rattle.meson_calls.specs.Loading.{Loaded, project}
-use Rattle.meson_calls.specs.Project.{Placed, child, placed}
-use Rattle.meson_calls.specs.Roles.{has_role, is_target_call}
-use Rattle.meson_calls.proofs.CallsFound.{role_found}
-use Rattle.meson_steps.specs.ResultLimits.{plain_trees}
-use Rattle.meson_sources.specs.WholeSources.{FilesGrow, Reading}
+use Rattle.meson_sources.proofs.Words.{if◌then◌else◌, nat_eq, Ok, ◌⊎◌, [], ap, Bool, false, inl, inr, List, None, Option, refl, Some, subst, sym, true, ℕ, ◌∙◌, ◌∷◌, ◌≡◌, eq-eqb, eqb-true, Span, a_block, a_statement, an_expression, Any, block_of, nth, assign, erase_expression, Expression, Name, Nowhere, Plain, node_at, some-injective, Call, call_of, first_literal, the_call, Loaded, project, child, Placed, placed, has_role, is_target_call, CallRef, role_found, plain_trees, FilesGrow, Reading}
 use Rattle.meson_sources.proofs.FoundAgain.{Names}
 use Rattle.meson_sources.proofs.GrownFiles.{FilesGrown}
 use Rattle.meson_sources.proofs.MarkLists.{below, below_itself}

@@ -1,18 +1,6 @@
 -- What a tree tells of targets is the same when a node in it becomes another one that tells the same.
-use Rattle.std.specs.Prelude.{◌⊎◌, ◌&&◌, if◌then◌else◌, is_some, option_and_then, option_map}
-use Rattle.std.specs.List.{cons_option, list_any}
-use Rattle.std.proofs.Common.{◌≡◌, ℕ, Bool, true, false, List, [], ◌∷◌, ◌++◌, map, Option, Some, None, refl, sym, ap, ap₂, ◌∙◌, subst, inl, inr}
 use Rattle.meson_syntax.specs.declared.operator.Assignment.TheVariants as assignment
-use Rattle.meson_syntax.specs.Children.{Any, an_expression, a_statement, a_block, arguments_parts}
-use Rattle.meson_syntax.specs.inside.Children.{child_nodes}
-use Rattle.meson_syntax.specs.Paths.{ListIn, list_in}
-use Rattle.meson_syntax.specs.Tree.{Nowhere, Name, Expression, identifier, string, array, dictionary, call, Listing, listing, Argument, plain, named, pair, Arguments, no_arguments, argument, arguments_of, assign}
-use Rattle.meson_syntax.proofs.parsing.Steps.{some-injective}
-use Rattle.meson_calls.specs.Calls.{literal_of}
-use Rattle.meson_calls.specs.Roles.{is_target_call, one_of, target_functions}
-use Rattle.meson_sources.specs.Effects.{strings}
-use Rattle.meson_sources.specs.SourceEdits.{is_plain}
-use Rattle.meson_steps.proofs.PartsPut.{Differ, here, there}
+use Rattle.meson_sources.proofs.Words.{cons_option, list_any, if◌then◌else◌, is_some, option_and_then, option_map, ◌&&◌, ◌⊎◌, [], ap, ap₂, Bool, false, inl, inr, List, map, None, Option, refl, Some, subst, sym, true, ℕ, ◌++◌, ◌∙◌, ◌∷◌, ◌≡◌, a_block, a_statement, an_expression, Any, arguments_parts, list_in, ListIn, Argument, argument, Arguments, arguments_of, array, assign, call, dictionary, Expression, identifier, Listing, listing, Name, named, no_arguments, Nowhere, pair, plain, string, child_nodes, some-injective, literal_of, is_target_call, one_of, target_functions, Differ, here, there, strings, is_plain}
 use Rattle.meson_sources.proofs.Shapes.{Shape, a_call, an_assignment, a_leaf, shape, blanks, Becomes}
 use Rattle.meson_sources.proofs.TargetNames.{Naming, a_target, a_variable, in_any, in_all, in_arguments, in_expression, in_listing, own, node_tells, first_plain, first_is, call_by, call_tells}
 use Rattle.meson_sources.proofs.TellsStay.{no_leaf}

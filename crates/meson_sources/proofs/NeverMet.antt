@@ -1,16 +1,5 @@
 -- Further files do not go into what is met as one that is not known, nor further extra files into the call itself.
-use Rattle.std.specs.Prelude.{◌⊎◌, All}
-use Rattle.std.proofs.Common.{◌≡◌, ℕ, Bool, true, false, List, [], ◌∷◌, refl, sym, ◌∙◌, subst, inl, inr}
-use Rattle.meson_syntax.specs.Children.{an_expression}
-use Rattle.meson_syntax.specs.Tree.{Nowhere, Expression, erase_name, listing}
-use Rattle.meson_syntax.proofs.paths.Every.{Every}
-use Rattle.meson_calls.specs.declared.call.CallRef.{CallRef}
-use Rattle.meson_variables.specs.Expansion.{Mark, Expansion, Stand, met, fixed, opaque, is_operand_by, is_value_by, max_followed, expand_by}
-use Rattle.meson_calls.specs.Loading.{Loaded, project}
-use Rattle.meson_calls.specs.Project.{child}
-use Rattle.meson_calls.specs.Roles.{one_of, target_functions}
-use Rattle.meson_steps.specs.ListSteps.{MayStandBetween}
-use Rattle.meson_steps.specs.ResultLimits.{plain_trees}
+use Rattle.meson_sources.proofs.Words.{All, ◌⊎◌, [], Bool, false, inl, inr, List, refl, subst, sym, true, ℕ, ◌∙◌, ◌∷◌, ◌≡◌, an_expression, erase_name, Expression, listing, Nowhere, Every, Loaded, project, child, one_of, target_functions, CallRef, expand_by, Expansion, fixed, is_operand_by, is_value_by, Mark, max_followed, met, opaque, Stand, MayStandBetween, plain_trees, Differ}
 use Rattle.meson_sources.proofs.Bares.{expand_with, values_of}
 use Rattle.meson_sources.proofs.CallForms.{CallIn, bare_arguments, bare_form, called, stands_bare}
 use Rattle.meson_sources.proofs.CallTrees.{keys_same, list_with}
@@ -20,7 +9,6 @@ use Rattle.meson_sources.proofs.Functions.{target_no_files}
 use Rattle.meson_sources.proofs.Kins.{becomes_same, node_below, node_level}
 use Rattle.meson_sources.proofs.MarkLists.{below, below_child, below_itself}
 use Rattle.meson_sources.proofs.Outcomes.{Clear, Either, as_before, grown, How, stays, comes, Outcome, Along, along_same, opaque_both}
-use Rattle.meson_steps.proofs.PartsPut.{Differ}
 use Rattle.meson_sources.proofs.PlacesBelow.{Far, IsIt, below_steps, under}
 use Rattle.meson_sources.proofs.SceneKins.{kin_x}
 use Rattle.meson_sources.proofs.Scenes.{NodeIn}

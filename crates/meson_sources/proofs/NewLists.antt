@@ -1,29 +1,13 @@
 -- A new list in a call, and a lone value in its array: strings may be put behind the first.
-use Rattle.std.proofs.Common.{◌≡◌, ℕ, zero, suc, ◌+◌, ◌≤◌, false, List, [], ◌∷◌, ◌++◌, length, take, drop, Some, refl, sym, ap, ◌∙◌, subst, arith, IsUtf8}
-use Rattle.std.specs.Prelude.{All, option_map, option_and_then, slice_set}
-use Rattle.std.proofs.lemmas.List.Elements.{All-set}
 use Rattle.meson_syntax.specs.declared.operator.Bracket.TheVariants as bracket
-use Rattle.meson_syntax.specs.Tree.{Nowhere, Plain, Expression, listing, Argument, plain, named, pair, arguments_of}
-use Rattle.meson_syntax.specs.Grammar.{LevelFile, file_depth}
-use Rattle.meson_syntax.specs.Paths.{ListAt, list_at, nth, value_of}
-use Rattle.meson_edit.specs.Edits.{Edit, After, Wrap, elements, with_elements, with_value, array_of, element_added, exchanged, edited}
 use Rattle.meson_edit.specs.Places.{Writes}
 use Rattle.meson_edit.specs.Sequences.{MayFollow}
 use Rattle.meson_edit.proofs.sequences.Deepened.{edits-deepen-by-one}
-use Rattle.meson_edit.proofs.sequences.Levelled.{insertions-keep-levels, wraps-keep-levels}
-use Rattle.meson_calls.specs.declared.call.CallRef.{CallRef}
-use Rattle.meson_steps.specs.ListSteps.{MayStandBetween, AreDoable}
-use Rattle.meson_calls.specs.Project.{child}
-use Rattle.meson_steps.specs.WrittenTexts.{string_of}
 use Rattle.meson_sources.specs.SourceEdits as plan
-use Rattle.meson_steps.specs.Steps.{step_in}
-use Rattle.meson_sources.specs.SourceEdits.{written_keyword}
-use Rattle.meson_steps.proofs.Insertable.{Room, elements_with, nth_inserted, edited_there, there_again}
 use Rattle.meson_steps.proofs.ListParts.{array_below}
 use Rattle.meson_steps.proofs.StepsDoable.{step_doable}
+use Rattle.meson_sources.proofs.Words.{All, option_and_then, option_map, slice_set, [], ap, arith, drop, false, IsUtf8, length, List, refl, Some, subst, suc, sym, take, zero, ℕ, ◌++◌, ◌+◌, ◌∙◌, ◌∷◌, ◌≡◌, ◌≤◌, All-set, file_depth, LevelFile, holds_pairs, holds_values, list_at, ListAt, nth, value_of, Argument, arguments_of, Expression, listing, named, Nowhere, pair, Plain, plain, After, array_of, Edit, edited, element_added, elements, exchanged, with_elements, with_value, Wrap, insertions-keep-levels, wraps-keep-levels, child, CallRef, AreDoable, MayStandBetween, step_in, string_of, edited_there, elements_with, nth_inserted, Room, there_again, changed_there, written_keyword}
 use Rattle.meson_sources.proofs.StringsDoable.{behind_doable}
-use Rattle.meson_steps.proofs.WithOne.{changed_there}
-use Rattle.meson_syntax.specs.Operators.{holds_values, holds_pairs}
 
 -- ---- elements
 

@@ -1,11 +1,5 @@
 -- The list of a node, and its elements.
-use Rattle.std.specs.Prelude.{option_map, option_and_then}
-use Rattle.std.proofs.Common.{ℕ, List, Option, None}
-use Rattle.meson_syntax.specs.Tree.{Nowhere, Listing, Argument}
-use Rattle.meson_syntax.specs.Paths.{nth, list_in, ListIn}
-use Rattle.meson_syntax.specs.Children.{Any, an_expression, a_statement, a_block}
-use Rattle.meson_syntax.specs.inside.Children.{node_at}
-use Rattle.meson_edit.specs.Edits.{elements}
+use Rattle.meson_sources.proofs.Words.{option_and_then, option_map, List, None, Option, ℕ, a_block, a_statement, an_expression, Any, list_in, ListIn, nth, Argument, Listing, Nowhere, node_at, elements}
 
 abbrev pub Node : Type 0
 Node = Any Nowhere

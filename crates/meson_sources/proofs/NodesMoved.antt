@@ -1,21 +1,7 @@
 -- Where each node stands after strings have gone from lists, and what it is then.
-use Rattle.std.specs.Prelude.{All, option_and_then, option_map}
-use Rattle.std.proofs.Common.{◌≡◌, ℕ, zero, suc, Bool, true, false, List, [], ◌∷◌, ◌++◌, append-nil, map, Some, None, refl, sym, ap, ap₂, ◌∙◌, subst, inl, inr}
 use Rattle.meson_syntax.specs.declared.operator.Bracket.TheVariants as bracket
-use Rattle.meson_syntax.specs.Grammar.{LevelListing}
-use Rattle.meson_syntax.specs.Children.{an_expression}
-use Rattle.meson_syntax.specs.inside.Children.{child_nodes, node_at}
-use Rattle.meson_syntax.specs.Paths.{nth}
-use Rattle.meson_syntax.specs.Tree.{Nowhere, Plain, Expression, array, dictionary, call, string, Listing, listing, Argument, file, named, pair, plain}
-use Rattle.meson_syntax.proofs.parsing.Steps.{some-injective}
-use Rattle.meson_syntax.proofs.paths.Reaching.{and-then-some, map-some}
-use Rattle.meson_edit.specs.Edits.{elements}
-use Rattle.meson_calls.specs.declared.call.CallRef.{CallRef}
-use Rattle.meson_calls.specs.Project.{child, place}
-use Rattle.meson_calls.proofs.ListNodes.{plain_holds}
-use Rattle.meson_steps.specs.ListSteps.{MayStandBetween}
 use Rattle.meson_edit.proofs.paths.Mapped.{nth_map}
-use Rattle.meson_sources.specs.Without.{Gone, each_without, from_child, tree_without}
+use Rattle.meson_sources.proofs.Words.{All, option_and_then, option_map, [], ap, append-nil, ap₂, Bool, false, inl, inr, List, map, None, refl, Some, subst, suc, sym, true, zero, ℕ, ◌++◌, ◌∙◌, ◌∷◌, ◌≡◌, an_expression, LevelListing, nth, Argument, array, call, dictionary, Expression, file, Listing, listing, named, Nowhere, pair, Plain, plain, string, StringKind, child_nodes, node_at, some-injective, Every, and-then-some, map-some, elements, child, place, CallRef, plain_holds, MayStandBetween, each_without, from_child, Gone, tree_without}
 use Rattle.meson_sources.proofs.ElementsThere.{IsStringElement, root}
 use Rattle.meson_sources.proofs.Kins.{node_level}
 use Rattle.meson_sources.proofs.OneGone.{HasOnePart, part, parts_of_each, string_child}
@@ -25,8 +11,6 @@ use Rattle.meson_sources.proofs.Scenes.{NodeIn}
 use Rattle.meson_sources.proofs.WithoutLoses.{LostString, at_child, at_itself, child_in, gone_at, no_true}
 use Rattle.meson_sources.proofs.WithoutPlaces.{Fits, Stands, any_without, before_all, left_before, node_left, path_left, under_is, under_path}
 use Rattle.meson_sources.proofs.NumbersLeft.{left_same}
-use Rattle.meson_syntax.specs.declared.operator.StringKind.{StringKind}
-use Rattle.meson_syntax.proofs.paths.Every.{Every}
 
 pub nth_without : (gone : ℕ → Gone) (ts : List Plain) (i : ℕ) → nth (each_without gone ts) i ≡ option_map (tree_without (gone i)) (nth ts i)
 nth_without gone [] i = refl

@@ -1,12 +1,6 @@
 -- Where no element goes, a tree is as it was.
-use Rattle.std.proofs.Common.{◌≡◌, ℕ, suc, Bool, true, false, [], ◌∷◌, refl, sym, ap, ap₂, ◌∙◌}
-use Rattle.meson_syntax.specs.declared.operator.Bracket.{Bracket}
 use Rattle.meson_syntax.specs.declared.operator.Bracket.TheVariants as bracket
-use Rattle.meson_syntax.specs.Grammar.{Flagged, LevelArguments, LevelBlock, LevelBranches, LevelExpression, LevelFile, LevelListing, LevelOperands, LevelOtherwise, LevelStatement, LevelStatements, LevelTail, LevelTails}
-use Rattle.meson_syntax.specs.Tree.{Nowhere, Plain, Expression, paren, array, dictionary, call, unary, row, postfix, conditional, Operands, no_operands, operand, Tail, method, index, Tails, no_tails, tail, Listing, listing, plain, named, pair, Arguments, no_arguments, argument, argument_list, arguments_of, Statement, evaluate, assign, selection, iteration, Branches, no_branches, branch, Otherwise, nothing_else, otherwise, Statements, no_statements, statement, Block, block, file}
-use Rattle.meson_syntax.proofs.parsing.Complete.{list-of-arguments}
-use Rattle.meson_edit.specs.Edits.{with_elements}
-use Rattle.meson_sources.specs.Without.{Gone, arguments_without, block_without, branches_without, expression_without, listing_without, operands_without, otherwise_without, statement_without, statements_without, tail_without, tails_without, tree_without}
+use Rattle.meson_sources.proofs.Words.{[], ap, ap₂, Bool, false, refl, suc, sym, true, ℕ, ◌∙◌, ◌∷◌, ◌≡◌, Flagged, LevelArguments, LevelBlock, LevelBranches, LevelExpression, LevelFile, LevelListing, LevelOperands, LevelOtherwise, LevelStatement, LevelStatements, LevelTail, LevelTails, argument, argument_list, Arguments, arguments_of, array, assign, Block, block, branch, Branches, call, conditional, dictionary, evaluate, Expression, file, index, iteration, Listing, listing, method, named, no_arguments, no_branches, no_operands, no_statements, no_tails, nothing_else, Nowhere, operand, Operands, Otherwise, otherwise, pair, paren, Plain, plain, postfix, row, selection, Statement, statement, Statements, Tail, tail, Tails, unary, Bracket, list-of-arguments, with_elements, arguments_without, block_without, branches_without, expression_without, Gone, listing_without, operands_without, otherwise_without, statement_without, statements_without, tail_without, tails_without, tree_without}
 use Rattle.meson_sources.proofs.ListsBut.{but_none}
 
 abbrev pub nothing : Gone

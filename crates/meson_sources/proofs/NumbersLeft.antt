@@ -1,7 +1,5 @@
 -- How many of the first elements of a list are left, and that one more goes.
-use Rattle.std.specs.Prelude.{nat_eq, nat_lt, if◌then◌else◌}
-use Rattle.std.proofs.Common.{◌≡◌, ℕ, zero, suc, ◌+◌, add-one, ◌<◌, ◌≤◌, Bool, true, false, refl, sym, ap, ◌∙◌, subst, arith}
-use Rattle.std.proofs.lemmas.Bool.{eqb-true, eq-eqb, ltb-true, ltb-false}
+use Rattle.meson_sources.proofs.Words.{if◌then◌else◌, nat_eq, nat_lt, add-one, ap, arith, Bool, false, refl, subst, suc, sym, true, zero, ℕ, ◌+◌, ◌<◌, ◌∙◌, ◌≡◌, ◌≤◌, eq-eqb, eqb-true, ltb-false, ltb-true}
 use Rattle.meson_sources.proofs.WithoutPlaces.{left_before}
 
 abbrev after_first : (ℕ → Bool) → ℕ → Bool

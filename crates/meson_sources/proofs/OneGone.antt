@@ -1,11 +1,5 @@
 -- A list without one of its elements: where the others are then, and the parts of what has such a list.
-use Rattle.std.proofs.Common.{◌≡◌, ℕ, suc, Bool, true, false, List, [], ◌∷◌, ◌++◌, map, take, drop, Option, Some, None, refl, ap₂}
-use Rattle.meson_syntax.specs.declared.operator.Bracket.{Bracket}
-use Rattle.meson_syntax.specs.Operators.{holds_pairs}
-use Rattle.meson_syntax.specs.Tree.{Nowhere, Expression, string, Argument, plain, named, pair, Arguments, no_arguments, argument, arguments_of, argument_list}
-use Rattle.meson_syntax.specs.Grammar.{LevelArguments}
-use Rattle.meson_syntax.specs.Children.{Any, an_expression, argument_parts, arguments_parts}
-use Rattle.meson_syntax.proofs.paths.Every.{Every}
+use Rattle.meson_sources.proofs.Words.{[], ap₂, Bool, drop, false, List, map, None, Option, refl, Some, suc, take, true, ℕ, ◌++◌, ◌∷◌, ◌≡◌, an_expression, Any, argument_parts, arguments_parts, LevelArguments, holds_pairs, Argument, argument, argument_list, Arguments, arguments_of, Expression, named, no_arguments, Nowhere, pair, plain, string, Bracket, Every}
 
 -- ---- any lists
 

@@ -1,18 +1,6 @@
 -- Edits of one list, one after another: of the trees nothing but that list becomes another one.
-use Rattle.std.specs.Prelude.{option_map}
-use Rattle.std.proofs.Common.{◌≡◌, ℕ, zero, suc, List, [], ◌∷◌, Some, refl, sym, ap, ◌∙◌, subst}
-use Rattle.meson_syntax.specs.Paths.{ListAt, list_at, nth}
-use Rattle.meson_syntax.specs.Tree.{Nowhere, Plain, Argument}
-use Rattle.meson_syntax.proofs.parsing.Steps.{some-injective}
-use Rattle.meson_syntax.proofs.paths.Reaching.{and-then-some, list-fits, map-some}
-use Rattle.meson_edit.specs.Edits.{Edit, First, After, edited, edited_elements, edited_list, elements, with_elements}
-use Rattle.meson_edit.proofs.paths.PutThere.{lists-stay}
-use Rattle.meson_calls.specs.declared.call.CallRef.{CallRef}
-use Rattle.meson_steps.specs.Steps.{all_stepped, step_in, stepped}
-use Rattle.meson_steps.proofs.WithOne.{change_made}
-use Rattle.meson_sources.specs.Effects.{OnlyList, elements_found}
 use Rattle.meson_sources.specs.SourceEdits as edits
-use Rattle.meson_sources.specs.SourceEdits.{written_source}
+use Rattle.meson_sources.proofs.Words.{option_map, [], ap, List, refl, Some, subst, suc, sym, zero, ℕ, ◌∙◌, ◌∷◌, ◌≡◌, list_at, ListAt, nth, Argument, Nowhere, Plain, some-injective, and-then-some, list-fits, map-some, After, Edit, edited, edited_elements, edited_list, elements, First, with_elements, lists-stay, CallRef, all_stepped, step_in, stepped, change_made, elements_found, OnlyList, written_source}
 
 module _ (c : CallRef) where
   abbrev path : List ℕ

@@ -1,10 +1,5 @@
 -- A name and others than it.
-use Rattle.std.specs.Prelude.{◌||◌, bytes_eq, if◌then◌else◌}
-use Rattle.std.proofs.Common.{◌≡◌, ℕ, Bool, true, false, List, [], ◌∷◌, refl, sym, ap, ◌∙◌}
-use Rattle.std.proofs.lemmas.Slice.Eq.{bytes_eq-Decides}
-use Rattle.meson_syntax.proofs.paths.Every.{Every}
-use Rattle.meson_calls.specs.Roles.{one_of}
-use Rattle.meson_steps.specs.Names.{distinct, distinct_by}
+use Rattle.meson_sources.proofs.Words.{bytes_eq, if◌then◌else◌, ◌||◌, [], ap, Bool, false, List, refl, sym, true, ℕ, ◌∙◌, ◌∷◌, ◌≡◌, bytes_eq-Decides, Every, one_of, distinct, distinct_by}
 use Rattle.meson_sources.proofs.NamedSpots.{every_weaker}
 
 -- what is one of the others is not the name

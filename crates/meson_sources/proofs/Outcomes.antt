@@ -1,9 +1,5 @@
 -- What becomes of an expansion in another tree: it meets the same, or new sources as well; and whether it went where these are.
-use Rattle.std.proofs.Common.{◌≡◌, ℕ, Bool, true, false, List, [], ◌∷◌, ◌++◌, Some, refl, sym, ap, ap₂, ◌∙◌}
-use Rattle.meson_syntax.specs.Tree.{Nowhere}
-use Rattle.meson_syntax.proofs.paths.Every.{Every, every-append}
-use Rattle.meson_calls.specs.declared.call.CallRef.{CallRef}
-use Rattle.meson_variables.specs.Expansion.{Mark, opaque, Expansion, both_expanded, met, or_empty, within}
+use Rattle.meson_sources.proofs.Words.{[], ap, ap₂, Bool, false, List, refl, Some, sym, true, ℕ, ◌++◌, ◌∙◌, ◌∷◌, ◌≡◌, Nowhere, Every, every-append, CallRef, both_expanded, Expansion, Mark, met, opaque, or_empty, within}
 use Rattle.meson_sources.proofs.Gists.{Gist, gist, gist_append, gist_within, Grows, grows_first, grows_behind}
 use Rattle.meson_sources.proofs.MarkLists.{list_of_mark}
 

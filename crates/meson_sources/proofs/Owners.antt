@@ -1,26 +1,8 @@
 -- The variable to whose value a path leads; no statement stands in an expression.
-use Rattle.std.specs.Prelude.{not, ◌&&◌, if◌then◌else◌, bytes_eq, option_and_then}
-use Rattle.std.proofs.Common.{◌≡◌, ℕ, zero, suc, ◌+◌, Bool, true, false, List, [], ◌∷◌, ◌++◌, Option, Some, None, refl, sym, ap, ◌∙◌, subst, arith}
-use Rattle.meson_lex.specs.declared.kinds.Span.{Span}
-use Rattle.meson_syntax.specs.declared.operator.Assignment.{Assignment}
-use Rattle.meson_syntax.specs.Children.{Any, an_expression, a_statement, a_block}
-use Rattle.meson_syntax.specs.inside.Children.{child_nodes, node_at}
-use Rattle.meson_syntax.specs.Paths.{nth, block_of}
-use Rattle.meson_syntax.specs.Tree.{Name, Expression, Statement, assign}
-use Rattle.meson_syntax.proofs.parsing.Steps.{some-injective}
-use Rattle.meson_syntax.proofs.paths.Every.{Every, every-nth}
-use Rattle.meson_syntax.proofs.paths.Reaching.{and-then-some}
-use Rattle.meson_calls.specs.declared.call.CallRef.{CallRef}
-use Rattle.meson_calls.specs.Parts.{Part, parts}
 use Rattle.meson_calls.specs.Parts as part
-use Rattle.meson_calls.specs.Project.{BuildFile, Project, Placed, placed, child, expression_at, nth_file}
-use Rattle.meson_variables.specs.TargetSources.{or_option}
-use Rattle.meson_variables.specs.Variables.{Assigned, part_assigned, assigned_by, assignments, is_outermost, only_value, is_set_otherwise, all_known, single}
-use Rattle.meson_calls.specs.Notes.{is_set}
 use Rattle.meson_calls.proofs.CallsReached.{InProject, every_chosen, every_part}
-use Rattle.meson_calls.proofs.ExpressionsAt.{assigned_stands}
-use Rattle.meson_calls.proofs.nodes.PartsBelow.{any}
 use Rattle.meson_calls.proofs.nodes.Sorts.{IsExpression, may_stand}
+use Rattle.meson_sources.proofs.Words.{bytes_eq, if◌then◌else◌, not, option_and_then, ◌&&◌, [], ap, arith, Bool, false, List, None, Option, refl, Some, subst, suc, sym, true, zero, ℕ, ◌++◌, ◌+◌, ◌∙◌, ◌∷◌, ◌≡◌, Span, a_block, a_statement, an_expression, Any, block_of, nth, assign, Expression, Name, Statement, Assignment, child_nodes, node_at, some-injective, Every, every-nth, and-then-some, is_set, Part, parts, BuildFile, child, expression_at, nth_file, Placed, placed, Project, CallRef, assigned_stands, any, or_option, all_known, Assigned, assigned_by, assignments, is_outermost, is_set_otherwise, only_value, part_assigned, single}
 
 module _ {S : Type 0} where
   pub no_statement : (path : List ℕ) (e : Expression S) (s : Statement S) → node_at (an_expression e) path ≡ Some (a_statement s) → ⊥

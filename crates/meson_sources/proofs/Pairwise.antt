@@ -1,7 +1,5 @@
 -- What holds of each element of a list and each later one.
-use Rattle.std.specs.Prelude.{⊤, AllPairs}
-use Rattle.std.proofs.Common.{ℕ, zero, suc, ◌<◌, List, [], ◌∷◌, ◌++◌, length, get_or, arith}
-use Rattle.meson_syntax.proofs.paths.Every.{Every, every-append}
+use Rattle.meson_sources.proofs.Words.{AllPairs, ⊤, [], arith, get_or, length, List, suc, zero, ℕ, ◌++◌, ◌<◌, ◌∷◌, Every, every-append}
 
 module _ {X : Type 0} (R : X → X → Type 0) where
   abbrev pub Pairwise : List X → Type 0

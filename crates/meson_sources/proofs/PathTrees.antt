@@ -1,21 +1,9 @@
 -- An expression in which another node stands where a path leads, and what is met in it.
-use Rattle.std.proofs.Common.{◌≡◌, ℕ, zero, suc, ◌+◌, Bool, true, false, List, [], ◌∷◌, refl, sym, ap, ap₂, ◌∙◌, subst, arith}
-use Rattle.std.specs.Prelude.{not, ◌&&◌, if◌then◌else◌, bytes_eq, codes}
-use Rattle.meson_syntax.specs.declared.operator.Bracket.{Bracket}
 use Rattle.meson_syntax.specs.declared.operator.Bracket.TheVariants as bracket
 use Rattle.meson_syntax.specs.declared.operator.Operator.{Operator}
-use Rattle.meson_syntax.specs.Grammar.{LevelExpression, LevelOperands, LevelArguments}
-use Rattle.meson_syntax.specs.Operators.{holds_pairs}
-use Rattle.meson_syntax.specs.Children.{Any, an_expression, arguments_parts}
-use Rattle.meson_syntax.specs.inside.Children.{operands_parts, expression_parts}
-use Rattle.meson_syntax.specs.Tree.{Nowhere, Expression, identifier, string, array, call, row, Operands, no_operands, operand, Listing, listing, Argument, plain, named, pair, is_named, Arguments, no_arguments, argument}
-use Rattle.meson_calls.specs.declared.call.CallRef.{CallRef}
-use Rattle.meson_variables.specs.Expansion.{opaque, Expansion, Stand, met, element, operand_at, is_files, has_names, is_plus, are_plus, is_operand_by, expand_by, expand_operands, expand_each}
-use Rattle.meson_calls.specs.Project.{child}
-use Rattle.meson_calls.specs.Roles.{one_of}
+use Rattle.meson_sources.proofs.Words.{bytes_eq, codes, if◌then◌else◌, not, ◌&&◌, [], ap, ap₂, arith, Bool, false, List, refl, subst, suc, sym, true, zero, ℕ, ◌+◌, ◌∙◌, ◌∷◌, ◌≡◌, an_expression, Any, arguments_parts, LevelArguments, LevelExpression, LevelOperands, holds_pairs, Argument, argument, Arguments, array, call, Expression, identifier, is_named, Listing, listing, named, no_arguments, no_operands, Nowhere, operand, Operands, pair, plain, row, string, Bracket, expression_parts, operands_parts, child, one_of, CallRef, are_plus, element, expand_by, expand_each, expand_operands, Expansion, has_names, is_files, is_operand_by, is_plus, met, opaque, operand_at, Stand, Differ}
 use Rattle.meson_sources.proofs.MarkLists.{below, below_child}
 use Rattle.meson_sources.proofs.Outcomes.{Outcome, Along, joined, opaque_both, still, along_same, along_first, along_behind, along_within}
-use Rattle.meson_steps.proofs.PartsPut.{Differ}
 use Rattle.meson_sources.proofs.SameTrees.{expression_same, operands_same, each_same, slot_clear}
 use Rattle.meson_sources.proofs.Shapes.{Shape, an_array, a_call, a_leaf, another, shape, blanks, list_blanks, operators, Becomes, differ_none, differ_here, differ_there, same_arguments, same_operands}
 

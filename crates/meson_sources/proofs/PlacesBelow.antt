@@ -1,10 +1,5 @@
 -- Places below one another.
-use Rattle.std.specs.Prelude.{◌⊎◌, nat_eq}
-use Rattle.std.proofs.Common.{◌≡◌, ℕ, Bool, true, false, List, [], ◌∷◌, ◌++◌, append_assoc, refl, sym, ap, ap₂, ◌∙◌, inl, inr}
-use Rattle.std.proofs.lemmas.Bool.{eqb-true, eq-eqb}
-use Rattle.std.proofs.lemmas.List.{append_cancel_left}
-use Rattle.meson_calls.specs.declared.call.CallRef.{CallRef}
-use Rattle.meson_calls.specs.Project.{place, child}
+use Rattle.meson_sources.proofs.Words.{nat_eq, ◌⊎◌, [], ap, append_assoc, ap₂, Bool, false, inl, inr, List, refl, sym, true, ℕ, ◌++◌, ◌∙◌, ◌∷◌, ◌≡◌, eq-eqb, eqb-true, append_cancel_left, child, place, CallRef}
 use Rattle.meson_sources.proofs.MarkLists.{below, below_child, below_itself}
 
 pub below_steps : (p : CallRef) (a b : List ℕ) → below p a ≡ below p b → a ≡ b

@@ -1,20 +1,6 @@
 -- The elements without a name in a list: how many there are, and that they stand first; and the elements at a place of a project.
-use Rattle.std.proofs.Common.{◌≡◌, ℕ, zero, suc, ◌<◌, Bool, true, false, List, [], ◌∷◌, length, Some, refl, sym, ap, ◌∙◌, arith}
-use Rattle.std.specs.Prelude.{option_and_then}
-use Rattle.std.specs.List.{filter}
-use Rattle.meson_lex.specs.declared.kinds.Span.{Span}
-use Rattle.meson_syntax.specs.declared.operator.Bracket.{Bracket}
-use Rattle.meson_syntax.specs.Operators.{holds_pairs}
-use Rattle.meson_syntax.specs.Tree.{Nowhere, Expression, Listing, listing, Argument, plain, named, pair, is_named, Arguments, no_arguments, argument, argument_list, arguments_of, erase_listing, erase_arguments}
-use Rattle.meson_syntax.specs.Grammar.{LevelArguments}
-use Rattle.meson_syntax.specs.Paths.{list_in, nth}
 use Rattle.meson_syntax.specs.Paths as paths
-use Rattle.meson_edit.specs.Edits.{elements}
-use Rattle.meson_calls.specs.declared.call.CallRef.{CallRef}
-use Rattle.meson_calls.specs.Project.{Project, BuildFile}
-use Rattle.meson_sources.specs.SourceEdits.{is_plain, elements_there}
-use Rattle.meson_calls.specs.CallPlaces.{ListThere}
-use Rattle.meson_calls.proofs.ListNodes.{list_node}
+use Rattle.meson_sources.proofs.Words.{filter, option_and_then, [], ap, arith, Bool, false, length, List, refl, Some, suc, sym, true, zero, ℕ, ◌<◌, ◌∙◌, ◌∷◌, ◌≡◌, Span, LevelArguments, holds_pairs, list_in, nth, Argument, argument, argument_list, Arguments, arguments_of, erase_arguments, erase_listing, Expression, is_named, Listing, listing, named, no_arguments, Nowhere, pair, plain, Bracket, elements, ListThere, BuildFile, Project, CallRef, list_node, elements_there, is_plain}
 use Rattle.meson_sources.proofs.Plains.{elements_of}
 
 -- ---- how many

@@ -1,27 +1,12 @@
 -- Elements without a name, counted; and the elements of the list at a place.
-use Rattle.std.proofs.Common.{◌≡◌, ℕ, suc, ◌+◌, ◌<◌, ◌≤◌, List, [], ◌∷◌, length, drop, get_or, refl, sym, ap, ◌∙◌}
-use Rattle.std.specs.Prelude.{true, false, Option, Some, None, is_some, option_map, option_and_then, if◌then◌else◌}
 use Rattle.std.specs.Option.{option_map_or}
-use Rattle.std.specs.List.{filter}
-use Rattle.std.proofs.lemmas.List.{at_drop_more, at_drop_all}
-use Rattle.meson_lex.specs.declared.kinds.Span.{Span}
 use Rattle.meson_syntax.specs.declared.tree.Arg.{Arg}
-use Rattle.meson_lex.specs.Significant.{Word}
 use Rattle.meson_splice.specs.declared.file_set.File as files
-use Rattle.meson_splice.specs.Files.{bytes_at}
 use Rattle.meson_syntax.specs.declared.tree.List as rust
-use Rattle.meson_syntax.specs.declared.tree.Parsed.{Parsed}
-use Rattle.meson_syntax.specs.Tree.{Expression, Block, Argument, plain, named, pair, File, Listing}
-use Rattle.meson_syntax.specs.Paths.{Sort, of_expression, of_statement, of_block, Node, Hole, ListIn, list_in, ListAt, list_at, list_of_node, list_within, expression_of, expression_on_path, reach, block_of}
-use Rattle.meson_syntax.specs.View.{arg_view, args_view, list_view, view}
-use Rattle.meson_edit.specs.Edits.{elements}
-use Rattle.meson_calls.specs.declared.call.CallRef.{CallRef}
-use Rattle.meson_calls.specs.Loading.{named_trees, views}
-use Rattle.meson_calls.specs.Project.{Project, BuildFile}
+use Rattle.meson_syntax.specs.Tree.{File}
 use Rattle.meson_edit.proofs.lists.CodeElements.{list_elements}
 use Rattle.meson_calls.proofs.Standing.{nth_there, nth_past}
-use Rattle.meson_calls.specs.Calls.{value_without_name}
-use Rattle.meson_sources.specs.SourceEdits.{is_plain, plain_len}
+use Rattle.meson_sources.proofs.Words.{filter, if◌then◌else◌, is_some, option_and_then, option_map, [], ap, drop, false, get_or, length, List, None, Option, refl, Some, suc, sym, true, ℕ, ◌+◌, ◌<◌, ◌∙◌, ◌∷◌, ◌≡◌, ◌≤◌, at_drop_all, at_drop_more, Word, Span, bytes_at, block_of, expression_of, expression_on_path, Hole, list_at, list_in, list_of_node, list_within, ListAt, ListIn, Node, of_block, of_expression, of_statement, reach, Sort, Argument, Block, Expression, Listing, named, pair, plain, arg_view, args_view, list_view, view, Parsed, elements, value_without_name, named_trees, views, BuildFile, Project, CallRef, is_plain, plain_len}
 
 pub plain_is : {S : Type 0} (a : Argument S) → is_some (value_without_name a) ≡ is_plain a
 plain_is (plain e) = refl

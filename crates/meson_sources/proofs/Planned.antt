@@ -1,30 +1,15 @@
 -- What commands on the sources and extra files of a target mean may be done.
-use Rattle.std.proofs.Common.{◌≡◌, ℕ, List}
-use Rattle.std.specs.Prelude.{All, Result, Ok, Err, IfOk}
-use Rattle.std.specs.Str.{IsUtf8}
-use Rattle.meson_lex.specs.declared.kinds.Span.{Span}
 use Rattle.meson_calls.specs.declared.call.Role.TheVariants as role
-use Rattle.meson_calls.specs.declared.refusal.Refusal.{Refusal}
-use Rattle.meson_steps.specs.declared.step.ListStep.{ListStep}
 use Rattle.meson_sources.specs.declared.targeting.TargetChange.{TargetChange}
 use Rattle.meson_sources.specs.declared.targeting.TargetChange.TheVariants.{SourcesAdded, SourcesRemoved, ExtraAdded, ExtraRemoved}
-use Rattle.meson_calls.specs.Calls.{Call}
-use Rattle.meson_steps.specs.ListSteps.{AreDoable}
-use Rattle.meson_calls.specs.Loading.{Loaded, IsProject, project}
-use Rattle.meson_steps.specs.ResultLimits.{plain_trees}
-use Rattle.meson_calls.specs.Finding.{the_call}
 use Rattle.meson_steps.specs.Plans.{ArePlanned}
-use Rattle.meson_calls.specs.Project.{Project, Placed}
+use Rattle.meson_sources.proofs.Words.{All, Err, IfOk, Ok, Result, IsUtf8, List, ℕ, ◌≡◌, Span, Call, the_call, IsProject, Loaded, project, Placed, Project, Refusal, AreDoable, AreMeant, plain_trees, Step, ListStep, then_was, change_steps, target_steps}
 use Rattle.meson_sources.proofs.Standings.{TargetThere}
-use Rattle.meson_steps.specs.Steps.{Step}
-use Rattle.meson_sources.specs.Targeted.{change_steps, target_steps}
-use Rattle.meson_steps.specs.Meanings.{AreMeant}
 use Rattle.meson_sources.proofs.SourcesAddable.{sources_may_be_added}
 use Rattle.meson_sources.proofs.ExtrasAddable.{extras_may_be_added}
 use Rattle.meson_sources.proofs.RemovedSources.{sources_may_be_removed, extras_may_be_removed}
 use Rattle.meson_sources.proofs.TargetMarks.{FilesStand, files_stand}
 use Rattle.meson_sources.proofs.TargetsFound.{targets_stand}
-use Rattle.meson_steps.proofs.WentWell.{then_was}
 
 module _ (old : Loaded) (whole : IsProject old) where
   abbrev p : Project Span

@@ -1,18 +1,6 @@
 -- Whose region a place is in: that of a call's arguments or that of the value of a variable. No place is in two.
-use Rattle.std.proofs.Common.{◌≡◌, ℕ, true, false, List, [], ◌∷◌, ◌++◌, append-nil, append_assoc, Option, Some, None, refl, sym, ap, ap₂, ◌∙◌, subst}
-use Rattle.std.proofs.lemmas.Slice.Eq.{bytes_eq-Decides}
-use Rattle.meson_lex.specs.declared.kinds.Span.{Span}
-use Rattle.meson_syntax.specs.Children.{Any, an_expression, a_block}
-use Rattle.meson_syntax.specs.inside.Children.{node_at}
-use Rattle.meson_syntax.specs.Paths.{block_of}
 use Rattle.meson_syntax.specs.Paths as paths
-use Rattle.meson_syntax.specs.Tree.{Expression, call, listing}
-use Rattle.meson_syntax.proofs.parsing.Steps.{some-injective}
-use Rattle.meson_syntax.proofs.paths.Reaching.{and-then-some}
-use Rattle.meson_calls.specs.declared.call.CallRef.{CallRef}
-use Rattle.meson_calls.specs.Project.{BuildFile, Placed, Project, child, expression_at, nth_file, place}
-use Rattle.meson_variables.specs.Expansion.{is_files}
-use Rattle.meson_variables.specs.Variables.{single}
+use Rattle.meson_sources.proofs.Words.{[], ap, append-nil, append_assoc, ap₂, false, List, None, Option, refl, Some, subst, sym, true, ℕ, ◌++◌, ◌∙◌, ◌∷◌, ◌≡◌, bytes_eq-Decides, Span, a_block, an_expression, Any, block_of, call, Expression, listing, node_at, some-injective, and-then-some, BuildFile, child, expression_at, nth_file, place, Placed, Project, CallRef, is_files, single}
 use Rattle.meson_sources.proofs.CallForms.{CallIn}
 use Rattle.meson_sources.proofs.ErasedNodes.{expression_node}
 use Rattle.meson_sources.proofs.MarkLists.{below, below_child, below_itself}

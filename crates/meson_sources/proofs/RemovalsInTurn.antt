@@ -1,14 +1,6 @@
 -- Elements that go one after another, as the code goes through them.
-use Rattle.std.specs.Prelude.{Option, cond, reverse}
-use Rattle.std.proofs.Common.{◌≡◌, ℕ, ◌+◌, ◌-◌, ◌<◌, List, [], ◌∷◌, length, get_or, drop, map, take, refl, sym, ap, ap₂, ◌∙◌, add-one}
-use Rattle.std.proofs.Math.Seq.{drop-cons, take-suc}
-use Rattle.std.proofs.lemmas.List.{map-append, reverse-append}
 use Rattle.std.proofs.lemmas.List.Sorted.{IsPermutation-reverse, sum_by-IsPermutation}
-use Rattle.meson_calls.specs.declared.call.CallRef.{CallRef}
-use Rattle.meson_calls.specs.Project.{child, place}
-use Rattle.meson_steps.specs.declared.step.ListStep.{ListStep}
-use Rattle.meson_steps.specs.ListSteps.{bare}
-use Rattle.meson_sources.specs.SourceEdits.{Spot, is_before, number_without, path_without, removal, removals_after, spot_without}
+use Rattle.meson_sources.proofs.Words.{cond, reverse, [], add-one, ap, ap₂, drop, get_or, length, List, map, Option, refl, sym, take, ℕ, ◌+◌, ◌-◌, ◌<◌, ◌∙◌, ◌∷◌, ◌≡◌, drop-cons, take-suc, map-append, reverse-append, child, place, CallRef, bare, ListStep, is_before, number_without, path_without, removal, removals_after, Spot, spot_without}
 
 -- ---- in any order
 

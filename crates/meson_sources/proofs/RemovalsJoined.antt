@@ -1,10 +1,5 @@
 -- Removals of some elements, and then of others from where they stand then, are the removals of all.
-use Rattle.std.specs.Prelude.{All}
-use Rattle.std.proofs.Common.{◌≡◌, List, [], ◌∷◌, ◌++◌, map, refl, sym, ap, ap₂, ◌∙◌}
-use Rattle.meson_syntax.specs.Tree.{Plain}
-use Rattle.meson_syntax.proofs.paths.Every.{Every}
-use Rattle.meson_steps.specs.ListSteps.{MayStandBetween}
-use Rattle.meson_sources.specs.SourceEdits.{Spot, removal, removal_steps, removals_after, spot_without}
+use Rattle.meson_sources.proofs.Words.{All, [], ap, ap₂, List, map, refl, sym, ◌++◌, ◌∙◌, ◌∷◌, ◌≡◌, Plain, Every, MayStandBetween, removal, removal_steps, removals_after, Spot, spot_without}
 use Rattle.meson_sources.proofs.NamedSpots.{every_both}
 use Rattle.meson_sources.proofs.SpotsApart.{Apart, AreApart}
 use Rattle.meson_sources.proofs.SpotsTwice.{SpotStays, left_without, moved_spot, moved_twice, spot_left, still_apart}

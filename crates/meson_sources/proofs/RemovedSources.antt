@@ -1,30 +1,9 @@
 -- The spots of names are those of items that stand, so that sources and extra files may be removed.
-use Rattle.std.specs.Prelude.{All, ok_or, option_map, if◌then◌else◌, Result, Ok}
-use Rattle.std.specs.List.{filter}
-use Rattle.std.proofs.Common.{◌≡◌, ℕ, Bool, true, false, List, [], ◌∷◌, ◌++◌, Option, Some, None, ap, ◌∙◌, subst}
-use Rattle.std.proofs.lemmas.List.Elements.{All-cons, All-head, All-tail, All-nil}
-use Rattle.meson_lex.specs.declared.kinds.Span.{Span}
-use Rattle.meson_splice.specs.Patch.{then_ok}
-use Rattle.meson_syntax.proofs.parsing.Steps.{some-injective}
-use Rattle.meson_syntax.proofs.paths.Reaching.{map-some, and-then-some}
-use Rattle.meson_calls.specs.declared.refusal.Refusal.{Refusal}
-use Rattle.meson_calls.specs.Calls.{Call}
-use Rattle.meson_variables.specs.Expansion.{Slot, in_list, fixed, Item, Mark, known, opaque, empty}
-use Rattle.meson_calls.specs.Loading.{Loaded, AreParsed, project}
-use Rattle.meson_steps.specs.ListSteps.{AreDoable}
-use Rattle.meson_steps.specs.ResultLimits.{plain_trees}
-use Rattle.meson_calls.specs.Project.{Project, Placed}
-use Rattle.meson_variables.specs.TargetSources.{items, opaque_count, source_marks}
-use Rattle.meson_calls.specs.NamedArguments.{once, sources_key, kwargs_key, not_hidden}
 use Rattle.meson_calls.specs.Calls as calls
-use Rattle.meson_calls.specs.declared.refusal.Refusal.TheVariants.{NotRemovable}
-use Rattle.meson_sources.specs.SourceEdits.{Spot, spot_of, spots_of, spots_by, spots_named, items_of, has_text, removal_steps, removed_at, extra_marks, extra_key, checked_extra}
-use Rattle.meson_steps.specs.Names.{distinct, checked_names}
+use Rattle.meson_sources.proofs.Words.{filter, All, if◌then◌else◌, Ok, ok_or, option_map, Result, [], ap, Bool, false, List, None, Option, Some, subst, true, ℕ, ◌++◌, ◌∙◌, ◌∷◌, ◌≡◌, All-cons, All-head, All-nil, All-tail, Span, then_ok, some-injective, and-then-some, map-some, Call, AreParsed, Loaded, project, kwargs_key, not_hidden, once, sources_key, Placed, Project, Refusal, NotRemovable, empty, fixed, in_list, Item, known, Mark, opaque, Slot, items, opaque_count, source_marks, AreDoable, checked_names, distinct, plain_trees, Step, once_was, then_was, checked_extra, extra_key, extra_marks, has_text, items_of, removal_steps, removed_at, Spot, spot_of, spots_by, spots_named, spots_of}
 use Rattle.meson_sources.proofs.Standings.{AllStand, SlotStands, MarkStands, SpotStands, SourcesMayBeRemoved, ExtrasMayBeRemoved}
-use Rattle.meson_steps.specs.Steps.{Step}
 use Rattle.meson_sources.proofs.SpotsDiffer.{spots_apart}
 use Rattle.meson_sources.proofs.TreesLeft.{removals_doable}
-use Rattle.meson_steps.proofs.WentWell.{then_was, once_was}
 
 -- ---- steps that went well
 

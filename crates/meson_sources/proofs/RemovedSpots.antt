@@ -1,25 +1,6 @@
 -- One string goes: its removal may be done, and what it leaves are the trees without that string.
-use Rattle.std.specs.Prelude.{All, false, ◌&&◌, ◌||◌, nat_eq, option_map, option_and_then, slice_set}
-use Rattle.std.proofs.Common.{◌≡◌, ℕ, zero, suc, ◌≤◌, List, [], ◌∷◌, Some, refl, sym, ap, ap₂, ◌∙◌, subst, arith}
-use Rattle.std.proofs.lemmas.Bool.{eq-eqb, ne_eqb}
-use Rattle.std.proofs.lemmas.List.Elements.{All-head, All-tail, All-set}
-use Rattle.meson_syntax.specs.Grammar.{file_depth}
-use Rattle.meson_syntax.specs.Paths.{ListAt, nth}
-use Rattle.meson_syntax.specs.Tree.{Plain}
-use Rattle.meson_syntax.proofs.parsing.Steps.{some-injective}
-use Rattle.meson_syntax.proofs.paths.Every.{Every}
-use Rattle.meson_edit.specs.Edits.{Remove, elements, with_elements, element_removed, edited}
 use Rattle.meson_edit.proofs.sequences.Deepened.{removals-stay-within}
-use Rattle.meson_edit.proofs.sequences.Levelled.{removals-keep-levels}
-use Rattle.meson_calls.specs.Loading.{Loaded, project}
-use Rattle.meson_calls.specs.Project.{place}
-use Rattle.meson_steps.specs.ListSteps.{MayStandBetween}
-use Rattle.meson_steps.specs.ResultLimits.{plain_trees}
-use Rattle.meson_steps.specs.Steps.{stepped}
-use Rattle.meson_steps.proofs.WithOne.{all_nth, change_there}
-use Rattle.meson_sources.specs.Effects.{goes, trees_without}
-use Rattle.meson_sources.specs.SourceEdits.{Spot, is_path, removal}
-use Rattle.meson_sources.specs.Without.{Gone, each_without, from_child, tree_without}
+use Rattle.meson_sources.proofs.Words.{All, nat_eq, option_and_then, option_map, slice_set, ◌&&◌, ◌||◌, [], ap, ap₂, arith, false, List, refl, Some, subst, suc, sym, zero, ℕ, ◌∙◌, ◌∷◌, ◌≡◌, ◌≤◌, eq-eqb, ne_eqb, All-head, All-set, All-tail, file_depth, ListAt, nth, Plain, some-injective, Every, edited, element_removed, elements, Remove, with_elements, removals-keep-levels, Loaded, project, place, MayStandBetween, plain_trees, stepped, all_nth, change_there, goes, trees_without, is_path, removal, Spot, each_without, from_child, Gone, tree_without}
 use Rattle.meson_sources.proofs.ElementGone.{Alone, element_goes}
 use Rattle.meson_sources.proofs.ListsBut.{or_with_none}
 use Rattle.meson_sources.proofs.NothingGone.{nothing, tree_stays}

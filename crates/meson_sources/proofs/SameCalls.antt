@@ -1,11 +1,5 @@
 -- What the call of a target tells stays the same after strings have gone from lists: its function, and its first argument if that is a literal.
-use Rattle.std.specs.Prelude.{◌&&◌, if◌then◌else◌, option_and_then}
-use Rattle.std.proofs.Common.{◌≡◌, ℕ, ◌+◌, Bool, true, false, Some, None, List, refl, sym, ap, ◌∙◌, subst, inl, inr}
-use Rattle.meson_syntax.specs.Tree.{Nowhere, Expression, identifier, string, array, call, row, plain, named, pair, Arguments, no_arguments, argument}
-use Rattle.meson_calls.specs.declared.call.CallRef.{CallRef}
-use Rattle.meson_calls.specs.Calls.{literal_of}
-use Rattle.meson_calls.specs.Project.{child}
-use Rattle.meson_calls.specs.Roles.{one_of, target_functions}
+use Rattle.meson_sources.proofs.Words.{if◌then◌else◌, option_and_then, ◌&&◌, ap, Bool, false, inl, inr, List, None, refl, Some, subst, sym, true, ℕ, ◌+◌, ◌∙◌, ◌≡◌, argument, Arguments, array, call, Expression, identifier, named, no_arguments, Nowhere, pair, plain, row, string, literal_of, child, one_of, target_functions, CallRef}
 use Rattle.meson_sources.proofs.Losses.{EachLoses, Loses, holds_none}
 use Rattle.meson_sources.proofs.LostArguments.{FirstStays}
 use Rattle.meson_sources.proofs.TargetNames.{a_target, call_by, first_plain}

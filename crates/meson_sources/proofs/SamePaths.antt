@@ -1,9 +1,6 @@
 -- Paths that are the same.
-use Rattle.std.proofs.Common.{◌≡◌, ℕ, List, [], ◌∷◌, refl, ap, ◌∙◌}
-use Rattle.std.specs.Prelude.{Bool, true, false, ◌&&◌, nat_eq}
 use Rattle.std.specs.Cmp.Lexicographic.{pointwise}
-use Rattle.std.proofs.lemmas.Bool.{eq-eqb, eqb-true}
-use Rattle.meson_sources.specs.SourceEdits.{is_path}
+use Rattle.meson_sources.proofs.Words.{nat_eq, ◌&&◌, [], ap, Bool, false, List, refl, true, ℕ, ◌∙◌, ◌∷◌, ◌≡◌, eq-eqb, eqb-true, is_path}
 
 pub path_itself : (list : List ℕ) → is_path list list ≡ true
 path_itself [] = refl

@@ -1,14 +1,5 @@
 -- An expression that is the same in two projects, and what is met in it where variables may stand for something else.
-use Rattle.std.proofs.Common.{◌≡◌, ℕ, ◌+◌, ◌≤◌, Bool, true, false, List, Option, Some, None, refl, sym, subst, arith}
-use Rattle.std.specs.Prelude.{◌&&◌, if◌then◌else◌}
-use Rattle.meson_lex.specs.Literals.{value}
-use Rattle.meson_syntax.specs.Operators.{string_kind}
-use Rattle.meson_syntax.specs.Tree.{Nowhere, Expression, identifier, string, array, call, row, Operands, no_operands, operand, Listing, listing, Argument, plain, named, pair, Arguments, no_arguments, argument}
-use Rattle.meson_calls.specs.declared.call.CallRef.{CallRef}
-use Rattle.meson_variables.specs.Expansion.{Slot, in_list, opaque, Expansion, Stand, both_expanded, met, element, operand_at, is_files, are_plus, literal_item, expand_by, expand_operands, expand_listing, expand_each, expand_argument}
-use Rattle.meson_calls.specs.Project.{child}
-use Rattle.meson_calls.specs.Roles.{one_of}
-use Rattle.meson_variables.specs.TargetSources.{list_of_slot}
+use Rattle.meson_sources.proofs.Words.{if◌then◌else◌, ◌&&◌, arith, Bool, false, List, None, Option, refl, Some, subst, sym, true, ℕ, ◌+◌, ◌≡◌, ◌≤◌, value, string_kind, Argument, argument, Arguments, array, call, Expression, identifier, Listing, listing, named, no_arguments, no_operands, Nowhere, operand, Operands, pair, plain, row, string, child, one_of, CallRef, are_plus, both_expanded, element, expand_argument, expand_by, expand_each, expand_listing, expand_operands, Expansion, in_list, is_files, literal_item, met, opaque, operand_at, Slot, Stand, list_of_slot}
 use Rattle.meson_sources.proofs.Outcomes.{Outcome, stays, joined, nothing_both, opaque_both, outcome_within}
 
 -- a place from which no bad list is met

@@ -1,20 +1,5 @@
 -- What variables stand for before and after an addition, by where the list is that gets strings.
-use Rattle.std.specs.Prelude.{◌⊎◌, ◌||◌, All, bytes_eq}
-use Rattle.std.proofs.Common.{◌≡◌, ℕ, Bool, true, false, List, [], ◌∷◌, ◌++◌, Some, refl, sym, ap, ap₂, ◌∙◌, subst, inl, inr}
-use Rattle.std.proofs.lemmas.Slice.Eq.{bytes_eq-Decides}
-use Rattle.meson_lex.specs.declared.kinds.Span.{Span}
-use Rattle.meson_syntax.specs.Children.{an_expression, a_block}
-use Rattle.meson_syntax.specs.Paths.{nth, block_of}
-use Rattle.meson_syntax.specs.Tree.{Nowhere, Plain, Name, Expression, call, Listing, erase_expression}
-use Rattle.meson_syntax.proofs.parsing.Steps.{some-injective}
-use Rattle.meson_calls.specs.declared.call.CallRef.{CallRef}
-use Rattle.meson_variables.specs.Expansion.{is_files, is_operand_by, is_value_by}
-use Rattle.meson_calls.specs.Loading.{Loaded, project}
-use Rattle.meson_calls.specs.Project.{Placed, place, child}
-use Rattle.meson_calls.specs.Roles.{one_of}
-use Rattle.meson_variables.specs.Variables.{single}
-use Rattle.meson_steps.specs.ListSteps.{MayStandBetween}
-use Rattle.meson_steps.specs.ResultLimits.{plain_trees}
+use Rattle.meson_sources.proofs.Words.{All, bytes_eq, ◌||◌, ◌⊎◌, [], ap, ap₂, Bool, false, inl, inr, List, refl, Some, subst, sym, true, ℕ, ◌++◌, ◌∙◌, ◌∷◌, ◌≡◌, bytes_eq-Decides, Span, a_block, an_expression, block_of, nth, call, erase_expression, Expression, Listing, Name, Nowhere, Plain, some-injective, Loaded, project, child, place, Placed, one_of, CallRef, is_files, is_operand_by, is_value_by, single, MayStandBetween, plain_trees}
 use Rattle.meson_sources.proofs.Bares.{bare_value, values_of}
 use Rattle.meson_sources.proofs.MarkLists.{below, below_itself}
 use Rattle.meson_sources.proofs.Kins.{becomes_same, kin_by, node_below, node_level, placed_of, value_in}

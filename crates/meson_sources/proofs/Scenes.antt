@@ -1,27 +1,9 @@
 -- A project before and after one node of it has become another one: the nodes at places, and what variables stand for.
-use Rattle.std.specs.Prelude.{nat_eq, option_and_then, option_map}
-use Rattle.std.proofs.Common.{◌≡◌, ℕ, suc, ◌+◌, Bool, true, false, List, [], ◌∷◌, ◌++◌, map, Option, Some, None, refl, sym, ap, ap₂, ◌∙◌, subst, arith}
-use Rattle.std.proofs.lemmas.Bool.{eqb-true, eq-eqb}
-use Rattle.meson_lex.specs.declared.kinds.Span.{Span}
-use Rattle.meson_splice.specs.declared.file_set.File.{File}
-use Rattle.meson_syntax.specs.Children.{Any, an_expression, a_block}
-use Rattle.meson_syntax.specs.inside.Children.{child_nodes, node_at}
-use Rattle.meson_syntax.specs.Paths.{nth, block_of}
 use Rattle.meson_syntax.specs.Paths as paths
-use Rattle.meson_syntax.specs.Tree.{Nowhere, Plain, Expression, file, erase, erase_expression}
-use Rattle.meson_syntax.proofs.parsing.Steps.{some-injective}
-use Rattle.meson_syntax.proofs.paths.Reaching.{and-then-some}
-use Rattle.meson_calls.specs.declared.call.CallRef.{CallRef}
-use Rattle.meson_calls.specs.Loading.{Loaded, named_trees, project, trees}
-use Rattle.meson_calls.specs.Parts.{parts_of_file, parts_from}
-use Rattle.meson_calls.specs.Project.{BuildFile, Placed, child, expression_at, nth_file, place}
-use Rattle.meson_variables.specs.Variables.{single}
-use Rattle.meson_steps.specs.ResultLimits.{plain_trees}
-use Rattle.meson_steps.proofs.PlainTrees.{tree_there}
+use Rattle.meson_sources.proofs.Words.{nat_eq, option_and_then, option_map, [], ap, ap₂, arith, Bool, false, List, map, None, Option, refl, Some, subst, suc, sym, true, ℕ, ◌++◌, ◌+◌, ◌∙◌, ◌∷◌, ◌≡◌, eq-eqb, eqb-true, Span, File, a_block, an_expression, Any, block_of, nth, erase, erase_expression, Expression, file, Nowhere, Plain, child_nodes, node_at, some-injective, and-then-some, Loaded, named_trees, project, trees, parts_from, parts_of_file, BuildFile, child, expression_at, nth_file, place, Placed, CallRef, single, plain_trees, differ_new, differ_old, differ_other, tree_there}
 use Rattle.meson_sources.proofs.ErasedNodes.{bare_node, expression_node, node_with_spans}
 use Rattle.meson_sources.proofs.MarkLists.{below}
 use Rattle.meson_sources.proofs.Owners.{no_statement, node_between, single_named}
-use Rattle.meson_steps.proofs.PartsPut.{differ_old, differ_new, differ_other}
 use Rattle.meson_sources.proofs.PlacesBelow.{Far, without_last}
 use Rattle.meson_sources.proofs.Shapes.{Becomes, OnPath, on_path}
 use Rattle.meson_sources.proofs.Tells.{of_any, told, told_both}

@@ -1,23 +1,8 @@
 -- A node put where a path leads: on each step the node keeps its shape and its other children.
-use Rattle.std.specs.Prelude.{option_map, option_and_then}
-use Rattle.std.proofs.Common.{◌≡◌, ℕ, zero, suc, Bool, false, List, [], ◌∷◌, ◌++◌, Some, refl, sym, ap, ap₂, ◌∙◌, subst, arith}
-use Rattle.meson_lex.specs.Significant.{Word}
-use Rattle.meson_syntax.specs.declared.operator.Assignment.{Assignment}
-use Rattle.meson_syntax.specs.declared.operator.Bracket.{Bracket}
 use Rattle.meson_syntax.specs.declared.operator.Operator.{Operator}
 use Rattle.meson_syntax.specs.declared.operator.Bracket.TheVariants as bracket
 use Rattle.meson_lex.specs.declared.kinds.Kind.TheVariants as k
-use Rattle.meson_syntax.specs.Operators.{opens, closes}
-use Rattle.meson_syntax.specs.Grammar.{mark, comma_words, argument_words, arguments_words, expression_words, operator_words, otherwise_words, branches_words}
-use Rattle.meson_syntax.specs.Tree.{Nowhere, Plain, Name, Expression, boolean, identifier, string, paren, array, dictionary, call, unary, row, postfix, conditional, Operands, no_operands, operand, Listing, listing, Argument, plain, named, pair, Arguments, no_arguments, argument, Statement, evaluate, assign, selection, iteration, Block, file}
-use Rattle.meson_syntax.specs.Paths.{Sort, of_expression, of_statement, of_block, Node, Hole, around, all_around, children, nth_hole, reach, block_of, ListIn, list_in, ListAt, list_at, list_within, list_of_node, argument_children, arguments_children, listing_children, operands_children, tails_children, expression_children, branches_children, otherwise_children, statement_children}
-use Rattle.meson_syntax.specs.Children.{Any, an_expression, a_statement, a_block, arguments_parts}
-use Rattle.meson_syntax.specs.inside.Children.{any_of, child_nodes, node_at, operands_parts}
-use Rattle.meson_syntax.proofs.parsing.Steps.{some-injective}
-use Rattle.meson_syntax.proofs.paths.Every.{Every, every-append, every-around, every-nth}
-use Rattle.meson_syntax.proofs.paths.Reaching.{map-some, and-then-some}
-use Rattle.meson_edit.proofs.paths.Positions.{every-at-nth}
-use Rattle.meson_steps.proofs.PartsPut.{Differ, here, there, PutsAmong, children_put, differ_old, differ_new}
+use Rattle.meson_sources.proofs.Words.{option_and_then, option_map, [], ap, ap₂, arith, Bool, false, List, refl, Some, subst, suc, sym, zero, ℕ, ◌++◌, ◌∙◌, ◌∷◌, ◌≡◌, Word, a_block, a_statement, an_expression, Any, arguments_parts, argument_words, arguments_words, branches_words, comma_words, expression_words, mark, operator_words, otherwise_words, closes, opens, all_around, argument_children, arguments_children, around, block_of, branches_children, children, expression_children, Hole, list_at, list_in, list_of_node, list_within, ListAt, ListIn, listing_children, Node, nth_hole, of_block, of_expression, of_statement, operands_children, otherwise_children, reach, Sort, statement_children, tails_children, Argument, argument, Arguments, array, assign, Block, boolean, call, conditional, dictionary, evaluate, Expression, file, identifier, iteration, Listing, listing, Name, named, no_arguments, no_operands, Nowhere, operand, Operands, pair, paren, Plain, plain, postfix, row, selection, Statement, string, unary, Assignment, Bracket, any_of, child_nodes, node_at, operands_parts, some-injective, Every, every-append, every-around, every-nth, and-then-some, map-some, every-at-nth, children_put, Differ, differ_new, differ_old, here, PutsAmong, there}
 
 -- ---- shapes
 

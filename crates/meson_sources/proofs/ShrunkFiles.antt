@@ -1,33 +1,7 @@
 -- All files of a target after a removal.
-use Rattle.std.specs.Prelude.{All, Bool, Ok}
-use Rattle.std.proofs.Common.{◌≡◌, ℕ, ◌≤◌, true, false, List, [], ◌∷◌, length, map, Some, refl, sym, ap, ◌∙◌, subst}
-use Rattle.meson_lex.specs.Literals.{value}
-use Rattle.meson_lex.specs.declared.kinds.Span.{Span}
-use Rattle.meson_splice.specs.Patch.{then_ok}
-use Rattle.meson_syntax.specs.declared.operator.StringKind.{StringKind}
-use Rattle.meson_syntax.specs.Operators.{string_kind}
-use Rattle.meson_syntax.specs.Tree.{Nowhere, Expression, string, Arguments}
-use Rattle.meson_syntax.proofs.paths.Every.{Every, every-append}
-use Rattle.meson_calls.specs.declared.call.CallRef.{CallRef}
 use Rattle.meson_calls.specs.declared.call.Role.TheVariants as role
-use Rattle.meson_calls.specs.Calls.{Call, Numbered, keyword}
-use Rattle.meson_variables.specs.Expansion.{Expansion, Mark, Stand, fixed, literal_item, max_followed}
-use Rattle.meson_calls.specs.Finding.{the_call}
-use Rattle.meson_calls.specs.Loading.{IsProject, Loaded, project}
-use Rattle.meson_calls.specs.Project.{Placed, placed}
-use Rattle.meson_calls.specs.Roles.{one_of, target_functions}
-use Rattle.meson_variables.specs.TargetSources.{hidden, items, source_marks}
-use Rattle.meson_calls.specs.NamedArguments.{once, sources_key}
-use Rattle.meson_steps.specs.ListSteps.{MayStandBetween}
-use Rattle.meson_steps.specs.Names.{checked_names, distinct}
-use Rattle.meson_steps.specs.ResultLimits.{plain_trees}
-use Rattle.meson_steps.specs.Steps.{Step, all_stepped}
-use Rattle.meson_steps.proofs.PlainTrees.{trees_stand}
-use Rattle.meson_steps.proofs.WentWell.{once_was, then_was}
-use Rattle.meson_sources.specs.Effects.{AreSpotsOf, goes}
-use Rattle.meson_sources.specs.SourceEdits.{Spot, checked_extra, extra_key, extra_marks, removal_steps, removed_at, spots_named}
 use Rattle.meson_sources.specs.WholeExtras.{AllExtrasShrink}
-use Rattle.meson_sources.specs.WholeSources.{AllSourcesShrink, FilesShrink, file_names}
+use Rattle.meson_sources.proofs.Words.{All, Ok, [], ap, Bool, false, length, List, map, refl, Some, subst, sym, true, ℕ, ◌∙◌, ◌∷◌, ◌≡◌, ◌≤◌, value, Span, then_ok, string_kind, Arguments, Expression, Nowhere, string, StringKind, Every, every-append, Call, keyword, Numbered, the_call, IsProject, Loaded, project, once, sources_key, Placed, placed, one_of, target_functions, CallRef, Expansion, fixed, literal_item, Mark, max_followed, Stand, hidden, items, source_marks, MayStandBetween, checked_names, distinct, plain_trees, all_stepped, Step, trees_stand, once_was, then_was, AreSpotsOf, goes, checked_extra, extra_key, extra_marks, removal_steps, removed_at, Spot, spots_named, AllSourcesShrink, file_names, FilesShrink}
 use Rattle.meson_sources.proofs.Bares.{bare_mark, expand_with, values_of}
 use Rattle.meson_sources.proofs.CallForms.{CallIn, bare_arguments, called, target_at}
 use Rattle.meson_sources.proofs.CallLeft.{Fine, are_named, at_call, call_from, call_left, each_left, fine, first, first_of, literals, moved_place, named_left, own_fine, values_stand}

@@ -1,17 +1,5 @@
 -- All sources of a call: without spans, and in which lists they are met.
-use Rattle.std.specs.Prelude.{if◌then◌else◌, bytes_eq, option_map}
-use Rattle.std.specs.List.{cons_option}
-use Rattle.std.proofs.Common.{◌≡◌, ℕ, ◌+◌, Bool, true, false, List, [], ◌∷◌, map, Option, Some, None, refl, ap, ◌∙◌}
-use Rattle.meson_lex.specs.declared.kinds.Span.{Span}
-use Rattle.meson_syntax.specs.Tree.{Nowhere, Expression, plain, named, pair, Arguments, no_arguments, argument, erase_expression, erase_arguments}
-use Rattle.meson_syntax.proofs.parsing.Steps.{some-injective}
-use Rattle.meson_syntax.proofs.paths.Every.{Every}
-use Rattle.meson_calls.specs.declared.call.CallRef.{CallRef}
-use Rattle.meson_calls.specs.Calls.{Numbered}
-use Rattle.meson_variables.specs.Expansion.{Slot, in_list, fixed, Mark, known, opaque, empty, Expansion, both_expanded, then_expand, expand, max_followed}
-use Rattle.meson_calls.specs.Project.{Project, child}
-use Rattle.meson_calls.specs.NamedArguments.{rest, sources_key}
-use Rattle.meson_variables.specs.TargetSources.{expand_arguments, first_list, first_empty, hidden, list_of_slot, or_option}
+use Rattle.meson_sources.proofs.Words.{cons_option, bytes_eq, if◌then◌else◌, option_map, [], ap, Bool, false, List, map, None, Option, refl, Some, true, ℕ, ◌+◌, ◌∙◌, ◌∷◌, ◌≡◌, Span, argument, Arguments, erase_arguments, erase_expression, Expression, named, no_arguments, Nowhere, pair, plain, some-injective, Every, Numbered, rest, sources_key, child, Project, CallRef, both_expanded, empty, expand, Expansion, fixed, in_list, known, Mark, max_followed, opaque, Slot, then_expand, expand_arguments, first_empty, first_list, hidden, list_of_slot, or_option}
 use Rattle.meson_sources.proofs.Bares.{bare_mark, bare, both_bare, expand_with, expand_bare, values_of}
 use Rattle.meson_sources.proofs.CallTrees.{keyed, keys, list_with, plains, whole}
 use Rattle.meson_sources.proofs.Gists.{gist}

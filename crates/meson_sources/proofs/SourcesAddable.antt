@@ -1,28 +1,9 @@
 -- Sources may be put into the list where they go, one after another.
-use Rattle.std.proofs.Common.{◌≡◌, ℕ, ◌+◌, ◌<◌, List, [], Option, Some, None, refl, sym, subst, arith, inr, IsUtf8, ap}
-use Rattle.std.specs.Prelude.{not, option_map, All}
-use Rattle.std.specs.List.{filter_map}
-use Rattle.std.proofs.lemmas.List.Elements.{All-filter}
-use Rattle.meson_lex.specs.declared.kinds.Span.{Span}
-use Rattle.meson_syntax.specs.Tree.{Expression, Listing, listing, plain, named, pair, Arguments, no_arguments, argument, argument_list}
-use Rattle.meson_edit.specs.Edits.{elements}
-use Rattle.meson_calls.specs.declared.call.CallRef.{CallRef}
-use Rattle.meson_calls.specs.Calls.{Call, numbered, kept_number, value_without_name, first_of, first_argument, keyword}
-use Rattle.meson_variables.specs.Expansion.{Mark}
-use Rattle.meson_steps.specs.ListSteps.{AreDoable}
-use Rattle.meson_calls.specs.Loading.{project}
-use Rattle.meson_steps.specs.ResultLimits.{plain_trees}
-use Rattle.meson_calls.specs.Project.{Project, Placed}
-use Rattle.meson_sources.specs.SourceEdits.{is_known, new_names, inserted_in}
-use Rattle.meson_steps.specs.Names.{checked_names, distinct}
-use Rattle.meson_calls.specs.NamedArguments.{sources_key, once}
-use Rattle.meson_variables.specs.TargetSources.{source_marks, first_list, first_empty, or_option, or_call, home}
+use Rattle.meson_steps.proofs.Distincts.{distinct_texts}
+use Rattle.meson_sources.proofs.Words.{filter_map, All, not, option_map, [], ap, arith, inr, IsUtf8, List, None, Option, refl, Some, subst, sym, ℕ, ◌+◌, ◌<◌, ◌≡◌, All-filter, Span, holds_values, argument, argument_list, Arguments, Expression, Listing, listing, named, no_arguments, pair, plain, elements, Call, first_argument, first_of, kept_number, keyword, numbered, value_without_name, project, once, sources_key, Placed, Project, CallRef, Mark, first_empty, first_list, home, or_call, or_option, source_marks, AreDoable, checked_names, distinct, plain_trees, once_was, then_was, inserted_in, is_known, new_names}
 use Rattle.meson_sources.proofs.Standings.{MarkStands, TargetThere, SourcesMayBeAdded}
 use Rattle.meson_sources.proofs.Homes.{Home, marked_home, home_doable}
 use Rattle.meson_sources.proofs.PlainCounts.{plain_count}
-use Rattle.meson_steps.proofs.Distincts.{distinct_texts}
-use Rattle.meson_steps.proofs.WentWell.{then_was, once_was}
-use Rattle.meson_syntax.specs.Operators.{holds_values}
 
 -- ---- new names are among the names
 

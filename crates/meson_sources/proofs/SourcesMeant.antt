@@ -1,30 +1,6 @@
 -- The steps that commands on sources mean, by what the code finds.
-use Rattle.std.proofs.Common.{◌≡◌, ℕ, ◌<◌, ◌≤◌, List, length, map, sym, ap, ◌∙◌}
-use Rattle.std.specs.Prelude.{Some, Ok, Err}
-use Rattle.meson_lex.specs.declared.kinds.Span.{Span}
-use Rattle.meson_splice.specs.Patch.{then_ok}
 use Rattle.meson_syntax.specs.declared.tree.List as rust
-use Rattle.meson_calls.specs.declared.call.CallRef.{CallRef}
-use Rattle.meson_calls.specs.declared.refusal.Refusal.{Refusal}
-use Rattle.meson_calls.specs.declared.refusal.Refusal.TheVariants.{DuplicateKeyword}
-use Rattle.meson_steps.specs.declared.step.ListStep.{ListStep}
-use Rattle.meson_calls.specs.Project.{Project, Placed}
-use Rattle.meson_calls.specs.Calls.{Call, keyword, value_with_name}
-use Rattle.meson_variables.specs.Expansion.{Mark, max_followed}
-use Rattle.meson_steps.specs.ListSteps.{bare}
-use Rattle.meson_sources.specs.inside.Naming.{new_among}
-use Rattle.meson_calls.specs.ChosenNotes.{placed_call}
-use Rattle.meson_sources.specs.inside.CodeSpots.{spots_of_names}
-use Rattle.meson_calls.specs.NamedArguments.{sources_key, once, kept_args}
-use Rattle.meson_variables.specs.TargetSources.{source_marks, home, or_call, or_option, first_list}
-use Rattle.meson_variables.specs.ExpandedArguments.{all_gathered}
-use Rattle.meson_sources.specs.SourceEdits.{new_names, insertion_steps, plain_len, spots_named, removed_at, sources_added, sources_removed}
-use Rattle.meson_steps.specs.Names.{checked_names, distinct}
-use Rattle.meson_variables.specs.Tallies.{Tally}
-use Rattle.meson_steps.specs.Meanings.{AreMeant}
-use Rattle.meson_calls.proofs.AtMostOnce.{once_few, once_twice}
-use Rattle.meson_calls.proofs.KeywordArguments.{keyword_is}
-use Rattle.meson_variables.proofs.Answered.{gathered_marks}
+use Rattle.meson_sources.proofs.Words.{Err, Ok, ap, length, List, map, Some, sym, ℕ, ◌<◌, ◌∙◌, ◌≡◌, ◌≤◌, Span, then_ok, Call, keyword, value_with_name, placed_call, kept_args, once, sources_key, Placed, Project, CallRef, Refusal, DuplicateKeyword, once_few, once_twice, keyword_is, all_gathered, Mark, max_followed, Tally, first_list, home, or_call, or_option, source_marks, gathered_marks, bare, AreMeant, checked_names, distinct, ListStep, insertion_steps, new_names, plain_len, removed_at, sources_added, sources_removed, spots_named, spots_of_names, new_among}
 use Rattle.meson_sources.proofs.Marked.{Told, told, new_are, told_spots}
 
 module _ (p : Project Span) (c : CallRef) (source : List ℕ) (l : rust.List) (function : List ℕ) (names : List (List ℕ)) where

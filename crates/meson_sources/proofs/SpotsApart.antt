@@ -1,6 +1,5 @@
 -- Spots that are not the same.
-use Rattle.std.proofs.Common.{◌≡◌, List}
-use Rattle.meson_sources.specs.SourceEdits.{Spot}
+use Rattle.meson_sources.proofs.Words.{List, ◌≡◌, Spot}
 use Rattle.meson_sources.proofs.Pairwise.{Pairwise}
 
 abbrev pub Apart : Spot → Spot → Type 0

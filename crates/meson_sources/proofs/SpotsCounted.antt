@@ -1,14 +1,6 @@
 -- Where elements stand once others have gone, by counting those that went before them in their lists.
-use Rattle.std.specs.Prelude.{cond, ◌&&◌, ◌||◌, nat_eq, nat_lt}
-use Rattle.std.specs.List.{count_by}
-use Rattle.std.proofs.Common.{◌≡◌, ℕ, ◌+◌, Bool, true, false, List, [], ◌∷◌, refl, sym, ap, ap₂, ◌∙◌, arith}
-use Rattle.std.proofs.lemmas.Bool.{eqb-true, eq-eqb, ne_eqb, ltb-true, ltb-false}
 use Rattle.std.proofs.lemmas.List.Sums.{sum_by-cons}
-use Rattle.meson_syntax.proofs.paths.Every.{Every}
-use Rattle.meson_calls.specs.declared.call.CallRef.{CallRef}
-use Rattle.meson_calls.specs.Project.{child, place}
-use Rattle.meson_sources.specs.Effects.{goes, same_spot, element_spot}
-use Rattle.meson_sources.specs.SourceEdits.{Spot, is_before, is_path, number_without, path_without}
+use Rattle.meson_sources.proofs.Words.{count_by, cond, nat_eq, nat_lt, ◌&&◌, ◌||◌, [], ap, ap₂, arith, Bool, false, List, refl, sym, true, ℕ, ◌+◌, ◌∙◌, ◌∷◌, ◌≡◌, eq-eqb, eqb-true, ltb-false, ltb-true, ne_eqb, Every, child, place, CallRef, element_spot, goes, same_spot, is_before, is_path, number_without, path_without, Spot}
 use Rattle.meson_sources.proofs.ListsBut.{apart_not_same}
 use Rattle.meson_sources.proofs.NumbersLeft.{OneMore, as_many, left_same, one_fewer}
 use Rattle.meson_sources.proofs.SamePaths.{same_paths}

@@ -1,23 +1,5 @@
 -- Where no item is met twice, no spot of names is there twice.
-use Rattle.std.specs.Prelude.{◌&&◌, bytes_eq, if◌then◌else◌, option_map, Ok}
-use Rattle.std.specs.List.{filter, list_any}
-use Rattle.std.proofs.Common.{◌≡◌, ℕ, Bool, true, false, List, [], ◌∷◌, ◌++◌, Some, refl, sym, ap, ap₂, ◌∙◌, subst}
-use Rattle.std.proofs.lemmas.Bool.{or_left, or_right}
-use Rattle.std.proofs.lemmas.Slice.Eq.{bytes_eq-Decides}
-use Rattle.meson_lex.specs.declared.kinds.Span.{Span}
-use Rattle.meson_splice.specs.Patch.{then_ok}
-use Rattle.meson_syntax.proofs.parsing.Steps.{some-injective}
-use Rattle.meson_syntax.proofs.paths.Every.{Every}
-use Rattle.meson_syntax.proofs.paths.Reaching.{and-then-some, map-some}
-use Rattle.meson_calls.specs.declared.call.CallRef.{CallRef}
-use Rattle.meson_calls.specs.Project.{Project, child, place}
-use Rattle.meson_calls.specs.Roles.{one_of}
-use Rattle.meson_variables.specs.Expansion.{Item, Mark, Slot, fixed, in_list}
-use Rattle.meson_variables.specs.TargetSources.{items, opaque_count}
-use Rattle.meson_steps.specs.Names.{distinct, distinct_by}
-use Rattle.meson_steps.proofs.WentWell.{then_was}
-use Rattle.meson_sources.specs.Effects.{has_one_of, is_at, element_spot}
-use Rattle.meson_sources.specs.SourceEdits.{Spot, has_text, items_of, spot_of, spots_by, spots_named, spots_of}
+use Rattle.meson_sources.proofs.Words.{filter, list_any, bytes_eq, if◌then◌else◌, Ok, option_map, ◌&&◌, [], ap, ap₂, Bool, false, List, refl, Some, subst, sym, true, ℕ, ◌++◌, ◌∙◌, ◌∷◌, ◌≡◌, or_left, or_right, bytes_eq-Decides, Span, then_ok, some-injective, Every, and-then-some, map-some, child, place, Project, one_of, CallRef, fixed, in_list, Item, Mark, Slot, items, opaque_count, distinct, distinct_by, then_was, element_spot, has_one_of, is_at, has_text, items_of, Spot, spot_of, spots_by, spots_named, spots_of}
 use Rattle.meson_sources.proofs.ListsBut.{both_true, same_one}
 use Rattle.meson_sources.proofs.NamedGone.{some_of}
 use Rattle.meson_sources.proofs.NamedSpots.{any_filtered, both_of, every_both, every_weaker, its_spot, named_spots, of_one, some_spots}

@@ -1,15 +1,5 @@
 -- Where the items of a name stand, gathered one after another.
-use Rattle.std.proofs.Common.{◌≡◌, ℕ, ◌+◌, ◌<◌, List, [], ◌∷◌, ◌++◌, length, get_or, drop, refl, sym, ap, ◌∙◌, add-one}
-use Rattle.std.specs.Prelude.{Bool, true, false, ◌||◌, Option, Some, None, ok_or, option_map, Result, Ok, Err, if◌then◌else◌}
-use Rattle.std.proofs.Math.Seq.{drop-cons}
-use Rattle.std.proofs.lemmas.List.{append_assoc}
-use Rattle.meson_splice.specs.Patch.{then_ok}
-use Rattle.meson_variables.specs.declared.source.SourceItem.{SourceItem}
-use Rattle.meson_calls.specs.declared.refusal.Refusal.{Refusal}
-use Rattle.meson_calls.specs.declared.refusal.Refusal.TheVariants.{NotRemovable}
-use Rattle.meson_sources.specs.SourceEdits.{Spot}
-use Rattle.meson_sources.specs.inside.Naming.{has_value}
-use Rattle.meson_sources.specs.inside.CodeSpots.{spot_if_there, spots_at, all_there, spots_from, before_all, joined_spots, is_some_there}
+use Rattle.meson_sources.proofs.Words.{Err, if◌then◌else◌, Ok, ok_or, option_map, Result, ◌||◌, [], add-one, ap, append_assoc, Bool, drop, false, get_or, length, List, None, Option, refl, Some, sym, true, ℕ, ◌++◌, ◌+◌, ◌<◌, ◌∙◌, ◌∷◌, ◌≡◌, drop-cons, then_ok, Refusal, NotRemovable, SourceItem, Spot, all_there, before_all, is_some_there, joined_spots, spot_if_there, spots_at, spots_from, has_value}
 
 module _ (name : List ℕ) (items : List SourceItem) (numbers : List (Option ℕ)) (i : ℕ) (d : SourceItem) (e : Option ℕ) (within : i < length items) (also : i < length numbers) where
   abbrev item : SourceItem

@@ -1,21 +1,5 @@
 -- At each spot that goes stands a source with one of the names that are removed, and each such source stands at one.
-use Rattle.std.specs.Prelude.{◌&&◌}
-use Rattle.std.specs.List.{list_any}
-use Rattle.std.proofs.Common.{◌≡◌, ℕ, true, false, List, [], ◌∷◌, map, sym, ap, ◌∙◌, subst}
-use Rattle.meson_lex.specs.Literals.{value}
-use Rattle.meson_lex.specs.declared.kinds.Span.{Span}
-use Rattle.meson_syntax.specs.Operators.{string_kind}
-use Rattle.meson_syntax.specs.inside.Children.{node_at}
-use Rattle.meson_syntax.specs.Tree.{Plain, plain, string}
-use Rattle.meson_syntax.proofs.parsing.Steps.{some-injective}
-use Rattle.meson_syntax.proofs.paths.Every.{Every}
-use Rattle.meson_calls.specs.declared.call.CallRef.{CallRef}
-use Rattle.meson_variables.specs.Expansion.{Item, Mark, known, opaque, empty, Slot, in_list, fixed}
-use Rattle.meson_calls.specs.Roles.{one_of}
-use Rattle.meson_variables.specs.TargetSources.{items}
-use Rattle.meson_steps.specs.Names.{distinct}
-use Rattle.meson_sources.specs.Effects.{AreSpotsOf, goes, has_one_of, is_at, same_spot, element_spot}
-use Rattle.meson_sources.specs.SourceEdits.{Spot}
+use Rattle.meson_sources.proofs.Words.{list_any, ◌&&◌, [], ap, false, List, map, subst, sym, true, ℕ, ◌∙◌, ◌∷◌, ◌≡◌, value, Span, string_kind, Plain, plain, string, node_at, some-injective, Every, one_of, CallRef, empty, fixed, in_list, Item, known, Mark, opaque, Slot, items, distinct, AreSpotsOf, element_spot, goes, has_one_of, is_at, same_spot, Spot}
 use Rattle.meson_sources.proofs.Bares.{bare_mark}
 use Rattle.meson_sources.proofs.ElementsThere.{root}
 use Rattle.meson_sources.proofs.ItemsThere.{Holds, IsSources, StringHeld, TextHeld}

@@ -1,17 +1,5 @@
 -- The spots of names after strings of other names have gone: those before, moved.
-use Rattle.std.specs.Prelude.{Bool, true, false, if◌then◌else◌, ok_or, option_and_then, option_map, Ok}
-use Rattle.std.specs.List.{list_any}
-use Rattle.std.proofs.Common.{◌≡◌, ℕ, List, [], ◌∷◌, ◌++◌, map, Option, Some, None, refl, sym, ap, ap₂, ◌∙◌}
-use Rattle.std.proofs.lemmas.Bool.{or_left, or_right}
-use Rattle.std.proofs.lemmas.List.{map-append}
-use Rattle.meson_splice.specs.Patch.{then_ok}
-use Rattle.meson_syntax.proofs.paths.Every.{Every}
-use Rattle.meson_calls.specs.declared.call.CallRef.{CallRef}
-use Rattle.meson_calls.specs.declared.refusal.Refusal.TheVariants.{NotRemovable}
-use Rattle.meson_variables.specs.Expansion.{Item, Mark, Slot, known, opaque, empty, in_list, fixed}
-use Rattle.meson_variables.specs.TargetSources.{items, opaque_count}
-use Rattle.meson_steps.proofs.WentWell.{then_was}
-use Rattle.meson_sources.specs.SourceEdits.{Spot, has_text, items_of, spot_of, spots_by, spots_named, spots_of}
+use Rattle.meson_sources.proofs.Words.{list_any, if◌then◌else◌, Ok, ok_or, option_and_then, option_map, [], ap, ap₂, Bool, false, List, map, None, Option, refl, Some, sym, true, ℕ, ◌++◌, ◌∙◌, ◌∷◌, ◌≡◌, or_left, or_right, map-append, then_ok, Every, CallRef, NotRemovable, empty, fixed, in_list, Item, known, Mark, opaque, Slot, items, opaque_count, then_was, has_text, items_of, Spot, spot_of, spots_by, spots_named, spots_of}
 use Rattle.meson_sources.proofs.LeftFiles.{unknown_left}
 use Rattle.meson_sources.proofs.LostMarks.{head_by, item_left, left_of, slot_gone, slot_left}
 use Rattle.meson_sources.proofs.NamedSpots.{every_weaker}

@@ -1,13 +1,5 @@
 -- Elements go, and then others from where they stand then: each element stands where it stands when all go at once.
-use Rattle.std.specs.Prelude.{◌&&◌, ◌||◌, nat_eq, if◌then◌else◌}
-use Rattle.std.proofs.Common.{◌≡◌, ℕ, zero, suc, Bool, true, false, List, [], ◌∷◌, ◌++◌, append-nil, map, refl, sym, ap, ap₂, ◌∙◌, subst}
-use Rattle.std.proofs.lemmas.Bool.{eqb-true, or_right}
-use Rattle.meson_syntax.proofs.paths.Every.{Every}
-use Rattle.meson_calls.specs.declared.call.CallRef.{CallRef}
-use Rattle.meson_calls.specs.Project.{place}
-use Rattle.meson_sources.specs.Effects.{goes, same_spot, element_spot}
-use Rattle.meson_sources.specs.SourceEdits.{Spot, is_path, spot_without}
-use Rattle.meson_sources.specs.Without.{Gone, from_child}
+use Rattle.meson_sources.proofs.Words.{if◌then◌else◌, nat_eq, ◌&&◌, ◌||◌, [], ap, append-nil, ap₂, Bool, false, List, map, refl, subst, suc, sym, true, zero, ℕ, ◌++◌, ◌∙◌, ◌∷◌, ◌≡◌, eqb-true, or_right, Every, place, CallRef, element_spot, goes, same_spot, is_path, Spot, spot_without, from_child, Gone}
 use Rattle.meson_sources.proofs.ListsBut.{apart_not_same, apart_of, or_with_none}
 use Rattle.meson_sources.proofs.NodesMoved.{place_left}
 use Rattle.meson_sources.proofs.NumbersLeft.{left_same, same_left}

@@ -1,28 +1,7 @@
 -- Where what a target holds stands in the trees of its project, and that the steps of commands on it may be done.
-use Rattle.std.specs.Prelude.{◌≡◌, ℕ, List, [], All, Some, Result, Ok, true}
-use Rattle.std.specs.Str.{IsUtf8}
-use Rattle.meson_lex.specs.declared.kinds.Span.{Span}
 use Rattle.meson_syntax.specs.declared.operator.Bracket.TheVariants as bracket
-use Rattle.meson_syntax.specs.declared.operator.StringKind.{StringKind}
-use Rattle.meson_syntax.specs.Paths.{nth}
-use Rattle.meson_syntax.specs.Tree.{Expression, string, plain}
-use Rattle.meson_syntax.proofs.paths.Every.{Every}
-use Rattle.meson_edit.specs.Edits.{elements}
-use Rattle.meson_calls.specs.declared.call.CallRef.{CallRef}
 use Rattle.meson_calls.specs.declared.call.Role.TheVariants as role
-use Rattle.meson_calls.specs.declared.refusal.Refusal.{Refusal}
-use Rattle.meson_calls.specs.Project.{Project, Placed, child}
-use Rattle.meson_calls.specs.Calls.{Call, first_argument}
-use Rattle.meson_variables.specs.Expansion.{Item, Slot, in_list, fixed, Mark, known, opaque, empty}
-use Rattle.meson_variables.specs.TargetSources.{items, source_marks}
-use Rattle.meson_sources.specs.SourceEdits.{Spot, removal_steps, extra_marks, sources_added, sources_removed, extra_added, extra_removed}
-use Rattle.meson_calls.specs.Finding.{the_call}
-use Rattle.meson_calls.specs.Loading.{Loaded, AreParsed, project}
-use Rattle.meson_calls.specs.CallPlaces.{ListThere}
-use Rattle.meson_steps.specs.ResultLimits.{plain_trees}
-use Rattle.meson_steps.specs.ListSteps.{AreDoable}
-use Rattle.meson_steps.specs.Steps.{Step}
-use Rattle.meson_syntax.specs.Operators.{holds_values}
+use Rattle.meson_sources.proofs.Words.{All, Ok, Result, [], IsUtf8, List, Some, true, ℕ, ◌≡◌, Span, holds_values, nth, Expression, plain, string, StringKind, Every, elements, ListThere, Call, first_argument, the_call, AreParsed, Loaded, project, child, Placed, Project, CallRef, Refusal, empty, fixed, in_list, Item, known, Mark, opaque, Slot, items, source_marks, AreDoable, plain_trees, Step, extra_added, extra_marks, extra_removed, removal_steps, sources_added, sources_removed, Spot}
 use Rattle.meson_sources.proofs.Pairwise.{Pairwise}
 use Rattle.meson_sources.proofs.SpotsApart.{AreApart}
 

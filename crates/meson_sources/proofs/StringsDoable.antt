@@ -1,22 +1,6 @@
 -- Strings may be put into a list, one after another.
-use Rattle.std.proofs.Common.{◌≡◌, ℕ, suc, ◌≤◌, List, [], ◌∷◌, Some, refl, arith, true}
-use Rattle.std.specs.Prelude.{All, slice_set}
-use Rattle.std.specs.Str.{IsUtf8}
-use Rattle.std.proofs.lemmas.List.Elements.{All-head, All-tail, All-set}
-use Rattle.meson_lex.specs.Literals.{literal}
-use Rattle.meson_syntax.specs.Tree.{Nowhere, Plain}
-use Rattle.meson_syntax.specs.Grammar.{LevelFile, file_depth}
-use Rattle.meson_syntax.specs.Paths.{ListAt, list_at, nth}
-use Rattle.meson_edit.specs.Edits.{First, After, elements}
-use Rattle.meson_calls.specs.declared.call.CallRef.{CallRef}
-use Rattle.meson_steps.specs.ListSteps.{MayStandBetween, AreDoable, none}
-use Rattle.meson_steps.specs.WrittenTexts.{string_of}
-use Rattle.meson_steps.specs.Steps.{step_in}
-use Rattle.meson_sources.specs.SourceEdits.{insertion_steps, written_source}
-use Rattle.meson_steps.proofs.Insertable.{Room, grown_behind, grown_first}
-use Rattle.meson_steps.proofs.WithOne.{changed_there, all_nth}
 use Rattle.meson_steps.proofs.StepsDoable.{step_doable, text_written}
-use Rattle.meson_syntax.specs.Operators.{holds_values}
+use Rattle.meson_sources.proofs.Words.{All, slice_set, [], arith, IsUtf8, List, refl, Some, suc, true, ℕ, ◌∷◌, ◌≡◌, ◌≤◌, All-head, All-set, All-tail, literal, file_depth, LevelFile, holds_values, list_at, ListAt, nth, Nowhere, Plain, After, elements, First, CallRef, AreDoable, MayStandBetween, none, step_in, string_of, grown_behind, grown_first, Room, all_nth, changed_there, insertion_steps, written_source}
 
 -- a tree that is no deeper stands too
 grown_stands : (t now : Plain) → MayStandBetween t → LevelFile now → file_depth now ≤ file_depth t → MayStandBetween now

@@ -1,14 +1,7 @@
 -- The string at a spot of a project is one in its trees without spans.
-use Rattle.std.proofs.Common.{◌≡◌, List, Some, refl, ap, ◌∙◌}
-use Rattle.meson_syntax.specs.Paths.{nth}
-use Rattle.meson_syntax.specs.Tree.{Nowhere, Plain, Argument, plain, string, erase}
-use Rattle.meson_edit.specs.Edits.{elements}
-use Rattle.meson_calls.specs.Loading.{Loaded, project}
-use Rattle.meson_steps.specs.ResultLimits.{plain_trees}
+use Rattle.meson_sources.proofs.Words.{ap, List, refl, Some, ◌∙◌, ◌≡◌, nth, Argument, erase, Nowhere, Plain, plain, string, elements, Loaded, project, plain_trees, element_erased, plain_place, tree_there, Spot}
 use Rattle.meson_sources.proofs.ElementsThere.{IsElementAt, IsStringElement}
-use Rattle.meson_sources.specs.SourceEdits.{Spot}
 use Rattle.meson_sources.proofs.Standings.{SpotStands}
-use Rattle.meson_steps.proofs.PlainTrees.{element_erased, plain_place, tree_there}
 
 -- At the spot in these trees stands a string.
 pub record StringIn (trees : List Plain) (s : Spot) : Type 0 where

@@ -1,32 +1,7 @@
 -- Names of files of a target go in turn.
-use Rattle.std.specs.Prelude.{All, Result, Ok}
-use Rattle.std.proofs.Common.{◌≡◌, ℕ, true, false, List, [], ◌∷◌, ◌++◌, append-nil, length, map, Some, refl, sym, ap, ap₂, ◌∙◌, subst, arith}
-use Rattle.meson_lex.specs.declared.kinds.Span.{Span}
-use Rattle.meson_splice.specs.Patch.{then_ok}
-use Rattle.meson_syntax.proofs.parsing.Steps.{some-injective}
-use Rattle.meson_syntax.proofs.paths.Every.{Every}
-use Rattle.meson_calls.specs.declared.call.CallRef.{CallRef}
 use Rattle.meson_calls.specs.declared.call.Role.TheVariants as role
-use Rattle.meson_calls.specs.declared.refusal.Refusal.{Refusal}
-use Rattle.meson_calls.specs.Calls.{Call, call_of, keyword}
-use Rattle.meson_calls.specs.Finding.{the_call}
-use Rattle.meson_calls.specs.Loading.{IsProject, Loaded, project}
-use Rattle.meson_calls.specs.NamedArguments.{kwargs_key, not_hidden, once, sources_key}
-use Rattle.meson_calls.specs.Project.{Placed, Project, expression_at, placed}
-use Rattle.meson_calls.specs.Roles.{one_of, target_functions}
-use Rattle.meson_calls.proofs.AtMostOnce.{once_few}
-use Rattle.meson_variables.specs.Expansion.{Mark}
-use Rattle.meson_variables.specs.TargetSources.{items, opaque_count, source_marks}
-use Rattle.meson_steps.specs.ListSteps.{MayStandBetween}
-use Rattle.meson_steps.specs.Names.{checked_names, distinct}
-use Rattle.meson_steps.specs.ResultLimits.{plain_trees}
-use Rattle.meson_steps.specs.Steps.{Step, all_stepped}
-use Rattle.meson_steps.proofs.PlainTrees.{trees_stand}
-use Rattle.meson_steps.proofs.WentWell.{once_was, then_was}
-use Rattle.meson_sources.specs.Effects.{AreSpotsOf, goes}
 use Rattle.meson_sources.specs.InTurn.{ExtrasGoInTurn, SourcesGoInTurn}
-use Rattle.meson_sources.specs.SourceEdits.{Spot, checked_extra, extra_key, extra_marks, items_of, removal_steps, removed_at, spot_without, spots_by, spots_named}
-use Rattle.meson_sources.specs.WholeSources.{file_names}
+use Rattle.meson_sources.proofs.Words.{All, Ok, Result, [], ap, append-nil, ap₂, arith, false, length, List, map, refl, Some, subst, sym, true, ℕ, ◌++◌, ◌∙◌, ◌∷◌, ◌≡◌, Span, then_ok, some-injective, Every, Call, call_of, keyword, the_call, IsProject, Loaded, project, kwargs_key, not_hidden, once, sources_key, expression_at, Placed, placed, Project, one_of, target_functions, CallRef, Refusal, once_few, Mark, items, opaque_count, source_marks, MayStandBetween, checked_names, distinct, plain_trees, all_stepped, Step, trees_stand, once_was, then_was, AreSpotsOf, goes, checked_extra, extra_key, extra_marks, items_of, removal_steps, removed_at, Spot, spot_without, spots_by, spots_named, file_names}
 use Rattle.meson_sources.proofs.CallForms.{CallIn, called, target_at}
 use Rattle.meson_sources.proofs.CallLeft.{moved_place}
 use Rattle.meson_sources.proofs.MarkContents.{contents_spots}

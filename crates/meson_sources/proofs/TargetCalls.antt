@@ -1,41 +1,18 @@
 -- The call of the target that a command names, and its arguments in the code.
-use Rattle.std.proofs.Common.{◌≡◌, ℕ, ◌<◌, List, [], ◌∷◌, length, Some, sym, ap, ap₂, ◌∙◌, subst, arith}
-use Rattle.std.proofs.lemmas.List.{length-map}
-use Rattle.std.specs.Prelude.{option_map, option_and_then, Ok}
-use Rattle.meson_lex.specs.declared.kinds.Span.{Span}
-use Rattle.meson_splice.specs.Patch.{then_ok}
-use Rattle.meson_splice.specs.declared.file_set.File.{File}
-use Rattle.meson_splice.specs.Files.{bytes_at}
 use Rattle.meson_syntax.specs.declared.tree.List as rust
-use Rattle.meson_syntax.specs.declared.tree.Parsed.{Parsed}
-use Rattle.meson_syntax.specs.Paths.{list_in}
 use Rattle.meson_syntax.specs.Paths as paths
-use Rattle.meson_syntax.specs.Tree.{Expression, call}
-use Rattle.meson_syntax.specs.View.{list_view, arg_view}
-use Rattle.meson_syntax.proofs.parsing.Steps.{some-injective}
-use Rattle.meson_edit.specs.Edits.{elements}
-use Rattle.meson_calls.specs.declared.call.CallRef.{CallRef}
 use Rattle.meson_calls.specs.declared.call.Role.TheVariants as role
 use Rattle.meson_calls.specs.declared.noted.Noted.{Noted}
 use Rattle.meson_variables.specs.declared.variables.Variables.{Variables}
 use Rattle.meson_sources.specs.declared.targeting.TargetChange.{TargetChange}
-use Rattle.meson_calls.specs.CallPlaces.{CallIn}
-use Rattle.meson_calls.specs.Calls.{Call, call_of}
 use Rattle.meson_calls.specs.GoodLists.{GoodListing}
-use Rattle.meson_variables.specs.CodeVariables.{project_of}
-use Rattle.meson_calls.specs.NotedProjects.{IsNotedFor, project_in}
-use Rattle.meson_calls.specs.Notes.{note_views}
 use Rattle.meson_calls.specs.OnePlace.{the_place}
-use Rattle.meson_calls.specs.ChosenNotes.{call_with}
-use Rattle.meson_calls.specs.Project.{BuildFile, placed, expression_at}
-use Rattle.meson_sources.specs.SourceEdits.{elements_there}
-use Rattle.meson_sources.specs.Targeted.{change_steps, target_steps}
 use Rattle.meson_edit.proofs.lists.CodeElements.{list_elements}
 use Rattle.meson_calls.proofs.CallsAt.{listing_good}
-use Rattle.meson_calls.proofs.CallsFound.{CallAt, role_found}
 use Rattle.meson_calls.proofs.NotedCalls.{call_in, call_within, one_at, one_is, the_one, trees_as_many}
 use Rattle.meson_variables.proofs.NotedVariables.{same_project}
 use Rattle.meson_calls.proofs.Standing.{nth_there}
+use Rattle.meson_sources.proofs.Words.{Ok, option_and_then, option_map, [], ap, ap₂, arith, length, List, Some, subst, sym, ℕ, ◌<◌, ◌∙◌, ◌∷◌, ◌≡◌, length-map, Span, bytes_at, then_ok, File, list_in, call, Expression, arg_view, list_view, Parsed, some-injective, elements, CallIn, Call, call_of, call_with, IsNotedFor, project_in, note_views, BuildFile, expression_at, placed, CallRef, CallAt, role_found, project_of, elements_there, change_steps, target_steps}
 use Rattle.meson_sources.proofs.Plains.{elements_of}
 
 call_elements : (e : Expression Span) (k : Call Span) → call_of e ≡ Some k → elements_of (list_in e) ≡ elements k.arguments

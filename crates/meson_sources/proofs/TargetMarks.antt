@@ -1,26 +1,8 @@
 -- What a target of files that are read holds stands where its slot says, each item at a place of its own.
-use Rattle.std.specs.Prelude.{⊤, All, Ok, option_map}
-use Rattle.std.specs.List.{cons_option, filter_map}
-use Rattle.std.proofs.Common.{◌≡◌, ℕ, suc, ◌+◌, ◌≤◌, false, List, [], ◌∷◌, ◌++◌, append-nil, Option, Some, None, refl, sym, ap, ◌∙◌, subst, arith}
-use Rattle.std.proofs.lemmas.List.Elements.{All-cons, All-nil}
-use Rattle.meson_lex.specs.declared.kinds.Span.{Span}
-use Rattle.meson_syntax.specs.Paths.{nth}
-use Rattle.meson_syntax.specs.Tree.{Expression, call, Listing, listing, Argument, plain, named, pair, Arguments, no_arguments, argument, argument_list}
-use Rattle.meson_syntax.proofs.parsing.Steps.{some-injective}
-use Rattle.meson_syntax.proofs.paths.Every.{Every, every-append}
-use Rattle.meson_edit.specs.Edits.{elements}
-use Rattle.meson_calls.specs.declared.call.CallRef.{CallRef}
 use Rattle.meson_calls.specs.declared.call.Role.TheVariants as role
-use Rattle.meson_calls.specs.Calls.{Call, Numbered, keyword, kept_number, numbered, numbered_arguments, positional, value_with_name, value_without_name}
-use Rattle.meson_calls.specs.Finding.{the_call}
-use Rattle.meson_calls.specs.Loading.{AreParsed, Loaded, project}
-use Rattle.meson_calls.specs.NamedArguments.{kwargs_key, rest, sources_key}
-use Rattle.meson_calls.specs.Project.{Placed, Project, child}
-use Rattle.meson_variables.specs.Expansion.{Expansion, Slot, Stand, both_expanded, expand, fixed, in_list, is_files, max_followed}
-use Rattle.meson_variables.specs.TargetSources.{expand_arguments, hidden, items, source_marks}
 use Rattle.meson_steps.proofs.ArgumentValues.{named_value}
 use Rattle.meson_sources.specs.MetOnce.{ItemsAreMetOnce}
-use Rattle.meson_sources.specs.SourceEdits.{extra_key, extra_marks}
+use Rattle.meson_sources.proofs.Words.{cons_option, filter_map, All, Ok, option_map, ⊤, [], ap, append-nil, arith, false, List, None, Option, refl, Some, subst, suc, sym, ℕ, ◌++◌, ◌+◌, ◌∙◌, ◌∷◌, ◌≡◌, ◌≤◌, All-cons, All-nil, Span, nth, Argument, argument, argument_list, Arguments, call, Expression, Listing, listing, named, no_arguments, pair, plain, some-injective, Every, every-append, elements, Call, kept_number, keyword, Numbered, numbered, numbered_arguments, positional, value_with_name, value_without_name, the_call, AreParsed, Loaded, project, kwargs_key, rest, sources_key, child, Placed, Project, CallRef, both_expanded, expand, Expansion, fixed, in_list, is_files, max_followed, Slot, Stand, expand_arguments, hidden, items, source_marks, extra_key, extra_marks}
 use Rattle.meson_sources.proofs.CallForms.{CallIn, called, target_at}
 use Rattle.meson_sources.proofs.ElementsAt.{AreLevel, parsed_level, value_stands}
 use Rattle.meson_sources.proofs.Functions.{target_no_files}

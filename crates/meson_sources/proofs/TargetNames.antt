@@ -1,25 +1,10 @@
 -- What tells of targets in a project: the calls that make them, each with its function and its first argument if that is a literal, and the variables that are set to such a call.
-use Rattle.std.proofs.Common.{◌≡◌, ℕ, ◌+◌, Bool, true, List, [], ◌∷◌, ◌++◌, append_assoc, map, Option, Some, None, refl, sym, ap, ap₂, ◌∙◌}
-use Rattle.std.specs.Prelude.{◌&&◌, if◌then◌else◌, is_some, option_and_then, option_map}
-use Rattle.std.specs.List.{cons_option, filter_map}
-use Rattle.std.proofs.lemmas.List.Elements.{filter_map-append}
 use Rattle.meson_syntax.specs.declared.operator.Assignment.TheVariants as assignment
-use Rattle.meson_syntax.specs.Children.{Any, an_expression, a_statement, a_block, argument_parts, arguments_parts, listing_parts}
-use Rattle.meson_syntax.specs.inside.Children.{child_nodes}
-use Rattle.meson_syntax.specs.Tree.{Nowhere, Plain, Expression, string, call, Listing, listing, Argument, plain, named, pair, Arguments, no_arguments, argument, Statement, assign, file, erase, erase_arguments, erase_expression, erase_listing, erase_statement}
 use Rattle.meson_syntax.specs.Tree as tree
-use Rattle.meson_calls.specs.declared.call.CallRef.{CallRef}
 use Rattle.meson_calls.specs.declared.call.Role.TheVariants as role
-use Rattle.meson_calls.specs.Calls.{Call, call_of, first_literal, first_of, kept_number, literal_of, numbered, value_without_name}
-use Rattle.meson_calls.specs.Parts.{Part, parts_of_file}
 use Rattle.meson_calls.specs.Parts as part
-use Rattle.meson_calls.specs.Project.{Placed, place, child}
-use Rattle.meson_calls.specs.Roles.{has_role, is_target_call, one_of, target_functions}
-use Rattle.meson_syntax.specs.Paths.{block_of}
-use Rattle.meson_calls.proofs.nodes.Erased.{children_erased, erase_any}
-use Rattle.meson_calls.proofs.nodes.Induction.{Each, by_children}
-use Rattle.meson_calls.proofs.nodes.PartsBelow.{itself, parts_are, parts_below, parts_of}
 use Rattle.meson_steps.proofs.ToldAlike.{anywhere}
+use Rattle.meson_sources.proofs.Words.{cons_option, filter_map, if◌then◌else◌, is_some, option_and_then, option_map, ◌&&◌, [], ap, append_assoc, ap₂, Bool, List, map, None, Option, refl, Some, sym, true, ℕ, ◌++◌, ◌+◌, ◌∙◌, ◌∷◌, ◌≡◌, filter_map-append, a_block, a_statement, an_expression, Any, argument_parts, arguments_parts, listing_parts, block_of, Argument, argument, Arguments, assign, call, erase, erase_arguments, erase_expression, erase_listing, erase_statement, Expression, file, Listing, listing, named, no_arguments, Nowhere, pair, Plain, plain, Statement, string, child_nodes, Call, call_of, first_literal, first_of, kept_number, literal_of, numbered, value_without_name, Part, parts_of_file, child, place, Placed, has_role, is_target_call, one_of, target_functions, CallRef, children_erased, erase_any, by_children, Each, itself, parts_are, parts_below, parts_of}
 
 pub data Naming : Type 0 where
   a_target : List ℕ → Option (List ℕ) → Naming

@@ -1,15 +1,7 @@
 -- The call of a target that an id names stands at its place, and has an argument without a name.
-use Rattle.std.proofs.Common.{◌≡◌, Option, Some, None, refl}
-use Rattle.std.specs.Prelude.{Bool, true, false, ◌&&◌, is_some}
-use Rattle.meson_lex.specs.declared.kinds.Span.{Span}
-use Rattle.meson_syntax.specs.Tree.{Expression}
 use Rattle.meson_calls.specs.declared.call.Role.TheVariants as role
-use Rattle.meson_calls.specs.Calls.{Call, first_argument}
-use Rattle.meson_calls.specs.Project.{Project, Placed}
-use Rattle.meson_calls.specs.Roles.{one_of, target_functions}
-use Rattle.meson_calls.specs.CallPlaces.{CallThere}
+use Rattle.meson_sources.proofs.Words.{is_some, ◌&&◌, Bool, false, None, Option, refl, Some, true, ◌≡◌, Span, Expression, CallThere, Call, first_argument, Placed, Project, one_of, target_functions, calls_stand, role_found, RoleAt}
 use Rattle.meson_sources.proofs.Standings.{TargetThere, TargetsStand}
-use Rattle.meson_calls.proofs.CallsFound.{RoleAt, role_found, calls_stand}
 
 has_first : (a : Bool) (o : Option (Expression Span)) → (a && is_some o) ≡ true → (e : Expression Span) × (o ≡ Some e)
 has_first false o h = absurd cc

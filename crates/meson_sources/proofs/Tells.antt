@@ -1,20 +1,8 @@
 -- What tells of variables in a project: assignments, loops, and calls that may set variables or enter folders.
-use Rattle.std.proofs.Common.{◌≡◌, ℕ, ◌+◌, Bool, List, [], ◌∷◌, ◌++◌, map, Option, Some, None, refl, sym, ap, ◌∙◌}
-use Rattle.std.specs.Prelude.{◌||◌, if◌then◌else◌, bytes_eq, codes}
-use Rattle.std.specs.List.{cons_option, filter_map}
-use Rattle.std.proofs.lemmas.List.Elements.{filter_map-append}
-use Rattle.meson_syntax.specs.declared.operator.Assignment.{Assignment}
-use Rattle.meson_syntax.specs.Tree.{Name, Arguments, Statement, assign, iteration}
-use Rattle.meson_syntax.specs.Children.{Any, an_expression, a_statement, a_block, arguments_parts}
-use Rattle.meson_syntax.specs.inside.Children.{child_nodes}
-use Rattle.meson_calls.specs.declared.call.CallRef.{CallRef}
-use Rattle.meson_calls.specs.Calls.{Call, call_of, first_literal}
-use Rattle.meson_calls.specs.Parts.{Part}
 use Rattle.meson_calls.specs.Parts as part
-use Rattle.meson_calls.specs.Project.{Placed, child, placed}
-use Rattle.meson_calls.proofs.nodes.PartsBelow.{any, parts_are, parts_below, parts_of}
 use Rattle.meson_calls.proofs.nodes.Sorts.{IsExpression, in_arguments, within_expression}
 use Rattle.meson_steps.proofs.ToldAlike.{nodes_alike}
+use Rattle.meson_sources.proofs.Words.{cons_option, filter_map, bytes_eq, codes, if◌then◌else◌, ◌||◌, [], ap, Bool, List, map, None, Option, refl, Some, sym, ℕ, ◌++◌, ◌+◌, ◌∙◌, ◌∷◌, ◌≡◌, filter_map-append, a_block, a_statement, an_expression, Any, arguments_parts, Arguments, assign, iteration, Name, Statement, Assignment, child_nodes, Call, call_of, first_literal, Part, child, Placed, placed, CallRef, any, parts_are, parts_below, parts_of}
 
 pub data Told : Type 0 where
   -- a call in a file: its function, and its first argument if that is a literal

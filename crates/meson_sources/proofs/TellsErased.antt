@@ -1,17 +1,9 @@
 -- What the parts of a project tell is the same without spans.
-use Rattle.std.proofs.Common.{◌≡◌, ℕ, List, [], ◌∷◌, map, Option, Some, None, refl, ap, ap₂, ◌∙◌}
-use Rattle.std.specs.Prelude.{if◌then◌else◌, option_map}
-use Rattle.std.specs.List.{cons_option}
-use Rattle.meson_splice.specs.declared.file_set.File.{File}
-use Rattle.meson_syntax.specs.Tree.{Name, Statement, iteration, erase, erase_names, erase_statement}
 use Rattle.meson_syntax.specs.Tree as tree
-use Rattle.meson_calls.specs.declared.call.CallRef.{CallRef}
-use Rattle.meson_calls.specs.Calls.{Call}
 use Rattle.meson_calls.specs.Calls as calls
-use Rattle.meson_calls.specs.Loading.{named_trees}
-use Rattle.meson_calls.specs.Parts.{Part, an_expression, a_statement, parts_from}
-use Rattle.meson_calls.specs.Project.{Placed}
+use Rattle.meson_calls.specs.Parts.{an_expression, a_statement}
 use Rattle.meson_steps.proofs.ErasedParts.{bare_call, bare_part, bare_placed, call_alike, first_alike, parts_erased}
+use Rattle.meson_sources.proofs.Words.{cons_option, if◌then◌else◌, option_map, [], ap, ap₂, List, map, None, Option, refl, Some, ℕ, ◌∙◌, ◌∷◌, ◌≡◌, File, erase, erase_names, erase_statement, iteration, Name, Statement, Call, named_trees, Part, parts_from, Placed, CallRef}
 use Rattle.meson_sources.proofs.Tells.{a_call, a_loop, matters, name_texts, tell, tell_call, tell_statement, told}
 use Rattle.meson_sources.proofs.ValuePlaces.{file_names}
 

@@ -1,22 +1,7 @@
 -- What the parts of trees tell of variables and of targets stays when strings go from lists of sources.
-use Rattle.std.specs.Prelude.{All, ◌&&◌, if◌then◌else◌, is_some, option_and_then, option_map}
-use Rattle.std.specs.List.{cons_option}
-use Rattle.std.proofs.Common.{◌≡◌, ℕ, suc, ◌+◌, Bool, true, false, List, [], ◌∷◌, ◌++◌, append-nil, Option, Some, None, refl, sym, ap, ap₂, ◌∙◌, subst, arith, inl, inr}
 use Rattle.meson_syntax.specs.declared.operator.Assignment.TheVariants as assignment
-use Rattle.meson_syntax.specs.Children.{an_expression, a_statement, a_block}
-use Rattle.meson_syntax.specs.inside.Children.{child_nodes}
-use Rattle.meson_syntax.specs.Paths.{nth}
-use Rattle.meson_syntax.specs.Tree.{Nowhere, Plain, Name, Expression, array, call, listing, plain, named, pair, Arguments, no_arguments, argument, arguments_of, Listing, Statement, assign, iteration}
-use Rattle.meson_calls.specs.declared.call.CallRef.{CallRef}
-use Rattle.meson_calls.specs.Calls.{call_of, first_literal, literal_of}
-use Rattle.meson_calls.specs.Parts.{parts_of_file}
-use Rattle.meson_calls.specs.Project.{child, place}
-use Rattle.meson_calls.proofs.nodes.Induction.{by_each_child}
-use Rattle.meson_calls.specs.Roles.{has_role, is_target_call, one_of, target_functions}
 use Rattle.meson_calls.specs.declared.call.Role.TheVariants as role
-use Rattle.meson_steps.specs.ListSteps.{MayStandBetween}
-use Rattle.meson_sources.specs.Without.{Gone, arguments_without, but, each_without, expression_without, from_child, statement_without, tree_without}
-use Rattle.meson_edit.specs.Edits.{is_empty}
+use Rattle.meson_sources.proofs.Words.{cons_option, All, if◌then◌else◌, is_some, option_and_then, option_map, ◌&&◌, [], ap, append-nil, ap₂, arith, Bool, false, inl, inr, List, None, Option, refl, Some, subst, suc, sym, true, ℕ, ◌++◌, ◌+◌, ◌∙◌, ◌∷◌, ◌≡◌, a_block, a_statement, an_expression, nth, argument, Arguments, arguments_of, array, assign, call, Expression, iteration, Listing, listing, Name, named, no_arguments, Nowhere, pair, Plain, plain, Statement, child_nodes, is_empty, call_of, first_literal, literal_of, parts_of_file, child, place, has_role, is_target_call, one_of, target_functions, CallRef, by_each_child, MayStandBetween, arguments_without, but, each_without, expression_without, from_child, Gone, statement_without, tree_without}
 use Rattle.meson_sources.proofs.ElementsThere.{root}
 use Rattle.meson_sources.proofs.Kins.{node_level}
 use Rattle.meson_sources.proofs.ListsBut.{but_none}

@@ -1,15 +1,5 @@
 -- What a node tells is the same when a list in it gets strings.
-use Rattle.std.proofs.Common.{◌≡◌, ℕ, zero, suc, ◌+◌, Bool, true, false, List, [], ◌∷◌, ◌++◌, Option, Some, None, refl, sym, ap, ap₂, ◌∙◌}
-use Rattle.std.specs.Prelude.{if◌then◌else◌, option_and_then}
-use Rattle.std.specs.List.{cons_option}
-use Rattle.meson_syntax.specs.Children.{Any, an_expression, a_statement, a_block, arguments_parts}
-use Rattle.meson_syntax.specs.inside.Children.{child_nodes}
-use Rattle.meson_syntax.specs.Tree.{Nowhere, Name, identifier, string, array, call, listing, Argument, plain, named, pair, Arguments, no_arguments, argument, arguments_of, assign, iteration}
-use Rattle.meson_calls.specs.declared.call.CallRef.{CallRef}
-use Rattle.meson_calls.specs.Calls.{first_literal, literal_of}
-use Rattle.meson_calls.specs.Project.{child}
-use Rattle.meson_sources.specs.Effects.{strings}
-use Rattle.meson_steps.proofs.PartsPut.{Differ, here, there}
+use Rattle.meson_sources.proofs.Words.{cons_option, if◌then◌else◌, option_and_then, [], ap, ap₂, Bool, false, List, None, Option, refl, Some, suc, sym, true, zero, ℕ, ◌++◌, ◌+◌, ◌∙◌, ◌∷◌, ◌≡◌, a_block, a_statement, an_expression, Any, arguments_parts, Argument, argument, Arguments, arguments_of, array, assign, call, identifier, iteration, listing, Name, named, no_arguments, Nowhere, pair, plain, string, child_nodes, first_literal, literal_of, child, CallRef, Differ, here, there, strings}
 use Rattle.meson_sources.proofs.Shapes.{Shape, a_leaf, shape, blanks, Step, Becomes, differ_none, differ_here, differ_there, same_arguments}
 use Rattle.meson_sources.proofs.Shapes as shapes
 use Rattle.meson_sources.proofs.TargetNames.{first_is, first_plain}

@@ -1,18 +1,5 @@
 -- Strings go from lists one after another: each removal may be done, and what is left is the trees without all of them.
-use Rattle.std.specs.Prelude.{All, ◌||◌, option_and_then}
-use Rattle.std.proofs.Common.{◌≡◌, ℕ, Bool, true, false, List, [], ◌∷◌, Some, refl, sym, ap, ◌∙◌, subst}
-use Rattle.meson_syntax.specs.Tree.{Plain}
-use Rattle.meson_syntax.proofs.parsing.Steps.{some-injective}
-use Rattle.meson_syntax.proofs.paths.Every.{Every}
-use Rattle.meson_calls.specs.declared.call.CallRef.{CallRef}
-use Rattle.meson_calls.specs.Project.{place}
-use Rattle.meson_steps.specs.ListSteps.{AreDoable, MayStandBetween, none, one}
-use Rattle.meson_steps.specs.ResultLimits.{plain_trees}
-use Rattle.meson_steps.specs.Steps.{all_stepped, stepped}
-use Rattle.meson_steps.proofs.PlainTrees.{trees_stand}
-use Rattle.meson_sources.specs.Effects.{goes, same_spot, element_spot, trees_without}
-use Rattle.meson_sources.specs.SourceEdits.{Spot, removal, removal_steps, removals_after, spot_without}
-use Rattle.meson_sources.specs.Without.{each_without}
+use Rattle.meson_sources.proofs.Words.{All, option_and_then, ◌||◌, [], ap, Bool, false, List, refl, Some, subst, sym, true, ℕ, ◌∙◌, ◌∷◌, ◌≡◌, Plain, some-injective, Every, place, CallRef, AreDoable, MayStandBetween, none, one, plain_trees, all_stepped, stepped, trees_stand, element_spot, goes, same_spot, trees_without, removal, removal_steps, removals_after, Spot, spot_without, each_without}
 use Rattle.meson_sources.proofs.ListsBut.{or_with_none}
 use Rattle.meson_sources.proofs.NamedSpots.{every_both, every_weaker}
 use Rattle.meson_sources.proofs.RemovedSpots.{all_in, nothing_gone, one_goes}

@@ -1,22 +1,5 @@
 -- Strings go from trees, and then others from where they stand then: what is left is the trees without all of them.
-use Rattle.std.specs.Prelude.{All, ◌||◌, option_and_then}
-use Rattle.std.proofs.Common.{◌≡◌, ℕ, zero, suc, Bool, true, false, List, [], ◌∷◌, ◌++◌, map, Some, None, refl, sym, ap, ap₂, ◌∙◌, subst}
-use Rattle.meson_syntax.specs.Children.{an_expression, a_block}
-use Rattle.meson_syntax.specs.inside.Children.{child_nodes, node_at}
-use Rattle.meson_syntax.specs.Paths.{nth}
-use Rattle.meson_syntax.specs.Tree.{Nowhere, Plain, array, dictionary, call, string, Listing, listing, plain, named, pair, Arguments, no_arguments, argument, argument_list, Block, file}
-use Rattle.meson_syntax.specs.declared.operator.StringKind.{StringKind}
-use Rattle.meson_syntax.proofs.parsing.Steps.{some-injective}
-use Rattle.meson_syntax.proofs.paths.Every.{Every}
-use Rattle.meson_syntax.proofs.paths.Reaching.{and-then-some}
-use Rattle.meson_edit.specs.Edits.{elements}
-use Rattle.meson_calls.specs.declared.call.CallRef.{CallRef}
-use Rattle.meson_calls.specs.Project.{child, place}
-use Rattle.meson_calls.proofs.nodes.Induction.{by_each_child}
-use Rattle.meson_steps.specs.ListSteps.{MayStandBetween}
-use Rattle.meson_sources.specs.Effects.{goes, same_spot, element_spot, trees_without}
-use Rattle.meson_sources.specs.SourceEdits.{Spot}
-use Rattle.meson_sources.specs.Without.{Gone, arguments_without, but, each_without, from_child, listing_without, tree_without}
+use Rattle.meson_sources.proofs.Words.{All, option_and_then, ◌||◌, [], ap, ap₂, Bool, false, List, map, None, refl, Some, subst, suc, sym, true, zero, ℕ, ◌++◌, ◌∙◌, ◌∷◌, ◌≡◌, a_block, an_expression, nth, argument, argument_list, Arguments, array, Block, call, dictionary, file, Listing, listing, named, no_arguments, Nowhere, pair, Plain, plain, string, StringKind, child_nodes, node_at, some-injective, Every, and-then-some, elements, child, place, CallRef, by_each_child, MayStandBetween, element_spot, goes, same_spot, trees_without, Spot, arguments_without, but, each_without, from_child, Gone, listing_without, tree_without}
 use Rattle.meson_sources.proofs.ElementsThere.{at_stands, root, stands_at}
 use Rattle.meson_sources.proofs.GoneTwice.{ChildThen, node_then}
 use Rattle.meson_sources.proofs.ListParts.{with_them}

@@ -1,17 +1,8 @@
 -- Where the value of a variable stands, by what the parts of a project tell.
-use Rattle.std.proofs.Common.{◌≡◌, ℕ, zero, suc, Bool, true, false, List, [], ◌∷◌, map, Option, Some, None, refl, sym, ap, ap₂, ◌∙◌}
-use Rattle.std.specs.Prelude.{not, ◌&&◌, ◌||◌, if◌then◌else◌, bytes_eq, codes, is_none, option_and_then, option_map}
-use Rattle.std.specs.List.{cons_option, list_any}
-use Rattle.meson_syntax.specs.Paths.{nth}
-use Rattle.meson_syntax.specs.Tree.{Name, Expression, assign, iteration}
-use Rattle.meson_calls.specs.declared.call.CallRef.{CallRef}
-use Rattle.meson_calls.specs.Calls.{Call, call_of, first_literal, part_call, all_chosen, is}
 use Rattle.meson_calls.specs.Folders.{file_in}
-use Rattle.meson_calls.specs.Parts.{Part, an_expression, a_statement, parts}
-use Rattle.meson_calls.specs.Project.{BuildFile, Project, Placed, placed, child, nth_file}
-use Rattle.meson_variables.specs.Variables.{Assigned, part_assigned, assignments, is_outermost, only_value, is_iterated, sets_variable, is_set_otherwise, sets_unknown, all_known, single, one_of_names}
-use Rattle.meson_calls.specs.Notes.{is_set}
+use Rattle.meson_calls.specs.Parts.{an_expression, a_statement}
 use Rattle.meson_calls.specs.Subdirs.{enters_unknown, has_name, is_there, meant_file}
+use Rattle.meson_sources.proofs.Words.{cons_option, list_any, bytes_eq, codes, if◌then◌else◌, is_none, not, option_and_then, option_map, ◌&&◌, ◌||◌, [], ap, ap₂, Bool, false, List, map, None, Option, refl, Some, suc, sym, true, zero, ℕ, ◌∙◌, ◌∷◌, ◌≡◌, nth, assign, Expression, iteration, Name, all_chosen, Call, call_of, first_literal, is, part_call, is_set, Part, parts, BuildFile, child, nth_file, Placed, placed, Project, CallRef, all_known, Assigned, assignments, is_iterated, is_outermost, is_set_otherwise, one_of_names, only_value, part_assigned, sets_unknown, sets_variable, single}
 use Rattle.meson_sources.proofs.Tells.{Told, a_call, an_assignment, a_loop, matters, tell_call, name_texts, told}
 
 -- ---- what may set any variable

@@ -1,21 +1,5 @@
 -- Variables stand for what is left of their values after strings have gone from lists of sources.
-use Rattle.std.specs.Prelude.{◌&&◌, All, if◌then◌else◌, not, option_and_then, option_map}
-use Rattle.std.proofs.Common.{◌≡◌, ℕ, zero, suc, ◌+◌, Bool, true, false, List, [], ◌∷◌, ◌++◌, Option, Some, None, refl, sym, ap, ap₂, ◌∙◌, subst, inl, inr}
-use Rattle.meson_lex.specs.declared.kinds.Span.{Span}
-use Rattle.meson_syntax.specs.Grammar.{LevelExpression}
-use Rattle.meson_syntax.specs.Children.{an_expression, a_statement, a_block}
-use Rattle.meson_syntax.specs.inside.Children.{child_nodes, node_at, statements_parts}
-use Rattle.meson_syntax.specs.Paths.{nth, block_of}
-use Rattle.meson_syntax.specs.Tree.{Nowhere, Plain, Expression, Statement, Statements, no_statements, statement, Block, block, erase_expression}
-use Rattle.meson_syntax.proofs.parsing.Steps.{some-injective}
-use Rattle.meson_syntax.proofs.paths.Reaching.{and-then-some}
-use Rattle.meson_calls.specs.declared.call.CallRef.{CallRef}
-use Rattle.meson_calls.specs.Loading.{Loaded, project, trees}
-use Rattle.meson_calls.specs.Project.{Placed, Project, child, place, placed}
-use Rattle.meson_variables.specs.Variables.{Assigned, all_known, assignments, is_outermost, is_set_otherwise, only_value, single}
-use Rattle.meson_steps.specs.ListSteps.{MayStandBetween}
-use Rattle.meson_steps.specs.ResultLimits.{plain_trees}
-use Rattle.meson_sources.specs.Without.{Gone, each_without, expression_without, from_child}
+use Rattle.meson_sources.proofs.Words.{All, if◌then◌else◌, not, option_and_then, option_map, ◌&&◌, [], ap, ap₂, Bool, false, inl, inr, List, None, Option, refl, Some, subst, suc, sym, true, zero, ℕ, ◌++◌, ◌+◌, ◌∙◌, ◌∷◌, ◌≡◌, Span, a_block, a_statement, an_expression, LevelExpression, block_of, nth, Block, block, erase_expression, Expression, no_statements, Nowhere, Plain, Statement, statement, Statements, child_nodes, node_at, statements_parts, some-injective, and-then-some, Loaded, project, trees, child, place, Placed, placed, Project, CallRef, all_known, Assigned, assignments, is_outermost, is_set_otherwise, only_value, single, MayStandBetween, plain_trees, each_without, expression_without, from_child, Gone}
 use Rattle.meson_sources.proofs.NodesMoved.{child_place, fits_none, node_moved, place_left}
 use Rattle.meson_sources.proofs.OneGone.{string_child}
 use Rattle.meson_sources.proofs.SpotsHeld.{same_there}

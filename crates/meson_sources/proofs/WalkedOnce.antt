@@ -1,22 +1,5 @@
 -- What is met in an expression, and behind variables that it names, stands where it says, and is met once.
-use Rattle.std.specs.Prelude.{◌⊎◌, ◌&&◌, ◌||◌, bytes_eq, if◌then◌else◌}
-use Rattle.std.proofs.Common.{◌≡◌, ℕ, zero, suc, ◌+◌, ◌≤◌, Bool, true, false, List, [], ◌∷◌, ◌++◌, Option, Some, None, refl, sym, ap, ◌∙◌, subst, inl, inr, arith}
-use Rattle.std.proofs.lemmas.Bool.{or_left, or_right}
-use Rattle.std.proofs.lemmas.Slice.Eq.{bytes_eq-Decides}
-use Rattle.meson_lex.specs.declared.kinds.Span.{Span}
-use Rattle.meson_lex.specs.Literals.{value}
-use Rattle.meson_syntax.specs.declared.operator.StringKind.{StringKind}
-use Rattle.meson_syntax.specs.Operators.{holds_values, string_kind}
-use Rattle.meson_syntax.specs.Paths.{ListIn, list_in}
-use Rattle.meson_syntax.specs.Tree.{Expression, identifier, string, array, call, row, Operands, no_operands, operand, Listing, listing, Argument, plain, named, pair, Arguments, no_arguments, argument, argument_list}
-use Rattle.meson_edit.specs.Edits.{elements}
-use Rattle.meson_calls.specs.declared.call.CallRef.{CallRef}
-use Rattle.meson_calls.specs.Project.{Placed, Project, child, expression_at}
-use Rattle.meson_calls.specs.Roles.{one_of}
-use Rattle.meson_calls.proofs.ExpressionsAt.{child_stands, list_here}
-use Rattle.meson_variables.specs.Expansion.{Expansion, Item, Stand, are_plus, both_expanded, element, expand, expand_argument, expand_by, expand_each, expand_listing, expand_operands, follow_single, is_files, is_list_operand, literal_item, met, nothing_met, of_variable, opaque, operand_at, within}
-use Rattle.meson_variables.specs.TargetSources.{items}
-use Rattle.meson_variables.specs.Variables.{single}
+use Rattle.meson_sources.proofs.Words.{bytes_eq, if◌then◌else◌, ◌&&◌, ◌||◌, ◌⊎◌, [], ap, arith, Bool, false, inl, inr, List, None, Option, refl, Some, subst, suc, sym, true, zero, ℕ, ◌++◌, ◌+◌, ◌∙◌, ◌∷◌, ◌≡◌, ◌≤◌, or_left, or_right, bytes_eq-Decides, value, Span, holds_values, string_kind, list_in, ListIn, Argument, argument, argument_list, Arguments, array, call, Expression, identifier, Listing, listing, named, no_arguments, no_operands, operand, Operands, pair, plain, row, string, StringKind, elements, child, expression_at, Placed, Project, one_of, CallRef, child_stands, list_here, are_plus, both_expanded, element, expand, expand_argument, expand_by, expand_each, expand_listing, expand_operands, Expansion, follow_single, is_files, is_list_operand, Item, literal_item, met, nothing_met, of_variable, opaque, operand_at, Stand, within, items, single}
 use Rattle.meson_sources.proofs.ElementsAt.{AreLevel}
 use Rattle.meson_sources.proofs.MarkLists.{below_itself}
 use Rattle.meson_sources.proofs.InSlots.{ElementAt, Elements, Operated, SlotOf, elements_stand, first_stands, others_stand, row_stands, slot_stands}

@@ -1,22 +1,12 @@
 -- The three ways on which a list that gets strings is come to: by a variable, by an argument of the call, or it is the call's own.
-use Rattle.std.specs.Prelude.{if◌then◌else◌}
-use Rattle.std.proofs.Common.{◌≡◌, ℕ, suc, Bool, true, false, List, [], ◌∷◌, Some, refl, sym, ap, ◌∙◌, subst}
 use Rattle.meson_syntax.specs.declared.operator.Bracket.TheVariants as bracket
-use Rattle.meson_syntax.specs.Grammar.{LevelExpression, LevelArguments}
-use Rattle.meson_syntax.specs.Children.{Any, an_expression, arguments_parts}
-use Rattle.meson_syntax.specs.Tree.{Nowhere, Name, Expression, call, Listing, Arguments}
-use Rattle.meson_calls.specs.declared.call.CallRef.{CallRef}
-use Rattle.meson_variables.specs.Expansion.{opaque, Expansion, Stand, met, is_files, is_operand_by, is_value_by, max_followed, expand_by, within, expand_listing, follow_single}
-use Rattle.meson_calls.specs.Project.{child}
-use Rattle.meson_calls.specs.Roles.{one_of}
-use Rattle.meson_variables.specs.TargetSources.{list_of_slot}
+use Rattle.meson_sources.proofs.Words.{if◌then◌else◌, [], ap, Bool, false, List, refl, Some, subst, suc, sym, true, ℕ, ◌∙◌, ◌∷◌, ◌≡◌, an_expression, Any, arguments_parts, LevelArguments, LevelExpression, Arguments, call, Expression, Listing, Name, Nowhere, child, one_of, CallRef, expand_by, expand_listing, Expansion, follow_single, is_files, is_operand_by, is_value_by, max_followed, met, opaque, Stand, within, list_of_slot, Differ}
 use Rattle.meson_sources.proofs.Bares.{Values, expand_with, list_by, lists_by}
 use Rattle.meson_sources.proofs.CallTrees.{whole, whole_same, whole_along}
 use Rattle.meson_sources.proofs.Follows.{Kin, Level, followed, levels, same_holds}
 use Rattle.meson_sources.proofs.MarkLists.{below, below_itself}
 use Rattle.meson_sources.proofs.Outcomes.{Outcome, Along, along_same, opaque_both}
 use Rattle.meson_sources.proofs.PathTrees.{along}
-use Rattle.meson_steps.proofs.PartsPut.{Differ}
 use Rattle.meson_sources.proofs.PlacesBelow.{Far, IsIt, far_deeper, far_apart, aside_far, above_it}
 use Rattle.meson_sources.proofs.Shapes.{Becomes, blanks}
 

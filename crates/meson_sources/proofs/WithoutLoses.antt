@@ -1,19 +1,6 @@
 -- An expression of a tree without some strings of its lists has lost just these.
-use Rattle.std.specs.Prelude.{if◌then◌else◌, option_and_then}
-use Rattle.std.proofs.Common.{◌≡◌, ℕ, suc, ◌+◌, Bool, true, false, List, [], ◌∷◌, ◌++◌, append-nil, Some, None, refl, sym, ap, ◌∙◌, subst, arith, inl, inr}
-use Rattle.meson_syntax.specs.declared.operator.Bracket.{Bracket}
 use Rattle.meson_syntax.specs.declared.operator.Bracket.TheVariants as bracket
-use Rattle.meson_syntax.specs.Grammar.{LevelArguments, LevelExpression, LevelListing, LevelOperands}
-use Rattle.meson_syntax.specs.Operators.{holds_pairs}
-use Rattle.meson_syntax.specs.Children.{an_expression, arguments_parts, listing_parts}
-use Rattle.meson_syntax.specs.inside.Children.{child_nodes, node_at, operands_parts}
-use Rattle.meson_syntax.specs.Paths.{nth}
-use Rattle.meson_syntax.specs.Tree.{Nowhere, Plain, Expression, identifier, string, array, call, row, Operands, no_operands, operand, Listing, listing, Argument, plain, named, pair, Arguments, no_arguments, argument, argument_list, arguments_of, Name}
-use Rattle.meson_syntax.proofs.parsing.Steps.{some-injective}
-use Rattle.meson_edit.specs.Edits.{elements, is_empty}
-use Rattle.meson_calls.specs.declared.call.CallRef.{CallRef}
-use Rattle.meson_calls.specs.Project.{child, place}
-use Rattle.meson_sources.specs.Without.{Gone, arguments_without, but, expression_without, from_child, listing_without, operands_without}
+use Rattle.meson_sources.proofs.Words.{if◌then◌else◌, option_and_then, [], ap, append-nil, arith, Bool, false, inl, inr, List, None, refl, Some, subst, suc, sym, true, ℕ, ◌++◌, ◌+◌, ◌∙◌, ◌∷◌, ◌≡◌, an_expression, arguments_parts, listing_parts, LevelArguments, LevelExpression, LevelListing, LevelOperands, holds_pairs, nth, Argument, argument, argument_list, Arguments, arguments_of, array, call, Expression, identifier, Listing, listing, Name, named, no_arguments, no_operands, Nowhere, operand, Operands, pair, Plain, plain, row, string, Bracket, child_nodes, node_at, operands_parts, some-injective, elements, is_empty, child, place, CallRef, arguments_without, but, expression_without, from_child, Gone, listing_without, operands_without}
 use Rattle.meson_sources.proofs.ElementsThere.{IsStringElement}
 use Rattle.meson_sources.proofs.Losses.{ArgumentLoses, EachLoses, ListLoses, Loses, OperandsLose, Valued}
 use Rattle.meson_sources.proofs.Owners.{node_between}

@@ -1,15 +1,5 @@
 -- Where a node stands in a tree without some elements of its lists, and what it is there.
-use Rattle.std.specs.Prelude.{◌⊎◌, if◌then◌else◌, option_and_then}
-use Rattle.std.proofs.Common.{◌≡◌, ℕ, zero, suc, ◌+◌, Bool, true, false, List, [], ◌∷◌, ◌++◌, length, Some, None, refl, sym, ap, ap₂, ◌∙◌, subst, arith, inl, inr}
-use Rattle.meson_syntax.specs.Tree.{Nowhere, paren, array, dictionary, call, unary, row, postfix, conditional, Operands, no_operands, operand, Tail, method, index, Tails, no_tails, tail, Listing, listing, plain, named, pair, Arguments, no_arguments, argument, argument_list, arguments_of, evaluate, assign, selection, iteration, Branches, no_branches, branch, Otherwise, nothing_else, otherwise, Statements, no_statements, statement, block}
-use Rattle.meson_syntax.specs.Children.{an_expression, a_statement, a_block, arguments_parts, branches_parts, listing_parts, tail_parts}
-use Rattle.meson_syntax.specs.inside.Children.{child_nodes, node_at, operands_parts, otherwise_parts, statements_parts, tails_parts}
-use Rattle.meson_syntax.specs.Paths.{nth}
-use Rattle.meson_syntax.proofs.parsing.Steps.{some-injective}
-use Rattle.meson_syntax.proofs.paths.Every.{Every}
-use Rattle.meson_syntax.proofs.paths.Reaching.{and-then-some}
-use Rattle.meson_edit.specs.Edits.{elements}
-use Rattle.meson_sources.specs.Without.{Gone, arguments_without, block_without, branches_without, but, expression_without, from_child, listing_without, operands_without, otherwise_without, statement_without, statements_without, tail_without, tails_without}
+use Rattle.meson_sources.proofs.Words.{if◌then◌else◌, option_and_then, ◌⊎◌, [], ap, ap₂, arith, Bool, false, inl, inr, length, List, None, refl, Some, subst, suc, sym, true, zero, ℕ, ◌++◌, ◌+◌, ◌∙◌, ◌∷◌, ◌≡◌, a_block, a_statement, an_expression, arguments_parts, branches_parts, listing_parts, tail_parts, nth, argument, argument_list, Arguments, arguments_of, array, assign, block, branch, Branches, call, conditional, dictionary, evaluate, index, iteration, Listing, listing, method, named, no_arguments, no_branches, no_operands, no_statements, no_tails, nothing_else, Nowhere, operand, Operands, Otherwise, otherwise, pair, paren, plain, postfix, row, selection, statement, Statements, Tail, tail, Tails, unary, child_nodes, node_at, operands_parts, otherwise_parts, statements_parts, tails_parts, some-injective, Every, and-then-some, elements, arguments_without, block_without, branches_without, but, expression_without, from_child, Gone, listing_without, operands_without, otherwise_without, statement_without, statements_without, tail_without, tails_without}
 use Rattle.meson_sources.proofs.ListsBut.{but_none}
 use Rattle.meson_sources.proofs.OneGone.{HasOnePart}
 use Rattle.meson_sources.proofs.NodeLists.{Node, list_any}

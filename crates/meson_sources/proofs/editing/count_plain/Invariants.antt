@@ -1,4 +1,4 @@
-use Rattle.std.proofs.Common.{◌≡◌, ℕ, List, ◌+◌, ◌≤◌, drop}
+use Rattle.meson_sources.proofs.Words.{drop, List, ℕ, ◌+◌, ◌≡◌, ◌≤◌}
 use Rattle.meson_sources.proofs.Plains.{plains}
 use Rattle.meson_sources.proofs.editing.count_plain.Given as goal
 

@@ -1,7 +1,4 @@
-use Rattle.std.proofs.Common.{◌≡◌, ◌+◌, ◌++◌, drop, map}
-use Rattle.std.specs.Prelude.{Some}
-use Rattle.meson_steps.specs.ListSteps.{bare}
-use Rattle.meson_sources.specs.SourceEdits.{insertion_steps}
+use Rattle.meson_sources.proofs.Words.{drop, map, Some, ◌++◌, ◌+◌, ◌≡◌, bare, insertion_steps}
 use Rattle.meson_sources.proofs.inserting.insert.Given as goal
 
 abbrev pub invariant-loop-i : goal.invariant-loop-i

@@ -1,6 +1,4 @@
-use Rattle.std.proofs.Common.{◌≡◌, drop}
-use Rattle.std.specs.List.{list_any}
-use Rattle.meson_sources.specs.inside.Naming.{has_value}
+use Rattle.meson_sources.proofs.Words.{list_any, drop, ◌≡◌, has_value}
 use Rattle.meson_sources.proofs.inserting.is_known.Given as goal
 
 abbrev pub invariant-loop-i : goal.invariant-loop-i

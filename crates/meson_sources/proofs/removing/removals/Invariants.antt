@@ -1,8 +1,4 @@
-use Rattle.std.proofs.Common.{◌≡◌, ◌++◌, map}
-use Rattle.std.specs.Prelude.{Some}
-use Rattle.meson_steps.specs.ListSteps.{bare}
-use Rattle.meson_sources.specs.SourceEdits.{removal_steps}
-use Rattle.meson_sources.specs.inside.CodeSpots.{spot_view}
+use Rattle.meson_sources.proofs.Words.{map, Some, ◌++◌, ◌≡◌, bare, removal_steps, spot_view}
 use Rattle.meson_sources.proofs.RemovalsInTurn.{steps_from}
 use Rattle.meson_sources.proofs.removing.removals.Given as goal
 
