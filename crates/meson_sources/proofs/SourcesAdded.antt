@@ -1,12 +1,11 @@
 -- The list that gets sources has its elements in their order, and the new ones behind those without a name.
 use Rattle.meson_sources.specs.SourceEdits as edits
 use Rattle.meson_sources.proofs.Words.{filter, option_and_then, option_map, [], ap, append_assoc, ap₂, arith, Bool, drop, false, length, length-append, List, refl, Some, suc, sym, take, true, ℕ, ◌++◌, ◌∙◌, ◌∷◌, ◌≡◌, LevelArguments, LevelFile, holds_pairs, holds_values, list_at, ListAt, nth, Argument, arguments_of, erase, named, Nowhere, pair, Plain, plain, Bracket, some-injective, and-then-some, list-fits, map-some, After, Edit, edited, edited_elements, edited_list, element_added, elements, First, first_element, with_elements, keyword, IsProject, Loaded, project, once, sources_key, CallRef, values_no_pairs, home, source_marks, MayStandBetween, checked_names, plain_trees, all_stepped, step_in, stepped, elements_with, there_again, plain_place, tree_is, once_was, then_was, all_nth, change_made, elements_found, ListGets, not_plain, SourcesAreAdded, strings, elements_there, inserted_in, is_plain, new_names, plain_len, written_source}
-use Rattle.meson_sources.proofs.Homes.{Home, all_stand, list_levels}
-use Rattle.meson_sources.proofs.OnlyLists.{inserted_only, unchanged}
-use Rattle.meson_sources.proofs.PlainCounts.{count_erased, elements_are, plain_count, plain_count_is}
-use Rattle.meson_sources.proofs.SourcesAddable.{sources_home}
-use Rattle.meson_sources.proofs.TargetMarks.{files_stand}
-use Rattle.meson_sources.proofs.TargetsFound.{targets_stand}
+use Rattle.meson_sources.proofs.added.Counts.{count_erased, elements_are, plain_count, plain_count_is}
+use Rattle.meson_sources.proofs.added.Homes.{Home, all_stand, list_levels, sources_home}
+use Rattle.meson_sources.proofs.added.Lists.{inserted_only, unchanged}
+use Rattle.meson_sources.proofs.met.Standing.{targets_stand}
+use Rattle.meson_sources.proofs.met.Targets.{files_stand}
 
 -- ---- a step, by what it leaves
 

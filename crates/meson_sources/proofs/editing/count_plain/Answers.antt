@@ -1,6 +1,6 @@
-use Rattle.meson_sources.proofs.Words.{is_some, ap, arith, sym, ◌∙◌, arg_view, value_without_name}
-use Rattle.meson_sources.proofs.Plains.{one_plain, not_plain, all_counted}
 use Rattle.meson_sources.proofs.editing.count_plain.Goals as goal
+use Rattle.meson_sources.proofs.Words.{is_some, ap, arith, sym, ◌∙◌, arg_view, value_without_name}
+use Rattle.meson_sources.proofs.added.Counts.{one_plain, not_plain, all_counted}
 use Rattle.meson_sources.proofs.editing.count_plain.Goals.{then-is_plain, else-is_plain}
 
 pub loop-i-preserved : goal.loop-i-preserved

@@ -1,5 +1,5 @@
-use Rattle.meson_sources.proofs.Words.{ap, map, Some, ◌++◌, ◌∙◌, bare, insertion_steps}
 use Rattle.meson_sources.proofs.editing.insertions.Goals as goal
+use Rattle.meson_sources.proofs.Words.{ap, map, Some, ◌++◌, ◌∙◌, bare, insertion_steps}
 
 pub returns-clause-done : goal.returns-clause-done
 returns-clause-done c =

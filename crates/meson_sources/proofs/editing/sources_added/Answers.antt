@@ -1,7 +1,7 @@
-use Rattle.meson_sources.proofs.Words.{Err, Ok, ap, IsUtf8, length, map, refl, subst, sym, ◌<◌, ◌∙◌, ◌≡◌, ◌≤◌, err_from_is_err_and, value_with_name, kept_args, DuplicateKeyword, project_of, all_gathered, max_followed, gathered, or_call, or_option, bare, checked_names, insertion_steps, plain_len, new_among}
-use Rattle.meson_sources.proofs.SourcesMeant.{added, added_twice}
-use Rattle.meson_sources.proofs.KeyTexts.{sources_text}
 use Rattle.meson_sources.proofs.editing.sources_added.Goals as goal
+use Rattle.meson_sources.proofs.Words.{Err, Ok, ap, IsUtf8, length, map, refl, subst, sym, ◌<◌, ◌∙◌, ◌≡◌, ◌≤◌, err_from_is_err_and, value_with_name, kept_args, DuplicateKeyword, project_of, all_gathered, max_followed, gathered, or_call, or_option, bare, checked_names, insertion_steps, plain_len, new_among}
+use Rattle.meson_sources.proofs.KeyTexts.{sources_text}
+use Rattle.meson_sources.proofs.commands.Meant.{added, added_twice}
 
 pub at_most_once-requires : goal.at_most_once-requires
 at_most_once-requires c = subst IsUtf8 (sym c.as_slice.ensures) sources_text

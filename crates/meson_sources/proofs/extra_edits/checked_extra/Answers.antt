@@ -1,7 +1,7 @@
-use Rattle.meson_sources.proofs.Words.{Err, Ok, ap, IsUtf8, length, subst, sym, ◌<◌, ◌∙◌, ◌≡◌, ◌≤◌, err_from_is_err_and, value_with_name, kept_args, kwargs_key, DuplicateKeyword, project_of, checked_names}
-use Rattle.meson_sources.proofs.ExtrasMeant.{extra_once, extra_twice}
-use Rattle.meson_sources.proofs.KeyTexts.{extra_text}
 use Rattle.meson_sources.proofs.extra_edits.checked_extra.Goals as goal
+use Rattle.meson_sources.proofs.Words.{Err, Ok, ap, IsUtf8, length, subst, sym, ◌<◌, ◌∙◌, ◌≡◌, ◌≤◌, err_from_is_err_and, value_with_name, kept_args, kwargs_key, DuplicateKeyword, project_of, checked_names}
+use Rattle.meson_sources.proofs.KeyTexts.{extra_text}
+use Rattle.meson_sources.proofs.commands.Meant.{extra_once, extra_twice}
 
 pub at_most_once-requires : goal.at_most_once-requires
 at_most_once-requires c = subst IsUtf8 (sym c.as_slice-2.ensures) extra_text

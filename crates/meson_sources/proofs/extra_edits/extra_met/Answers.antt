@@ -1,5 +1,5 @@
-use Rattle.meson_sources.proofs.Words.{ap, ◌∙◌, value_with_name, kept_args, place, project_of, arguments_by, fixed, expanded, gathered, extra_key}
 use Rattle.meson_sources.proofs.extra_edits.extra_met.Goals as goal
+use Rattle.meson_sources.proofs.Words.{ap, ◌∙◌, value_with_name, kept_args, place, project_of, arguments_by, fixed, expanded, gathered, extra_key}
 
 pub returns : goal.returns
 returns c =

@@ -1,5 +1,5 @@
-use Rattle.meson_sources.proofs.Words.{drop, map, Some, ◌++◌, ◌+◌, ◌≡◌, bare, insertion_steps}
 use Rattle.meson_sources.proofs.inserting.insert.Given as goal
+use Rattle.meson_sources.proofs.Words.{drop, map, Some, ◌++◌, ◌+◌, ◌≡◌, bare, insertion_steps}
 
 abbrev pub invariant-loop-i : goal.invariant-loop-i
 invariant-loop-i l =

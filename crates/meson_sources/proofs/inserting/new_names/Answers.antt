@@ -1,7 +1,7 @@
+use Rattle.meson_sources.proofs.inserting.new_names.Goals as goal
 use Rattle.std.proofs.lemmas.Fn.{filter_same}
 use Rattle.meson_steps.proofs.Distincts.{filter_under}
 use Rattle.meson_sources.proofs.Words.{filter, list_any, not, ap, map, rules, ◌∙◌, has_value}
-use Rattle.meson_sources.proofs.inserting.new_names.Goals as goal
 
 pub returns : goal.returns
 returns c =

@@ -1,7 +1,7 @@
+use Rattle.meson_sources.proofs.removing.is_before.Goals as goal
 use Rattle.std.specs.Cmp.Lexicographic.{pointwise}
 use Rattle.meson_sources.proofs.Words.{nat_eq, nat_lt, ◌&&◌, ap, sym, true, ◌∙◌, ◌≡◌, eq-eqb, is_path}
-use Rattle.meson_sources.proofs.SamePaths.{pointwise_is}
-use Rattle.meson_sources.proofs.removing.is_before.Goals as goal
+use Rattle.meson_sources.proofs.gone.Spots.{pointwise_is}
 
 pub returns-then-eq : goal.returns-then-eq
 returns-then-eq c =

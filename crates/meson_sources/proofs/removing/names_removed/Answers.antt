@@ -1,5 +1,5 @@
-use Rattle.meson_sources.proofs.Words.{ap, map, sym, ◌∙◌, err_from_is_err_and, bare, removal_steps, removed_at, all_spots_in, spot_view}
 use Rattle.meson_sources.proofs.removing.names_removed.Goals as goal
+use Rattle.meson_sources.proofs.Words.{ap, map, sym, ◌∙◌, err_from_is_err_and, bare, removal_steps, removed_at, all_spots_in, spot_view}
 
 pub returns-in_err-spots-clause-refused : goal.returns-in_err-spots-clause-refused
 returns-in_err-spots-clause-refused c =

@@ -1,5 +1,5 @@
-use Rattle.meson_sources.proofs.Words.{count_by, drop, map, ◌+◌, ◌≡◌, ◌≤◌, place_at, is_before, spot_view}
 use Rattle.meson_sources.proofs.removing.number_without.Given as goal
+use Rattle.meson_sources.proofs.Words.{count_by, drop, map, ◌+◌, ◌≡◌, ◌≤◌, place_at, is_before, spot_view}
 
 abbrev pub invariant-loop-i : goal.invariant-loop-i
 invariant-loop-i l =

@@ -1,5 +1,5 @@
-use Rattle.meson_sources.proofs.Words.{[], drop, map, take, ◌++◌, ◌≡◌, place, path_without, spot_view}
 use Rattle.meson_sources.proofs.removing.path_without.Given as goal
+use Rattle.meson_sources.proofs.Words.{[], drop, map, take, ◌++◌, ◌≡◌, place, path_without, spot_view}
 
 abbrev pub invariant-loop-depth : goal.invariant-loop-depth
 invariant-loop-depth l =

@@ -1,5 +1,5 @@
-use Rattle.meson_sources.proofs.Words.{drop, map, ◌≡◌, all_spots_in, joined_spots, spot_view}
 use Rattle.meson_sources.proofs.removing.spots_of.Given as goal
+use Rattle.meson_sources.proofs.Words.{drop, map, ◌≡◌, all_spots_in, joined_spots, spot_view}
 
 abbrev pub invariant-loop-i : goal.invariant-loop-i
 invariant-loop-i l =

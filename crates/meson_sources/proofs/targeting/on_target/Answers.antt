@@ -1,8 +1,8 @@
+use Rattle.meson_sources.proofs.targeting.on_target.Goals as goal
 use Rattle.meson_calls.specs.Refusals.{RefusedAs}
 use Rattle.meson_steps.specs.Plans.{ArePlanned}
 use Rattle.meson_sources.proofs.Words.{IfOk, subst, project, loaded_in, target_steps}
-use Rattle.meson_sources.proofs.Planned.{all_mean}
-use Rattle.meson_sources.proofs.targeting.on_target.Goals as goal
+use Rattle.meson_sources.proofs.commands.Targets.{all_mean}
 
 pub returns-clause-plan : goal.returns-clause-plan
 returns-clause-plan c =

@@ -1,0 +1,5 @@
+pub mod Elements
+pub mod Places
+pub mod Shapes
+pub mod Scenes
+pub mod Calls
