@@ -3,3 +3,4 @@ pub mod Places
 pub mod Shapes
 pub mod Scenes
 pub mod Calls
+pub mod Skeletons

@@ -1,9 +1,11 @@
 -- An element goes from a list of a tree: what is left is the tree without it.
 use Rattle.meson_edit.proofs.sequences.Changed.{changed}
-use Rattle.meson_sources.proofs.Words.{option_map, [], ap, ap₂, arith, Bool, false, List, refl, Some, subst, suc, sym, true, zero, ℕ, ◌∙◌, ◌∷◌, ◌≡◌, Word, around, children, Hole, list_at, list_in, list_of_node, list_within, ListAt, ListIn, Node, nth, nth_hole, of_block, of_expression, of_statement, reach, Sort, Argument, argument, argument_list, Arguments, arguments_of, array, Block, call, dictionary, Expression, file, Listing, listing, named, no_arguments, Nowhere, pair, Plain, plain, list-of-arguments, some-injective, and-then-some, map-some, edited, element_removed, elements, Remove, with_elements, every-at-nth, arguments_without, but, expression_without, from_child, Gone, listing_without, tree_without}
-use Rattle.meson_sources.proofs.gone.Nodes.{Follows, node_follows, node_without, nothing}
+use Rattle.meson_sources.proofs.Words.{[], ap, ap₂, arith, Bool, false, List, refl, Some, subst, suc, sym, true, zero, ℕ, ◌+◌, ◌∙◌, ◌∷◌, ◌≡◌, ◌≤◌, a_block, an_expression, block_of, list_in, ListIn, nth, Argument, argument, argument_list, Arguments, arguments_of, array, call, dictionary, Expression, file, Listing, listing, named, no_arguments, Nowhere, pair, Plain, plain, child_nodes, list-of-arguments, some-injective, map-some, edited, element_removed, elements, Remove, with_elements, Differ, here, there, arguments_without, block_without, but, expression_without, from_child, Gone, listing_without, tree_without}
+use Rattle.meson_sources.proofs.gone.Nodes.{node_same, nothing}
+use Rattle.meson_sources.proofs.gone.Places.{any_without, each_child}
 use Rattle.meson_sources.proofs.gone.Spots.{but_none, but_one}
-use Rattle.meson_sources.proofs.trees.Elements.{without}
+use Rattle.meson_sources.proofs.trees.Elements.{Node, without}
+use Rattle.meson_sources.proofs.trees.Shapes.{Becomes, list_becomes}
 
 -- Only the k-th element of the list that the path names goes.
 abbrev pub Alone : List ℕ → ℕ → Gone → Type 0
@@ -46,51 +48,42 @@ module _ (k : ℕ) where
       ∙ ap (with_elements (listing s trailing list))
       (but_none (nothing []) (λ n. refl) (arguments_without nothing 0 (arguments_of (without k (argument_list list)))) ∙ dropped g r.2 0 0 k list ∙ sym (but_one k (g []) r.0 r.1 (arguments_without g 0 list)))
 
-  in_list : (e : Expression Nowhere) (l : ListIn Nowhere) → list_in e ≡ Some l → (g : Gone) → Alone [] k g → expression_without nothing (l.back (lost l.list)) ≡ expression_without g e
+  in_list : (e : Expression Nowhere) (l : ListIn Nowhere) → list_in e ≡ Some l → (g : Gone) → Alone [] k g → any_without nothing (an_expression (l.back (lost l.list))) ≡ any_without g (an_expression e)
   in_list (array m) l is =
-      subst (λ (u : ListIn Nowhere). (g : Gone) → Alone [] k g → expression_without nothing (u.back (lost u.list)) ≡ expression_without g (array m))
-      (some-injective _ _ is) (λ g r. ap array (list_follows m g r))
+      subst (λ (u : ListIn Nowhere). (g : Gone) → Alone [] k g → any_without nothing (an_expression (u.back (lost u.list))) ≡ any_without g (an_expression (array m)))
+      (some-injective _ _ is) (λ g r. ap (λ l. an_expression (array l)) (list_follows m g r))
   in_list (dictionary m) l is =
-      subst (λ (u : ListIn Nowhere). (g : Gone) → Alone [] k g → expression_without nothing (u.back (lost u.list)) ≡ expression_without g (dictionary m))
-      (some-injective _ _ is) (λ g r. ap dictionary (list_follows m g r))
+      subst (λ (u : ListIn Nowhere). (g : Gone) → Alone [] k g → any_without nothing (an_expression (u.back (lost u.list))) ≡ any_without g (an_expression (dictionary m)))
+      (some-injective _ _ is) (λ g r. ap (λ l. an_expression (dictionary l)) (list_follows m g r))
   in_list (call s x m) l is =
-      subst (λ (u : ListIn Nowhere). (g : Gone) → Alone [] k g → expression_without nothing (u.back (lost u.list)) ≡ expression_without g (call s x m))
-      (some-injective _ _ is) (λ g r. ap (call s x) (list_follows m g r))
+      subst (λ (u : ListIn Nowhere). (g : Gone) → Alone [] k g → any_without nothing (an_expression (u.back (lost u.list))) ≡ any_without g (an_expression (call s x m)))
+      (some-injective _ _ is) (λ g r. ap (λ l. an_expression (call s x l)) (list_follows m g r))
   in_list _ l is = absurd cc
 
-  -- ---- along a path
+-- ---- along a path
 
-  abbrev Leads : (sort : Sort) → Node sort Nowhere → List ℕ → Hole Nowhere (Node sort Nowhere) → Type 0
-  Leads sort x path h =
-      (y : Node h.sort Nowhere) → ((g : Gone) → Alone [] k g → node_without h.sort nothing y ≡ node_without h.sort g h.inside)
-      → (g : Gone) → Alone path k g → node_without sort nothing (h.back y) ≡ node_without sort g x
+module _ (g : Gone) where
+  each_same : (k : ℕ) (xs : List Node) → ((c : ℕ) → k ≤ c → nothing ≡ from_child c g) → each_child nothing k xs ≡ each_child g k xs
+  each_same k [] all = refl
+  each_same k (x ∷ xs) all = ap₂ (λ y l. y ∷ l) (ap (λ u. any_without u x) (all k (omega arith))) (each_same (suc k) xs (λ c low. all c (omega (arith, low))))
 
-  leads : (sort : Sort) (x : Node sort Nowhere) (path : List ℕ) (h : Hole Nowhere (Node sort Nowhere)) → reach Nowhere sort x path ≡ Some h → Leads sort x path h
-  leads sort x [] h is = subst (Leads sort x []) (some-injective _ _ is) (λ y there g r. there g r)
-  leads sort x (n ∷ path) h is =
-      let o = and-then-some (λ g. option_map (around g.before g.behind g.back) (reach Nowhere g.sort g.inside path)) (nth_hole Nowhere sort x n) h is in
-      let g = o.0 in
-      let m = map-some (around g.before g.behind g.back) (reach Nowhere g.sort g.inside path) h o.2 in
-      let i = m.0 in
-      subst (Leads sort x (n ∷ path)) {x = around g.before g.behind g.back i} m.2 (λ y there f r.
-      every-at-nth (Follows f nothing r.0 (λ z. node_without sort nothing z ≡ node_without sort f x)) 0 n n (children Nowhere sort x) g (omega arith) (node_follows f nothing r.0 sort x) o.1 r.1 (i.back y)
-      (leads g.sort g.inside path i m.1 y there (from_child n f) r.2))
+  differ_left : (y next : Node) (n k m : ℕ) (xs ys : List Node) → m ≡ k + n → Differ y next n xs ys → any_without nothing next ≡ any_without (from_child m g) y → ((c : ℕ) → (m ≡ c → ⊥) → nothing ≡ from_child c g)
+      → each_child nothing k ys ≡ each_child g k xs
+  differ_left y next n k m xs ys is (here {xs = more}) one others =
+      let same : m ≡ k = omega (arith, is) in
+      ap₂ (λ z l. z ∷ l) (subst (λ i. any_without nothing next ≡ any_without (from_child i g) y) same one) (each_same (suc k) more (λ c low. others c (λ equal. omega (arith, same, low, equal))))
+  differ_left y next n k m xs ys is (there {x = x} {n = i} {xs = us} {ys = vs} d) one others =
+      ap₂ (λ z l. z ∷ l) (ap (λ u. any_without u x) (others k (λ equal. omega (arith, is, equal)))) (differ_left y next i (suc k) m us vs (omega (arith, is)) d one others)
 
-  element_gone : (t : Plain) (path : List ℕ) (q : ListAt Nowhere) → list_at t path ≡ Some q → (g : Gone) → Alone path k g → tree_without nothing (q.back (lost q.list)) ≡ tree_without g t
-  element_gone (file s b) path q is =
-      let o = and-then-some (λ h. list_of_node Nowhere h.sort h.inside (file s b) h.before h.behind h.back) (reach Nowhere of_block b path) q is in
-      let h = o.0 in
-      go h.sort h.inside h.before h.behind h.back (leads of_block b path h o.1) o.2 where
-        go : (sort : Sort) (x : Node sort Nowhere) (before behind : List Word) (back : Node sort Nowhere → Block Nowhere)
-            → Leads of_block b path (record { sort = sort; inside = x; before = before; behind = behind; back = back })
-            → list_of_node Nowhere sort x (file s b) before behind back ≡ Some q → (g : Gone) → Alone path k g → tree_without nothing (q.back (lost q.list)) ≡ tree_without g (file s b)
-        go of_expression x before behind back follow found =
-            let o = map-some (list_within (file s b) before behind back) (list_in x) q found in
-            let l = o.0 in
-            subst (λ (u : ListAt Nowhere). (g : Gone) → Alone path k g → tree_without nothing (u.back (lost u.list)) ≡ tree_without g (file s b)) o.2
-            (λ g r. ap (file s) (follow (l.back (lost l.list)) (in_list x l o.1) g r))
-        go of_statement x before behind back follow found = absurd cc
-        go of_block x before behind back follow found = absurd cc
+along : (k : ℕ) (old new : Node) → ((g : Gone) → Alone [] k g → any_without nothing new ≡ any_without g old) → (path : List ℕ) (x now : Node) → Becomes old new path x now
+    → (g : Gone) → Alone path k g → any_without nothing now ≡ any_without g x
+along k old new follow [] x now b g r = ap (any_without nothing) b.1 ∙ follow g r ∙ sym (ap (any_without g) b.0)
+along k old new follow (n ∷ path) x now b g r =
+    node_same g nothing x now r.0 b.2.skeletons
+    (differ_left g b.0 b.1 n 0 n (child_nodes x) (child_nodes now) (omega arith) b.2.parts (along k old new follow path b.0 b.1 b.3 (from_child n g) r.2) r.1)
+
+by_blocks : (g : Gone) (t now : Plain) → any_without nothing (a_block (block_of now)) ≡ any_without g (a_block (block_of t)) → tree_without nothing now ≡ tree_without g t
+by_blocks g (file s b) (file r d) is = let same : block_without nothing d ≡ block_without g b = cc in ap (file s) same
 
 pub element_goes : (t now : Plain) (path : List ℕ) (k : ℕ) → edited (Remove path k) t ≡ Some now → (g : Gone) → Alone path k g → tree_without nothing now ≡ tree_without g t
 element_goes t now path k is g alone =
@@ -98,4 +91,7 @@ element_goes t now path k is g alone =
     let q = c.place in
     let m = map-some (element_removed k (elements q.list)) (nth (elements q.list) k) c.list c.is_list in
     let is_now : q.back (lost k q.list) ≡ now = ap (λ l. q.back (with_elements q.list l)) m.2 ∙ c.is_now in
-    ap (tree_without nothing) (sym is_now) ∙ element_gone k t path q c.is_place g alone
+    let b = list_becomes t path q c.is_place (lost k q.list) in
+    let follow = subst (λ l. (g : Gone) → Alone [] k g → any_without nothing (an_expression (b.inner.back (lost k l))) ≡ any_without g (an_expression b.node)) b.same (in_list k b.node b.inner b.is_inner) in
+    ap (tree_without nothing) (sym is_now)
+    ∙ by_blocks g t (q.back (lost k q.list)) (along k (an_expression b.node) (an_expression (b.inner.back (lost k q.list))) follow path (a_block (block_of t)) (a_block (block_of (q.back (lost k q.list)))) b.becomes g alone)

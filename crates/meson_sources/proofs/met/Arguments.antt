@@ -3,7 +3,8 @@ use Rattle.meson_syntax.specs.declared.operator.Bracket.TheVariants as bracket
 use Rattle.meson_sources.proofs.Words.{cons_option, filter_map, bytes_eq, if◌then◌else◌, Ok, option_map, ◌⊎◌, [], ap, ap₂, arith, Bool, false, inl, inr, length, List, map, None, refl, Some, subst, suc, sym, true, zero, ℕ, ◌++◌, ◌+◌, ◌∙◌, ◌∷◌, ◌≡◌, ◌≤◌, an_expression, Any, arguments_parts, LevelArguments, LevelExpression, holds_pairs, Argument, argument, Arguments, arguments_of, bare_name, erase_arguments, Expression, Name, named, no_arguments, Nowhere, pair, plain, Bracket, kept_number, Numbered, numbered, value_with_name, value_without_name, once, rest, sources_key, child, CallRef, both_expanded, Expansion, fixed, in_list, nothing_met, Slot, Stand, list_of_slot, Differ, strings, extra_key}
 use Rattle.meson_sources.proofs.met.Outcomes.{Outcome, Along, joined, nothing_both, still, along_same, along_first, along_behind}
 use Rattle.meson_sources.proofs.trees.Places.{below, below_child}
-use Rattle.meson_sources.proofs.trees.Shapes.{Becomes, blanks, differ_none, differ_here, differ_there, same_arguments, blank}
+use Rattle.meson_sources.proofs.trees.Shapes.{Becomes, differ_none, differ_here, differ_there}
+use Rattle.meson_sources.proofs.trees.Skeletons.{blanks, same_arguments, blank}
 
 -- ==== The arguments of a call that hold sources, in two projects where one argument may have become another.
 

@@ -18,7 +18,8 @@ use Rattle.meson_sources.proofs.told.Variables.{target_no_files, files_names, fi
 use Rattle.meson_sources.proofs.trees.Calls.{CallIn, CallNode, bare_arguments, bare_form, called, stands_bare}
 use Rattle.meson_sources.proofs.trees.Places.{expression_node, below, below_child, below_itself, no_statement, node_between, owner, owner_is, single_named, Far, IsIt, far_deeper, far_apart, aside_far, above_it, under, without_last, below_steps}
 use Rattle.meson_sources.proofs.trees.Scenes.{NodeIn, names_of, node_above, next_in, node_away, same_places}
-use Rattle.meson_sources.proofs.trees.Shapes.{a_call, shape, Becomes, blanks, became_new, became_old}
+use Rattle.meson_sources.proofs.trees.Shapes.{a_call, shape, Becomes, became_new, became_old}
+use Rattle.meson_sources.proofs.trees.Skeletons.{blanks}
 
 -- ==== The sources or extra files of a call after another list has got strings.
 

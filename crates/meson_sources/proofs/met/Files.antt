@@ -9,7 +9,7 @@ use Rattle.meson_sources.proofs.met.Marks.{bare_mark, bare, both_bare, expand_wi
 use Rattle.meson_sources.proofs.met.Outcomes.{gist, Clear, gist_append, Grows, grows_first, texts_are, texts_come, unknown_is, as_unknown, moved}
 use Rattle.meson_sources.proofs.trees.Calls.{CallIn, bare_arguments, called, CallNode, call_again}
 use Rattle.meson_sources.proofs.trees.Places.{IsIt}
-use Rattle.meson_sources.proofs.trees.Shapes.{blanks}
+use Rattle.meson_sources.proofs.trees.Skeletons.{blanks}
 
 -- ==== All sources of a call: without spans, and in which lists they are met.
 

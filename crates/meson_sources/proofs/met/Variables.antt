@@ -4,7 +4,8 @@ use Rattle.meson_sources.proofs.met.Expressions.{along, files_alike, kind_along,
 use Rattle.meson_sources.proofs.met.Marks.{Values, list_by, lists_by, expand_with}
 use Rattle.meson_sources.proofs.met.Outcomes.{Either, as_before, grown, How, stays, comes, Outcome, Along, opaque_both}
 use Rattle.meson_sources.proofs.trees.Places.{below}
-use Rattle.meson_sources.proofs.trees.Shapes.{Becomes, differ_here, differ_there, differ_none, operators, shape, list_blanks, another}
+use Rattle.meson_sources.proofs.trees.Shapes.{Becomes, differ_here, differ_there, differ_none, shape, another}
+use Rattle.meson_sources.proofs.trees.Skeletons.{operators, list_blanks}
 
 value_same : (m m2 : Expression Nowhere → Bool) → ((e : Expression Nowhere) → m2 e ≡ m e) → (e : Expression Nowhere) → is_value_by m2 e ≡ is_value_by m e
 value_same m m2 alike (row s e os) = ap (λ b. are_plus os && b) (alike e)

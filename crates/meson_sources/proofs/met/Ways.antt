@@ -10,7 +10,8 @@ use Rattle.meson_sources.proofs.met.Outcomes.{Outcome, Along, along_same, opaque
 use Rattle.meson_sources.proofs.met.Variables.{Kin, Level, followed, levels, same_holds, Equal, OnTheWay, neither, equal, on_the_way}
 use Rattle.meson_sources.proofs.trees.Places.{below, below_itself, Far, IsIt, far_deeper, far_apart, aside_far, above_it, node_between, single_stands, under, below_below, one_goes_on}
 use Rattle.meson_sources.proofs.trees.Scenes.{NodeIn, bare_in, names_of, node_above, next_in, node_away, same_in, value_apart}
-use Rattle.meson_sources.proofs.trees.Shapes.{Becomes, blanks, on_path}
+use Rattle.meson_sources.proofs.trees.Shapes.{Becomes, on_path}
+use Rattle.meson_sources.proofs.trees.Skeletons.{blanks}
 
 -- ==== The three ways on which a list that gets strings is come to: by a variable, by an argument of the call, or it is the call's own.
 
@@ -142,7 +143,7 @@ pub becomes_same : (path : List ℕ) (x y : Any Nowhere) → node_at x path ≡ 
 becomes_same [] x y is = let same = some-injective x y is in (same, same)
 becomes_same (n ∷ path) x y is =
     let o = and-then-some (λ z. node_at z path) (nth (child_nodes x) n) y is in
-    (o.0, o.0, record { parts = differ_same (child_nodes x) n o.0 o.1; shapes = refl }, becomes_same path o.0 y o.2)
+    (o.0, o.0, record { parts = differ_same (child_nodes x) n o.0 o.1; skeletons = refl; shapes = refl }, becomes_same path o.0 y o.2)
 
 pub node_below : (ts : List Plain) (p : CallRef) (rest : List ℕ) (x y : Any Nowhere) → NodeIn ts p x → NodeIn ts (below p rest) y → node_at x rest ≡ Some y
 node_below ts p rest x y m n =

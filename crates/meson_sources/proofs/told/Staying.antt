@@ -2,10 +2,11 @@
 use Rattle.meson_sources.proofs.trees.Shapes as shapes
 use Rattle.meson_sources.proofs.told.Variables as tells
 use Rattle.meson_syntax.specs.declared.operator.Assignment.TheVariants as assignment
-use Rattle.meson_sources.proofs.Words.{cons_option, list_any, if◌then◌else◌, is_some, option_and_then, option_map, ◌&&◌, ◌⊎◌, [], ap, ap₂, Bool, false, inl, inr, List, map, None, Option, refl, Some, subst, suc, sym, true, zero, ℕ, ◌++◌, ◌+◌, ◌∙◌, ◌∷◌, ◌≡◌, a_block, a_statement, an_expression, Any, arguments_parts, list_in, ListIn, Argument, argument, Arguments, arguments_of, array, assign, call, dictionary, Expression, identifier, iteration, Listing, listing, Name, named, no_arguments, Nowhere, pair, plain, string, child_nodes, some-injective, first_literal, literal_of, child, is_target_call, one_of, target_functions, CallRef, Differ, here, there, strings, is_plain}
+use Rattle.meson_sources.proofs.Words.{cons_option, list_any, if◌then◌else◌, is_some, option_and_then, option_map, ◌&&◌, ◌⊎◌, [], ap, ap₂, Bool, false, inl, inr, List, map, None, Option, refl, Some, subst, sym, true, ℕ, ◌++◌, ◌+◌, ◌∙◌, ◌∷◌, ◌≡◌, a_block, a_statement, an_expression, Any, arguments_parts, list_in, ListIn, Argument, argument, Arguments, arguments_of, array, assign, call, dictionary, Expression, identifier, Listing, listing, Name, named, no_arguments, Nowhere, pair, plain, string, child_nodes, some-injective, first_literal, literal_of, child, is_target_call, one_of, target_functions, CallRef, Differ, here, there, strings, is_plain}
 use Rattle.meson_sources.proofs.told.Targets.{first_is, first_plain, Naming, a_target, a_variable, in_any, in_all, in_arguments, in_expression, in_listing, own, node_tells, call_by, call_tells}
 use Rattle.meson_sources.proofs.told.Variables.{Told, matters, name_texts, of_any, of_children, own as own_told, node_told, children_alike}
-use Rattle.meson_sources.proofs.trees.Shapes.{Shape, a_leaf, shape, blanks, Step, Becomes, differ_none, differ_here, differ_there, same_arguments, a_call, an_assignment}
+use Rattle.meson_sources.proofs.trees.Shapes.{Shape, a_leaf, shape, Becomes, differ_none, a_call, an_assignment}
+use Rattle.meson_sources.proofs.trees.Skeletons.{blanks}
 
 -- ==== What a node tells is the same when a list in it gets strings.
 
@@ -22,89 +23,46 @@ literal_any (an_expression e) = literal_of e
 literal_any (a_statement s) = None
 literal_any (a_block b) = None
 
-module _ (y next : Any Nowhere) (literals : literal_any next ≡ literal_any y) where
-  literal_stays : (xs ys : Arguments Nowhere) (n : ℕ) → blanks ys ≡ blanks xs → Differ y next n (arguments_parts xs) (arguments_parts ys) → literal_first ys ≡ literal_first xs
-  literal_stays no_arguments ys n bs d = absurd (differ_none y next n (arguments_parts ys) d)
-  literal_stays (argument a xs) no_arguments n bs d = absurd cc
-  literal_stays (argument (plain e) xs) (argument (plain f) ys) zero bs d =
-      let h = differ_here y next (an_expression e) (an_expression f) (arguments_parts xs) (arguments_parts ys) d in
-      ap literal_any h.1 ∙ literals ∙ sym (ap literal_any h.0)
-  literal_stays (argument (plain e) xs) (argument (plain f) ys) (suc n) bs d =
-      let h = differ_there y next n (an_expression e) (an_expression f) (arguments_parts xs) (arguments_parts ys) d in
-      sym (ap literal_any h.0)
-  literal_stays (argument (named s x e) xs) (argument (named r z f) ys) zero bs d =
-      let h = differ_here y next (an_expression e) (an_expression f) (arguments_parts xs) (arguments_parts ys) d in
-      let tails : blanks ys ≡ blanks xs = cc in
-      ap literal_first (same_arguments xs ys tails h.2)
-  literal_stays (argument (named s x e) xs) (argument (named r z f) ys) (suc n) bs d =
-      let h = differ_there y next n (an_expression e) (an_expression f) (arguments_parts xs) (arguments_parts ys) d in
-      let tails : blanks ys ≡ blanks xs = cc in
-      literal_stays xs ys n tails h.1
-  literal_stays (argument (pair s e g) xs) (argument (pair r f k) ys) zero bs d =
-      let h = differ_here y next (an_expression e) (an_expression f) (an_expression g ∷ arguments_parts xs) (an_expression k ∷ arguments_parts ys) d in
-      let tails : blanks ys ≡ blanks xs = cc in
-      let others : arguments_parts xs ≡ arguments_parts ys = let both = h.2 in cc in
-      ap literal_first (same_arguments xs ys tails others)
-  literal_stays (argument (pair s e g) xs) (argument (pair r f k) ys) (suc zero) bs d =
-      let first = differ_there y next zero (an_expression e) (an_expression f) (an_expression g ∷ arguments_parts xs) (an_expression k ∷ arguments_parts ys) d in
-      let h = differ_here y next (an_expression g) (an_expression k) (arguments_parts xs) (arguments_parts ys) first.1 in
-      let tails : blanks ys ≡ blanks xs = cc in
-      ap literal_first (same_arguments xs ys tails h.2)
-  literal_stays (argument (pair s e g) xs) (argument (pair r f k) ys) (suc (suc n)) bs d =
-      let first = differ_there y next (suc n) (an_expression e) (an_expression f) (an_expression g ∷ arguments_parts xs) (an_expression k ∷ arguments_parts ys) d in
-      let h = differ_there y next n (an_expression g) (an_expression k) (arguments_parts xs) (arguments_parts ys) first.1 in
-      let tails : blanks ys ≡ blanks xs = cc in
-      literal_stays xs ys n tails h.1
-  literal_stays (argument (plain e) xs) (argument _ ys) n bs d = absurd cc
-  literal_stays (argument (named s x e) xs) (argument _ ys) n bs d = absurd cc
-  literal_stays (argument (pair s e g) xs) (argument _ ys) n bs d = absurd cc
+-- ---- what is seen of the children
+
+-- of the first argument without a name
+abbrev first_of_seen : {V : Type 0} → List (Argument Nowhere) → List V → Option V
+first_of_seen (plain e ∷ bs) (s ∷ ss) = Some s
+first_of_seen (named t x e ∷ bs) (s ∷ ss) = first_of_seen bs ss
+first_of_seen (pair t e f ∷ bs) (s ∷ z ∷ ss) = first_of_seen bs ss
+first_of_seen _ _ = None
+
+module _ {V : Type 0} (see : Any Nowhere → V) where
+  first_seen : (list : Arguments Nowhere) → option_map (λ e. see (an_expression e)) (first_plain list) ≡ first_of_seen (blanks list) (map see (arguments_parts list))
+  first_seen no_arguments = refl
+  first_seen (argument (plain e) more) = refl
+  first_seen (argument (named s x e) more) = first_seen more
+  first_seen (argument (pair s e f) more) = first_seen more
+
+  children_seen : (y next : Any Nowhere) (n : ℕ) (xs ys : List (Any Nowhere)) → see next ≡ see y → Differ y next n xs ys → map see ys ≡ map see xs
+  children_seen y next n xs ys same (here {xs = more}) = ap (λ s. s ∷ map see more) same
+  children_seen y next n xs ys same (there {x = x} {n = m} {xs = us} {ys = vs} d) = ap (λ l. see x ∷ l) (children_seen y next m us vs same d)
+
+literal_seen : (first : Option (Expression Nowhere)) → option_and_then literal_of first ≡ option_and_then (λ o. o) (option_map (λ e. literal_any (an_expression e)) first)
+literal_seen None = refl
+literal_seen (Some e) = refl
 
 -- ---- a node's own
 
-abbrev literal_here : Any Nowhere → Option (List ℕ)
-literal_here (an_expression (call s f (listing r trailing list))) = literal_first list
-literal_here _ = None
+abbrev told_by : CallRef → Shape → List (Option (List ℕ)) → Option Told
+told_by p (shapes.a_call f bs) lits = if matters f then Some (tells.a_call p.file f (option_and_then (λ o. o) (first_of_seen bs lits))) else None
+told_by p (shapes.an_assignment x a) lits = Some (tells.an_assignment p x a)
+told_by p (shapes.a_loop xs) lits = Some (tells.a_loop (name_texts xs))
+told_by p _ lits = None
 
-abbrev told_by : CallRef → Shape → Option (List ℕ) → Option Told
-told_by p (shapes.a_call f bs) lit = if matters f then Some (tells.a_call p.file f lit) else None
-told_by p (shapes.an_assignment x a) lit = Some (tells.an_assignment p x a)
-told_by p (shapes.a_loop xs) lit = Some (tells.a_loop (name_texts xs))
-told_by p _ lit = None
-
-told_is : (p : CallRef) (x : Any Nowhere) → own_told p x ≡ told_by p (shape x) (literal_here x)
-told_is p (an_expression (call s f (listing r trailing list))) = ap (λ l. if matters f.text then Some (tells.a_call p.file f.text l) else None) (literal_is f.text r trailing list)
+told_is : (p : CallRef) (x : Any Nowhere) → own_told p x ≡ told_by p (shape x) (map literal_any (child_nodes x))
+told_is p (an_expression (call s f (listing r trailing list))) =
+    ap (λ l. if matters f.text then Some (tells.a_call p.file f.text l) else None)
+    (literal_is f.text r trailing list ∙ literal_seen (first_plain list) ∙ ap (option_and_then (λ o. o)) (first_seen literal_any list))
 told_is p (an_expression _) = refl
 told_is p (a_statement (assign s x a e)) = refl
 told_is p (a_statement _) = refl
 told_is p (a_block b) = refl
-
-is_call : Shape → Bool
-is_call (shapes.a_call f bs) = true
-is_call _ = false
-
-none_here : (x : Any Nowhere) → is_call (shape x) ≡ false → literal_here x ≡ None
-unfolding is_call
-none_here (an_expression (call s f l)) is = absurd cc
-none_here (an_expression _) is = refl
-none_here (a_statement s) is = refl
-none_here (a_block b) is = refl
-
-literal_step : (y next : Any Nowhere) → literal_any next ≡ literal_any y → (x now : Any Nowhere) (n : ℕ) → Step x now y next n → literal_here now ≡ literal_here x
-unfolding is_call
-literal_step y next literals (an_expression (call s f (listing r trailing xs))) (an_expression (call s2 f2 (listing r2 trailing2 ys))) n step =
-    let shapes = step.shapes in
-    let bs : blanks ys ≡ blanks xs = cc in
-    literal_stays y next literals xs ys n bs step.parts
-literal_step y next literals (an_expression (call s f (listing r trailing xs))) (an_expression _) n step = let shapes = step.shapes in absurd cc
-literal_step y next literals (an_expression (call s f (listing r trailing xs))) (a_statement (assign s2 x a e)) n step = let shapes = step.shapes in absurd cc
-literal_step y next literals (an_expression (call s f (listing r trailing xs))) (a_statement (iteration s2 zs e b)) n step = let shapes = step.shapes in absurd cc
-literal_step y next literals (an_expression (call s f (listing r trailing xs))) (a_statement _) n step = let shapes = step.shapes in absurd cc
-literal_step y next literals (an_expression (call s f (listing r trailing xs))) (a_block z) n step = let shapes = step.shapes in absurd cc
-literal_step y next literals (an_expression _) now n step = none_here now (ap is_call step.shapes)
-literal_step y next literals (a_statement (assign s x a e)) now n step = none_here now (ap is_call step.shapes)
-literal_step y next literals (a_statement (iteration s zs e b)) now n step = none_here now (ap is_call step.shapes)
-literal_step y next literals (a_statement _) now n step = none_here now (ap is_call step.shapes)
-literal_step y next literals (a_block b) now n step = none_here now (ap is_call step.shapes)
 
 -- what has children is no literal
 leaf_none : (x : Any Nowhere) → (shape x ≡ a_leaf → ⊥) → literal_any x ≡ None
@@ -140,7 +98,7 @@ module _ (older newer : Any Nowhere) (literals : literal_any newer ≡ literal_a
   told_along (n ∷ path) x now b p =
       let step = b.2 in
       let owns : own_told p now ≡ own_told p x =
-      told_is p now ∙ ap₂ (told_by p) step.shapes (literal_step b.0 b.1 (literal_along path b.0 b.1 b.3) x now n step) ∙ sym (told_is p x) in
+      told_is p now ∙ ap₂ (told_by p) step.shapes (children_seen literal_any b.0 b.1 n (child_nodes x) (child_nodes now) (literal_along path b.0 b.1 b.3) step.parts) ∙ sym (told_is p x) in
       node_told p now ∙ ap₂ cons_option owns (children_stay b.0 b.1 p 0 n (child_nodes x) (child_nodes now) (told_along path b.0 b.1 b.3) step.parts) ∙ sym (node_told p x)
 
 -- ---- a list that gets strings
@@ -189,20 +147,8 @@ sight (an_expression e) = record { literal = literal_of e; target = is_target_ca
 sight (a_statement s) = nothing
 sight (a_block b) = nothing
 
-abbrev first_sight : List (Argument Nowhere) → List Sight → Option Sight
-first_sight (plain e ∷ bs) (s ∷ ss) = Some s
-first_sight (named t x e ∷ bs) (s ∷ ss) = first_sight bs ss
-first_sight (pair t e f ∷ bs) (s ∷ z ∷ ss) = first_sight bs ss
-first_sight _ _ = None
-
 abbrev plain_sight : Option (Expression Nowhere) → Option Sight
 plain_sight first = option_map (λ e. sight (an_expression e)) first
-
-first_seen : (list : Arguments Nowhere) → plain_sight (first_plain list) ≡ first_sight (blanks list) (map sight (arguments_parts list))
-first_seen no_arguments = refl
-first_seen (argument (plain e) more) = refl
-first_seen (argument (named s x e) more) = first_seen more
-first_seen (argument (pair s e f) more) = first_seen more
 
 abbrev call_sight : List ℕ → Option Sight → Option Naming
 call_sight f first = if one_of target_functions f && is_some first then Some (a_target f (option_and_then (λ s. s.literal) first)) else None
@@ -218,12 +164,12 @@ some_sight (Some e) = refl
 -- ---- what a node tells itself, by its shape and what is seen of its children
 
 abbrev own_by : Shape → List Sight → Option Naming
-own_by (a_call f bs) ss = call_sight f (first_sight bs ss)
+own_by (a_call f bs) ss = call_sight f (first_of_seen bs ss)
 own_by (an_assignment x assignment.Set) (s ∷ ss) = if s.target then Some (a_variable x) else None
 own_by _ ss = None
 
 own_is : (x : Any Nowhere) → own x ≡ own_by (shape x) (map sight (child_nodes x))
-own_is (an_expression (call s f (listing r trailing list))) = call_tells f.text r trailing list ∙ by_sight f.text (first_plain list) ∙ ap (call_sight f.text) (first_seen list)
+own_is (an_expression (call s f (listing r trailing list))) = call_tells f.text r trailing list ∙ by_sight f.text (first_plain list) ∙ ap (call_sight f.text) (first_seen sight list)
 own_is (an_expression _) = refl
 own_is (a_statement (assign s x assignment.Set e)) = refl
 own_is (a_statement _) = refl
@@ -236,11 +182,11 @@ abbrev call_seen : List ℕ → Bool → Sight
 call_seen f first = plain_seen (one_of target_functions f && first)
 
 abbrev sight_by : Shape → List Sight → Sight
-sight_by (a_call f bs) ss = call_seen f (is_some (first_sight bs ss))
+sight_by (a_call f bs) ss = call_seen f (is_some (first_of_seen bs ss))
 sight_by _ ss = nothing
 
 sight_is : (x : Any Nowhere) → (shape x ≡ a_leaf → ⊥) → sight x ≡ sight_by (shape x) (map sight (child_nodes x))
-sight_is (an_expression (call s f (listing r trailing list))) inner = ap (call_seen f.text) (ap is_some (first_is 0 list) ∙ some_sight (first_plain list) ∙ ap is_some (first_seen list))
+sight_is (an_expression (call s f (listing r trailing list))) inner = ap (call_seen f.text) (ap is_some (first_is 0 list) ∙ some_sight (first_plain list) ∙ ap is_some (first_seen sight list))
 sight_is (an_expression (identifier s x)) inner = absurd (inner refl)
 sight_is (an_expression (string s q x)) inner = absurd (inner refl)
 sight_is (an_expression _) inner = refl
@@ -251,10 +197,6 @@ sight_is (a_block b) inner = refl
 -- ---- along a path
 
 module _ (y next : Any Nowhere) where
-  children_seen : (n : ℕ) (xs ys : List (Any Nowhere)) → sight next ≡ sight y → Differ y next n xs ys → map sight ys ≡ map sight xs
-  children_seen n xs ys same (here {xs = more}) = ap (λ s. s ∷ map sight more) same
-  children_seen n xs ys same (there {x = x} {n = m} {xs = us} {ys = vs} d) = ap (λ l. sight x ∷ l) (children_seen m us vs same d)
-
   children_tell : (n : ℕ) (xs ys : List (Any Nowhere)) → in_any next ≡ in_any y → Differ y next n xs ys → in_all ys ≡ in_all xs
   children_tell n xs ys same (here {xs = more}) = ap (λ l. l ++ in_all more) same
   children_tell n xs ys same (there {x = x} {n = m} {xs = us} {ys = vs} d) = ap (λ l. in_any x ++ l) (children_tell m us vs same d)
@@ -275,7 +217,7 @@ module _ (older newer : Any Nowhere) (same : Alike older newer) where
   alike_along (n ∷ path) x now b =
       let inner = no_leaf x b.0 b.1 n (child_nodes now) b.2.parts in
       let r = alike_along path b.0 b.1 b.3 in
-      let seen = children_seen b.0 b.1 n (child_nodes x) (child_nodes now) r.seen b.2.parts in
+      let seen = children_seen sight b.0 b.1 n (child_nodes x) (child_nodes now) r.seen b.2.parts in
       let owns : own now ≡ own x = own_is now ∙ ap₂ own_by b.2.shapes seen ∙ sym (own_is x) in
       record {
         seen = sight_is now (λ is. inner (sym b.2.shapes ∙ is)) ∙ ap₂ sight_by b.2.shapes seen ∙ sym (sight_is x inner);
