@@ -65,7 +65,7 @@ nth_put [] n it a is = absurd cc
 nth_put (x ∷ xs) zero it a is = refl
 nth_put (x ∷ xs) (suc n) it a is = nth_put xs n it a is
 
-value_put : (a : Argument Nowhere) (v w : Expression Nowhere) → value_of a ≡ Some v → value_of (with_value w a) ≡ Some w
+pub value_put : (a : Argument Nowhere) (v w : Expression Nowhere) → value_of a ≡ Some v → value_of (with_value w a) ≡ Some w
 value_put (plain e) v w is = refl
 value_put (named s x e) v w is = refl
 value_put (pair s e f) v w is = refl
@@ -287,11 +287,6 @@ put_last xs k new it many = let r = all_taken xs k many in ap₂ (λ l m. l ++ n
 
 -- ---- values
 
-pub value_again : (a : Argument Nowhere) (v w : Expression Nowhere) → value_of a ≡ Some v → value_of (with_value w a) ≡ Some w
-value_again (plain e) v w is = refl
-value_again (named s x e) v w is = refl
-value_again (pair s e f) v w is = refl
-
 put_twice : (a : Argument Nowhere) (v w : Expression Nowhere) → with_value w (with_value v a) ≡ with_value w a
 put_twice (plain e) v w = refl
 put_twice (named s x e) v w = refl
@@ -339,7 +334,7 @@ module _ (c : CallRef) (n : ℕ) (a : Argument Nowhere) (v : Expression Nowhere)
   one_more xs k name trees between many h made =
       let new = written_source name in
       let old = with_value (array_holding xs) a in
-      let p = inner_place array_container h.tree list_path h.place h.is_place h.no_pairs h.level n old (list_holding xs) (ap (λ l. nth l n) h.are ∙ nth_seam front old back n is_number) (value_again a v (array_holding xs) is_value) in
+      let p = inner_place array_container h.tree list_path h.place h.is_place h.no_pairs h.level n old (list_holding xs) (ap (λ l. nth l n) h.are ∙ nth_seam front old back n is_number) (value_put a v (array_holding xs) is_value) in
       let r = p.place in
       let m = change_made c.file (edited (After inner k new)) trees between made in
       let same_tree : m.old ≡ h.tree = some-injective _ _ (sym m.was ∙ h.is_tree) in

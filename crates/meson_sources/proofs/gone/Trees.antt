@@ -1,21 +1,69 @@
 -- Strings go from lists one after another: each removal may be done.
 use Rattle.meson_calls.specs.Calls as calls
+use Rattle.meson_syntax.specs.declared.operator.Bracket.TheVariants as bracket
 use Rattle.meson_edit.proofs.sequences.Deepened.{removals-stay-within}
-use Rattle.meson_sources.proofs.Words.{filter, All, if◌then◌else◌, nat_eq, Ok, ok_or, option_and_then, option_map, Result, slice_set, ◌&&◌, ◌||◌, [], ap, ap₂, arith, Bool, false, List, map, None, Option, refl, Some, subst, suc, sym, true, zero, ℕ, ◌++◌, ◌∙◌, ◌∷◌, ◌≡◌, ◌≤◌, eq-eqb, ne_eqb, All-cons, All-head, All-nil, All-set, All-tail, Span, then_ok, file_depth, ListAt, nth, Plain, some-injective, Every, and-then-some, map-some, edited, element_removed, elements, Remove, with_elements, removals-keep-levels, Call, AreParsed, Loaded, project, kwargs_key, not_hidden, once, sources_key, place, Placed, Project, CallRef, Refusal, NotRemovable, empty, fixed, in_list, Item, known, Mark, opaque, Slot, items, opaque_count, source_marks, AreDoable, MayStandBetween, none, one, checked_names, distinct, plain_trees, all_stepped, Step, stepped, trees_stand, once_was, then_was, all_nth, change_there, element_spot, goes, same_spot, trees_without, checked_extra, extra_key, extra_marks, has_text, is_path, items_of, removal, removal_steps, removals_after, removed_at, Spot, spot_of, spot_without, spots_by, spots_named, spots_of, each_without, from_child, Gone, tree_without}
-use Rattle.meson_sources.proofs.gone.Named.{every_both, every_weaker, spots_apart}
-use Rattle.meson_sources.proofs.gone.Nodes.{nothing, tree_stays}
+use Rattle.meson_sources.proofs.Words.{Nowhere, filter, All, if◌then◌else◌, nat_eq, Ok, option_and_then, option_map, Result, slice_set, ◌&&◌, ◌||◌, [], ap, ap₂, arith, Bool, false, List, map, refl, Some, subst, suc, sym, true, zero, ℕ, ◌++◌, ◌∙◌, ◌∷◌, ◌≡◌, ◌≤◌, eq-eqb, ne_eqb, All-cons, All-head, All-nil, All-set, All-tail, Span, then_ok, a_block, a_statement, an_expression, arguments_parts, listing_parts, file_depth, Flagged, LevelListing, ListAt, nth, argument, Arguments, array, call, dictionary, evaluate, file, Listing, listing, named, no_arguments, pair, Plain, plain, Bracket, child_nodes, some-injective, Every, and-then-some, map-some, edited, element_removed, elements, Remove, with_elements, removals-keep-levels, AreParsed, Loaded, project, once, sources_key, child, place, Project, CallRef, Refusal, by_each_child, empty, fixed, in_list, Item, known, Mark, opaque, Slot, items, opaque_count, source_marks, AreDoable, MayStandBetween, none, one, checked_names, distinct, plain_trees, all_stepped, Step, stepped, trees_stand, once_was, then_was, all_nth, change_there, element_spot, goes, same_spot, trees_without, checked_extra, extra_marks, has_text, is_path, items_of, removal, removal_steps, removals_after, removed_at, Spot, spot_of, spot_without, spots_by, spots_named, spots_of, block_without, each_without, from_child, Gone, tree_without}
+use Rattle.meson_sources.proofs.added.Homes.{checked_marks}
+use Rattle.meson_sources.proofs.gone.Losses.{child_in}
+use Rattle.meson_sources.proofs.gone.Named.{every_both, every_weaker, spots_apart, some_spots}
+use Rattle.meson_sources.proofs.gone.Nodes.{left_list, node_without, nothing}
 use Rattle.meson_sources.proofs.gone.OneElement.{Alone, element_goes}
-use Rattle.meson_sources.proofs.gone.Spots.{or_with_none, Apart, AreApart}
+use Rattle.meson_sources.proofs.gone.Places.{any_without, each_child}
+use Rattle.meson_sources.proofs.gone.Spots.{or_with_none, Apart, AreApart, but_none}
 use Rattle.meson_sources.proofs.gone.Twice.{left_without, moved_spot, moved_there, stays_there, trees_twice, SpotStays, moved_twice, spot_left, still_apart}
 use Rattle.meson_sources.proofs.met.Standing.{SpotStands, StringIn, spot_in, RemovalsDoable, AllStand, SlotStands, MarkStands, SourcesMayBeRemoved, ExtrasMayBeRemoved}
+use Rattle.meson_sources.proofs.met.Ways.{node_level}
+use Rattle.meson_sources.proofs.trees.Elements.{Node}
+use Rattle.meson_sources.proofs.trees.Scenes.{NodeIn}
+use Rattle.meson_sources.proofs.trees.Skeletons.{blanks, fill, fill_list, filled, list_blanks, list_filled, skeleton, trailing_of}
 
 -- ==== One string goes: its removal may be done, and what it leaves are the trees without that string.
 
 -- ---- files
 
+module _ (trees : List Plain) (stand : All MayStandBetween trees) where
+  each_stays : (n : ℕ) (xs : List Node) → ((j : ℕ) (y : Node) → nth xs j ≡ Some y → any_without nothing y ≡ y) → each_child nothing n xs ≡ xs
+  each_stays n [] all = refl
+  each_stays n (x ∷ xs) all = ap₂ (λ y l. y ∷ l) (all 0 x refl) (each_stays (suc n) xs (λ j. all (suc j)))
+
+  -- an empty list has no comma
+  list_stays : (l : Listing Nowhere) (b : Bracket) → LevelListing l b → left_list (nothing []) (trailing_of l) (fill_list (list_blanks l) (listing_parts l)) ≡ l
+  list_stays (listing s c list) b level = ap (with_elements (listing s c list)) (but_none (nothing []) (λ n. refl) (fill_list (blanks list) (arguments_parts list))) ∙ whole list level.0
+    where
+      whole : (xs : Arguments Nowhere) → Flagged c xs → with_elements (listing s c no_arguments) (fill_list (blanks xs) (arguments_parts xs)) ≡ listing s c xs
+      whole no_arguments flagged = ap (λ z. listing s z no_arguments) (sym flagged)
+      whole (argument (plain e) more) flagged = ap (listing s c) (list_filled (argument (plain e) more))
+      whole (argument (named r x e) more) flagged = ap (listing s c) (list_filled (argument (named r x e) more))
+      whole (argument (pair r e f) more) flagged = ap (listing s c) (list_filled (argument (pair r e f) more))
+
+  abbrev Stays : CallRef → Node → Type 0
+  Stays c x = NodeIn trees c x → any_without nothing x ≡ x
+
+  with_children : (c : CallRef) (x : Node) → NodeIn trees c x → fill (left_list (nothing [])) (skeleton x) (child_nodes x) ≡ x
+  with_children c (an_expression (array l)) h = ap (λ m. an_expression (array m)) (list_stays l bracket.Square (node_level trees stand c (array l) h))
+  with_children c (an_expression (dictionary l)) h = ap (λ m. an_expression (dictionary m)) (list_stays l bracket.Curly (node_level trees stand c (dictionary l) h))
+  with_children c (an_expression (call s x l)) h = ap (λ m. an_expression (call s x m)) (list_stays l bracket.Round (node_level trees stand c (call s x l) h))
+  with_children c (a_statement (evaluate e)) h = filled (a_statement (evaluate e))
+  with_children c x h = filled x
+
+  node_stays : (c : CallRef) (x : Node) → Stays c x
+  node_stays =
+      by_each_child child Stays
+      (λ c x children h.
+      node_without nothing x ∙ ap (fill (left_list (nothing [])) (skeleton x)) (each_stays 0 (child_nodes x) (λ j y is. children j y is (child_in trees c x y j h is))) ∙ with_children c x h)
+
+  tree_stays : (i : ℕ) (t : Plain) → nth trees i ≡ Some t → tree_without nothing t ≡ t
+  tree_stays i (file s b) is =
+      let same = node_stays (place i []) (a_block b) (record { tree = file s b; is_tree = is; is_node = refl }) in
+      let whole : block_without nothing b ≡ b = cc in
+      ap (file s) whole
+
+all_stay : (ts : List Plain) → ((i : ℕ) (t : Plain) → nth ts i ≡ Some t → tree_without nothing t ≡ t) → each_without (λ n. nothing) ts ≡ ts
+all_stay [] all = refl
+all_stay (t ∷ ts) all = ap₂ (λ u us. u ∷ us) (all 0 t refl) (all_stay ts (λ i. all (suc i)))
+
 pub nothing_gone : (ts : List Plain) → All MayStandBetween ts → each_without (λ n. nothing) ts ≡ ts
-nothing_gone [] all = refl
-nothing_gone (t ∷ ts) all = ap₂ (λ u us. u ∷ us) (tree_stays t (All-head MayStandBetween t ts all).0) (nothing_gone ts (All-tail MayStandBetween t ts all))
+nothing_gone ts all = all_stay ts (tree_stays ts all)
 
 one_file : (ts : List Plain) (i : ℕ) (t now : Plain) → nth ts i ≡ Some t → (old new : ℕ → Gone) → tree_without (new i) now ≡ tree_without (old i) t → ((j : ℕ) → (i ≡ j → ⊥) → new j ≡ old j)
     → each_without new (slice_set ts i now) ≡ each_without old ts
@@ -236,13 +284,9 @@ module _ (p : Project Span) where
       subst (All (SpotStands p)) b.2
       (All-cons (SpotStands p) a.0 b.0 (slot_stands i.slot a.0 a.1 (All-head ItemStands i more all)) (spots_stand more b.0 b.1 (All-tail ItemStands i more all)))
 
-  removable_is : (o : Option (List Spot)) (spots : List Spot) → ok_or o NotRemovable ≡ Ok spots → o ≡ Some spots
-  removable_is None spots is = absurd cc
-  removable_is (Some found) spots is = ap Some (ok-injective found spots is)
-
   by_stand : (unknown : ℕ) (is : List (Item Span)) (spots : List Spot) → spots_by unknown is ≡ Ok spots → All ItemStands is → All (SpotStands p) spots
   by_stand unknown [] spots same all = absurd cc
-  by_stand unknown (i ∷ more) spots same all = spots_stand (i ∷ more) spots (removable_is (spots_of (i ∷ more)) spots same) all
+  by_stand unknown (i ∷ more) spots same all = spots_stand (i ∷ more) spots (some_spots (spots_of (i ∷ more)) spots same) all
 
   pub named_stand : (marks : List (Mark Span)) → All (MarkStands p) marks → (names : List (List ℕ)) (spots : List Spot) → spots_named marks names ≡ Ok spots → All (SpotStands p) spots
   named_stand marks all [] spots is = subst (All (SpotStands p)) (ok-injective [] spots is) (All-nil (SpotStands p))
@@ -276,19 +320,9 @@ sources_may_be_removed old parsed c there all names utf8 steps is =
     let same = once_was sources_key keys marks b.0 b.1 in
     steps_doable old parsed marks all names steps (ap (λ ms. spots_steps old parsed ms names) same ∙ b.2)
 
--- the marks that are checked are all that the argument holds
-extra_marks_are : (p : Project Span) (c : Placed (Call Span)) (names : List (List ℕ)) (marks : List (Mark Span)) → checked_extra p c names ≡ Ok marks → extra_marks p c ≡ marks
-extra_marks_are p c names marks is =
-    let keys = calls.keyword extra_key c.it in
-    let hidden = calls.keyword kwargs_key c.it in
-    let ms = extra_marks p c in
-    let a = then_was (checked_names names) (λ _. then_ok (not_hidden hidden) (λ _. once extra_key keys ms)) marks is in
-    let b = then_was (not_hidden hidden) (λ _. once extra_key keys ms) marks a.2 in
-    once_was extra_key keys ms marks b.2
-
 pub extras_may_be_removed : ExtrasMayBeRemoved
 extras_may_be_removed old parsed c there all names utf8 steps is =
     let p = project old in
     let a = then_was (checked_extra p c names) (λ ms. spots_steps old parsed ms names) steps is in
-    let same = extra_marks_are p c names a.0 a.1 in
+    let same = checked_marks p c names a.0 a.1 in
     steps_doable old parsed (extra_marks p c) all names steps (ap (λ ms. spots_steps old parsed ms names) same ∙ a.2)

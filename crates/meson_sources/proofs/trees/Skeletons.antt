@@ -26,7 +26,7 @@ blanks (argument a more) = blank a ∷ blanks more
 abbrev pub list_blanks : Listing Nowhere → List (Argument Nowhere)
 list_blanks (listing s trailing list) = blanks list
 
-abbrev trailing_of : Listing Nowhere → Bool
+abbrev pub trailing_of : Listing Nowhere → Bool
 trailing_of (listing s trailing list) = trailing
 
 abbrev pub operators : Operands Nowhere → List Operator
