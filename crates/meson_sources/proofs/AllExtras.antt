@@ -1,47 +1,20 @@
 -- The law on all extra files after an addition.
-use Rattle.std.specs.Prelude.{All, not, Ok}
-use Rattle.std.specs.List.{filter, list_any}
-use Rattle.std.proofs.Common.{append-nil, ◌≡◌, ℕ, ◌≤◌, true, List, [], ◌∷◌, length, Option, Some, None, refl, sym, ap, ◌∙◌, subst, IsUtf8}
-use Rattle.meson_lex.specs.declared.kinds.Span.{Span}
-use Rattle.meson_syntax.specs.Tree.{Expression}
-use Rattle.meson_syntax.proofs.paths.Every.{Every}
-use Rattle.meson_calls.specs.declared.call.CallRef.{CallRef}
 use Rattle.meson_calls.specs.declared.call.Role.TheVariants as role
-use Rattle.meson_calls.specs.Calls.{Call, Numbered, literal_of}
-use Rattle.meson_variables.specs.Expansion.{Item, Mark}
-use Rattle.meson_calls.specs.Finding.{the_call}
-use Rattle.meson_calls.specs.Loading.{IsProject, Loaded, project}
-use Rattle.meson_calls.specs.Project.{Placed}
-use Rattle.meson_calls.specs.Roles.{one_of, target_functions}
-use Rattle.meson_variables.specs.TargetSources.{first_empty, first_list, items, or_option}
-use Rattle.meson_steps.specs.Names.{distinct}
-use Rattle.meson_steps.specs.ResultLimits.{plain_trees}
-use Rattle.meson_steps.specs.Steps.{Step, all_stepped}
-use Rattle.meson_steps.proofs.PlainTrees.{trees_stand}
-use Rattle.meson_steps.proofs.WentWell.{once_was, then_was}
-use Rattle.meson_sources.specs.Effects.{AreSpotsOf, ArgumentHolds, ExtraComes, goes, has_one_of, is_at}
-use Rattle.meson_sources.specs.Extras.{extra_files}
-use Rattle.meson_sources.specs.SourceEdits.{behind_value, checked_extra, extra_added, extra_inserted, extra_key, extra_marks, new_names, without_home}
 use Rattle.meson_sources.specs.WholeExtras.{AllExtrasGrow}
-use Rattle.meson_sources.specs.WholeSources.{file_names, source_texts}
-use Rattle.meson_sources.proofs.CallForms.{CallIn, called, target_at}
-use Rattle.meson_sources.proofs.CallTrees.{keyed}
+use Rattle.meson_sources.proofs.Words.{filter, list_any, All, not, Ok, [], ap, append-nil, IsUtf8, length, List, None, Option, refl, Some, subst, sym, true, ℕ, ◌∙◌, ◌∷◌, ◌≡◌, ◌≤◌, Span, Expression, Every, Call, literal_of, Numbered, the_call, IsProject, Loaded, project, Placed, one_of, target_functions, CallRef, Item, Mark, first_empty, first_list, items, or_option, distinct, plain_trees, all_stepped, Step, trees_stand, once_was, then_was, AreSpotsOf, ArgumentHolds, ExtraComes, goes, has_one_of, is_at, extra_files, behind_value, checked_extra, extra_added, extra_inserted, extra_key, extra_marks, new_names, without_home, file_names, source_texts}
 use Rattle.meson_sources.proofs.ExtraAdded.{extra-is-added}
-use Rattle.meson_sources.proofs.ExtraArguments.{grown_argument, new_argument}
-use Rattle.meson_sources.proofs.ExtrasAddable.{extra_once}
-use Rattle.meson_sources.proofs.FileKinds.{of_extras}
-use Rattle.meson_sources.proofs.FilesCome.{files_come}
-use Rattle.meson_sources.proofs.GrownFiles.{FilesGrown}
-use Rattle.meson_sources.proofs.GrownLists.{every_of}
-use Rattle.meson_sources.proofs.Homes.{Home, marked_home}
-use Rattle.meson_sources.proofs.KeyCounts.{few_once}
-use Rattle.meson_sources.proofs.ListTurns.{list_turns}
-use Rattle.meson_sources.proofs.NamedStays.{KeepsNames, files_grow, same_trees_named}
-use Rattle.meson_sources.proofs.NeverMet.{extras_elsewhere}
-use Rattle.meson_sources.proofs.NodesMoved.{unmoved}
 use Rattle.meson_sources.proofs.ShrunkFiles.{extras_hold, extras_lost, stay}
-use Rattle.meson_sources.proofs.SourcesAddable.{new_texts}
-use Rattle.meson_sources.proofs.TargetMarks.{files_stand}
+use Rattle.meson_sources.proofs.added.Homes.{extra_once, Home, marked_home, new_texts}
+use Rattle.meson_sources.proofs.added.Turns.{list_turns}
+use Rattle.meson_sources.proofs.gone.Losses.{unmoved}
+use Rattle.meson_sources.proofs.met.Arguments.{keyed, few_once}
+use Rattle.meson_sources.proofs.met.Arrivals.{files_come, extras_elsewhere}
+use Rattle.meson_sources.proofs.met.ExtraArguments.{grown_argument, new_argument}
+use Rattle.meson_sources.proofs.met.Files.{of_extras, FilesGrown}
+use Rattle.meson_sources.proofs.met.GrownLists.{every_of}
+use Rattle.meson_sources.proofs.met.Targets.{files_stand}
+use Rattle.meson_sources.proofs.told.NamedAgain.{KeepsNames, files_grow, same_trees_named}
+use Rattle.meson_sources.proofs.trees.Calls.{CallIn, called, target_at}
 
 -- ---- nothing is new
 

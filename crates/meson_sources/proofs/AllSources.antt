@@ -1,56 +1,26 @@
 -- The law on all sources after an addition.
-use Rattle.std.specs.Prelude.{◌⊎◌, ◌||◌, All, is_some, option_map, Ok}
-use Rattle.std.specs.List.{filter_map, list_any}
-use Rattle.std.proofs.Common.{◌≡◌, ℕ, ◌+◌, ◌≤◌, Bool, true, false, List, [], ◌∷◌, ◌++◌, length, Option, Some, None, refl, sym, ap, ◌∙◌, subst, inl, inr, IsUtf8}
-use Rattle.meson_lex.specs.declared.kinds.Span.{Span}
-use Rattle.meson_syntax.specs.Children.{an_expression, a_block}
-use Rattle.meson_syntax.specs.Paths.{block_of}
-use Rattle.meson_syntax.specs.Tree.{Nowhere, Name, Expression, call, Argument, plain, named, pair, Arguments, no_arguments, argument, arguments_of, erase_arguments}
-use Rattle.meson_syntax.proofs.paths.Every.{Every}
-use Rattle.meson_calls.specs.declared.call.CallRef.{CallRef}
 use Rattle.meson_calls.specs.declared.call.Role.TheVariants as role
-use Rattle.meson_calls.specs.Calls.{Call, Numbered, first_argument, first_of, keyword, kept_number, numbered, value_without_name}
-use Rattle.meson_variables.specs.Expansion.{max_followed}
-use Rattle.meson_calls.specs.Finding.{the_call}
-use Rattle.meson_calls.specs.Loading.{IsProject, Loaded, project}
-use Rattle.meson_calls.specs.Project.{Placed}
-use Rattle.meson_calls.specs.Roles.{one_of, target_functions}
-use Rattle.meson_variables.specs.TargetSources.{first_empty, first_list, home, or_call, or_option, source_marks, sources}
-use Rattle.meson_calls.specs.NamedArguments.{once, sources_key}
-use Rattle.meson_steps.specs.Names.{checked_names}
-use Rattle.meson_steps.specs.ResultLimits.{plain_trees}
-use Rattle.meson_steps.specs.Steps.{Step, all_stepped}
-use Rattle.meson_steps.proofs.WentWell.{then_was}
-use Rattle.meson_sources.specs.Effects.{strings}
-use Rattle.meson_sources.specs.SourceEdits.{inserted_in, is_plain, new_names, sources_added}
-use Rattle.meson_sources.specs.WholeSources.{AllSourcesGrow, file_names}
-use Rattle.meson_sources.proofs.Arrivals.{outside}
-use Rattle.meson_sources.proofs.Bares.{expand_with, values_of}
-use Rattle.meson_sources.proofs.CallForms.{CallIn, bare_arguments, bare_form, called, stands_bare, target_at}
-use Rattle.meson_sources.proofs.CallTrees.{keyed}
-use Rattle.meson_sources.proofs.FileKinds.{met_in, of_sources}
-use Rattle.meson_sources.proofs.FilesCome.{files_come}
-use Rattle.meson_sources.proofs.Functions.{target_no_files, target_no_matter}
-use Rattle.meson_sources.proofs.Gists.{Grows, gist}
-use Rattle.meson_sources.proofs.GrownFiles.{FilesGrown, answered_alike}
-use Rattle.meson_sources.proofs.GrownLists.{Anywhere, Nothing, arguments_bring, every_of, name_met}
-use Rattle.meson_sources.proofs.KeyCounts.{key_count, key_strings, few_once}
-use Rattle.meson_sources.proofs.ListTurns.{ListTurns, Turn, an_array, a_call, a_dictionary, list_turns, new_list, old_list}
-use Rattle.meson_sources.proofs.MarkLists.{below, below_itself}
-use Rattle.meson_sources.proofs.NamedStays.{KeepsNames, files_grow, named_stays}
-use Rattle.meson_sources.proofs.NamesStay.{calls_alike, first_grown, grown_tells}
-use Rattle.meson_sources.proofs.PlacesBelow.{below_steps, under}
-use Rattle.meson_sources.proofs.SceneKins.{kin_c}
-use Rattle.meson_sources.proofs.Scenes.{NodeIn, same_places}
-use Rattle.meson_sources.proofs.Shapes.{Becomes, became_new, became_old}
-use Rattle.meson_sources.proofs.SourcesAddable.{new_texts, sources_home}
+use Rattle.meson_sources.proofs.Words.{filter_map, list_any, All, is_some, Ok, option_map, ◌||◌, ◌⊎◌, [], ap, Bool, false, inl, inr, IsUtf8, length, List, None, Option, refl, Some, subst, sym, true, ℕ, ◌++◌, ◌+◌, ◌∙◌, ◌∷◌, ◌≡◌, ◌≤◌, Span, a_block, an_expression, block_of, Argument, argument, Arguments, arguments_of, call, erase_arguments, Expression, Name, named, no_arguments, Nowhere, pair, plain, Every, Call, first_argument, first_of, kept_number, keyword, Numbered, numbered, value_without_name, the_call, IsProject, Loaded, project, once, sources_key, Placed, one_of, target_functions, CallRef, max_followed, first_empty, first_list, home, or_call, or_option, source_marks, sources, checked_names, plain_trees, all_stepped, Step, then_was, strings, inserted_in, is_plain, new_names, sources_added, AllSourcesGrow, file_names}
 use Rattle.meson_sources.proofs.SourcesAdded.{sources-are-added}
-use Rattle.meson_sources.proofs.SpotsHeld.{same_there}
-use Rattle.meson_sources.proofs.TargetMarks.{files_stand}
-use Rattle.meson_sources.proofs.TargetsFound.{targets_stand}
-use Rattle.meson_sources.proofs.TellsStay.{call_told, told_along}
-use Rattle.meson_sources.proofs.WaysThere.{always, same_c}
-use Rattle.meson_sources.proofs.Homes.{all_stand}
+use Rattle.meson_sources.proofs.added.Homes.{new_texts, sources_home, all_stand}
+use Rattle.meson_sources.proofs.added.Turns.{ListTurns, Turn, an_array, a_call, a_dictionary, list_turns, new_list, old_list}
+use Rattle.meson_sources.proofs.gone.Held.{same_there}
+use Rattle.meson_sources.proofs.met.Arguments.{keyed, key_count, key_strings, few_once}
+use Rattle.meson_sources.proofs.met.Arrivals.{outside, files_come}
+use Rattle.meson_sources.proofs.met.Files.{met_in, of_sources, FilesGrown, answered_alike}
+use Rattle.meson_sources.proofs.met.GrownLists.{Anywhere, Nothing, arguments_bring, every_of, name_met}
+use Rattle.meson_sources.proofs.met.Marks.{expand_with, values_of}
+use Rattle.meson_sources.proofs.met.Outcomes.{Grows, gist}
+use Rattle.meson_sources.proofs.met.Standing.{targets_stand}
+use Rattle.meson_sources.proofs.met.Targets.{files_stand}
+use Rattle.meson_sources.proofs.met.Ways.{kin_c, always, same_c}
+use Rattle.meson_sources.proofs.told.NamedAgain.{KeepsNames, files_grow, named_stays}
+use Rattle.meson_sources.proofs.told.Staying.{calls_alike, first_grown, grown_tells, call_told, told_along}
+use Rattle.meson_sources.proofs.told.Variables.{target_no_files, target_no_matter}
+use Rattle.meson_sources.proofs.trees.Calls.{CallIn, bare_arguments, bare_form, called, stands_bare, target_at}
+use Rattle.meson_sources.proofs.trees.Places.{below, below_itself, below_steps, under}
+use Rattle.meson_sources.proofs.trees.Scenes.{NodeIn, same_places}
+use Rattle.meson_sources.proofs.trees.Shapes.{Becomes, became_new, became_old}
 
 same_or_not : (p q : CallRef) → (p ≡ q) ⊎ (p ≡ q → ⊥)
 same_or_not p q = go (under p q)

@@ -1,44 +1,13 @@
 -- The extra files that are added come into their list, into a new argument, or behind a lone value.
-use Rattle.std.proofs.Common.{◌≡◌, ℕ, zero, suc, ◌-◌, ◌<◌, List, [], ◌∷◌, ◌++◌, length, take, drop, Option, Some, None, refl, sym, ap, ◌∙◌, subst, arith}
-use Rattle.std.specs.Prelude.{Ok, Result, option_and_then, option_map}
-use Rattle.meson_lex.specs.declared.kinds.Span.{Span}
-use Rattle.meson_syntax.specs.Operators.{holds_pairs}
-use Rattle.meson_syntax.specs.Grammar.{LevelFile}
-use Rattle.meson_syntax.specs.Paths.{ListAt, list_at, nth, value_of}
-use Rattle.meson_syntax.specs.Tree.{Nowhere, Plain, Expression, Argument, plain, erase, erase_argument, erase_expression}
-use Rattle.meson_syntax.proofs.parsing.Steps.{some-injective}
-use Rattle.meson_syntax.proofs.paths.Reaching.{and-then-some}
-use Rattle.meson_edit.specs.Edits.{Edit, After, Wrap, array_of, edited, edited_elements, edited_list, elements, exchanged, element_added, with_elements, with_value}
-use Rattle.meson_calls.specs.declared.call.CallRef.{CallRef}
-use Rattle.meson_calls.specs.Calls.{Call, Numbered, keyword}
 use Rattle.meson_calls.specs.Calls as calls
-use Rattle.meson_calls.specs.declared.refusal.Refusal.{Refusal}
-use Rattle.meson_variables.specs.Expansion.{Mark}
-use Rattle.meson_calls.specs.Loading.{IsProject, Loaded, project}
-use Rattle.meson_calls.specs.Project.{Placed, child}
-use Rattle.meson_variables.specs.TargetSources.{first_empty, first_list, or_option}
-use Rattle.meson_steps.specs.ListSteps.{MayStandBetween}
-use Rattle.meson_steps.specs.ResultLimits.{plain_trees}
-use Rattle.meson_steps.specs.Steps.{Step, all_stepped, step_in, stepped}
-use Rattle.meson_steps.specs.WrittenTexts.{string_of}
-use Rattle.meson_steps.proofs.Insertable.{edited_there, elements_with, there_again}
-use Rattle.meson_steps.proofs.PlainTrees.{PlainPlace, element_erased, plain_place, tree_is, value_erased}
-use Rattle.meson_steps.proofs.WentWell.{then_was}
-use Rattle.meson_steps.proofs.WithOne.{all_nth, change_made}
-use Rattle.meson_sources.specs.Effects.{ArgumentComes, ArgumentGrows, ArgumentHolds, ExtraComes, ExtraIsAdded, array_holding, elements_found, extra_argument, strings}
 use Rattle.meson_sources.specs.SourceEdits as edits
-use Rattle.meson_sources.specs.SourceEdits.{array_with, behind_value, checked_extra, elements_there, extra_inserted, extra_key, extra_marks, inserted_in, into_new_list, new_names, without_home, written_keyword}
-use Rattle.meson_sources.proofs.Standings.{TargetThere}
-use Rattle.meson_sources.proofs.ArgumentsGrow.{Holding, all_more, arguments_are, other_there, put_last}
-use Rattle.meson_sources.proofs.ExtrasAddable.{as_many, checked_marks, not_empty}
-use Rattle.meson_sources.proofs.Homes.{Home, all_stand, marked_home}
-use Rattle.meson_sources.proofs.NamedPlaces.{keyword_there}
-use Rattle.meson_sources.proofs.NewLists.{keyword_grown, last_there, wrapped_grown}
-use Rattle.meson_sources.proofs.PlainCounts.{elements_are, plain_count}
-use Rattle.meson_sources.proofs.SourcesAddable.{some_first}
+use Rattle.meson_sources.proofs.Words.{Ok, option_and_then, option_map, Result, [], ap, arith, drop, length, List, None, Option, refl, Some, subst, suc, sym, take, zero, ℕ, ◌++◌, ◌-◌, ◌<◌, ◌∙◌, ◌∷◌, ◌≡◌, Span, LevelFile, holds_pairs, list_at, ListAt, nth, value_of, Argument, erase, erase_argument, erase_expression, Expression, Nowhere, Plain, plain, some-injective, and-then-some, After, array_of, Edit, edited, edited_elements, edited_list, element_added, elements, exchanged, with_elements, with_value, Wrap, Call, keyword, Numbered, IsProject, Loaded, project, child, Placed, CallRef, Refusal, Mark, first_empty, first_list, or_option, MayStandBetween, plain_trees, all_stepped, Step, step_in, stepped, string_of, edited_there, elements_with, there_again, element_erased, plain_place, PlainPlace, tree_is, value_erased, then_was, all_nth, change_made, ArgumentComes, ArgumentGrows, ArgumentHolds, array_holding, elements_found, extra_argument, ExtraComes, ExtraIsAdded, strings, array_with, behind_value, checked_extra, elements_there, extra_inserted, extra_key, extra_marks, inserted_in, into_new_list, new_names, without_home, written_keyword}
 use Rattle.meson_sources.proofs.SourcesAdded.{gets}
-use Rattle.meson_sources.proofs.TargetMarks.{files_stand}
-use Rattle.meson_sources.proofs.TargetsFound.{targets_stand}
+use Rattle.meson_sources.proofs.added.Counts.{elements_are, plain_count}
+use Rattle.meson_sources.proofs.added.Homes.{as_many, checked_marks, not_empty, Home, all_stand, marked_home, keyword_there, some_first}
+use Rattle.meson_sources.proofs.added.Lists.{Holding, all_more, arguments_are, other_there, put_last, keyword_grown, last_there, wrapped_grown}
+use Rattle.meson_sources.proofs.met.Standing.{TargetThere, targets_stand}
+use Rattle.meson_sources.proofs.met.Targets.{files_stand}
 
 -- a list cut at one of its elements
 record CutAt {A : Type 0} (xs : List A) (n : ℕ) (x : A) : Type 0 where
@@ -91,7 +60,7 @@ module _ (old : Loaded) (is : IsProject old) (c : Placed (Call Span)) (t : Targe
         level = subst LevelFile (some-injective _ _ (sym is_now ∙ is_new)) low;
         place = again.there;
         is_place = ap (λ u. list_at u path) (sym put) ∙ again.is_there;
-        none = ap holds_pairs (again.bracket ∙ q.bracket ∙ t.is_round);
+        no_pairs = ap holds_pairs (again.bracket ∙ q.bracket ∙ t.is_round);
         are = ap elements again.list ∙ elements_with q.place.list ys ∙ ys_are;
         only = record {
           tree = tree;

@@ -1,7 +1,6 @@
 -- The names of the keyword arguments of files are texts.
-use Rattle.std.proofs.Common.{codes, refl}
-use Rattle.std.specs.Str.{IsUtf8}
 use Rattle.meson_calls.proofs.IdentifierTexts.{key_text}
+use Rattle.meson_sources.proofs.Words.{codes, IsUtf8, refl}
 
 pub sources_text : IsUtf8 (codes "sources")
 sources_text = key_text (codes "sources") refl

@@ -1,58 +1,23 @@
 -- All files of a target after a removal.
-use Rattle.std.specs.Prelude.{All, Bool, Ok}
-use Rattle.std.proofs.Common.{◌≡◌, ℕ, ◌≤◌, true, false, List, [], ◌∷◌, length, map, Some, refl, sym, ap, ◌∙◌, subst}
-use Rattle.meson_lex.specs.Literals.{value}
-use Rattle.meson_lex.specs.declared.kinds.Span.{Span}
-use Rattle.meson_splice.specs.Patch.{then_ok}
-use Rattle.meson_syntax.specs.declared.operator.StringKind.{StringKind}
-use Rattle.meson_syntax.specs.Operators.{string_kind}
-use Rattle.meson_syntax.specs.Tree.{Nowhere, Expression, string, Arguments}
-use Rattle.meson_syntax.proofs.paths.Every.{Every, every-append}
-use Rattle.meson_calls.specs.declared.call.CallRef.{CallRef}
 use Rattle.meson_calls.specs.declared.call.Role.TheVariants as role
-use Rattle.meson_calls.specs.Calls.{Call, Numbered, keyword}
-use Rattle.meson_variables.specs.Expansion.{Expansion, Mark, Stand, fixed, literal_item, max_followed}
-use Rattle.meson_calls.specs.Finding.{the_call}
-use Rattle.meson_calls.specs.Loading.{IsProject, Loaded, project}
-use Rattle.meson_calls.specs.Project.{Placed, placed}
-use Rattle.meson_calls.specs.Roles.{one_of, target_functions}
-use Rattle.meson_variables.specs.TargetSources.{hidden, items, source_marks}
-use Rattle.meson_calls.specs.NamedArguments.{once, sources_key}
-use Rattle.meson_steps.specs.ListSteps.{MayStandBetween}
-use Rattle.meson_steps.specs.Names.{checked_names, distinct}
-use Rattle.meson_steps.specs.ResultLimits.{plain_trees}
-use Rattle.meson_steps.specs.Steps.{Step, all_stepped}
-use Rattle.meson_steps.proofs.PlainTrees.{trees_stand}
-use Rattle.meson_steps.proofs.WentWell.{once_was, then_was}
-use Rattle.meson_sources.specs.Effects.{AreSpotsOf, goes}
-use Rattle.meson_sources.specs.SourceEdits.{Spot, checked_extra, extra_key, extra_marks, removal_steps, removed_at, spots_named}
 use Rattle.meson_sources.specs.WholeExtras.{AllExtrasShrink}
-use Rattle.meson_sources.specs.WholeSources.{AllSourcesShrink, FilesShrink, file_names}
-use Rattle.meson_sources.proofs.Bares.{bare_mark, expand_with, values_of}
-use Rattle.meson_sources.proofs.CallForms.{CallIn, bare_arguments, called, target_at}
-use Rattle.meson_sources.proofs.CallLeft.{Fine, are_named, at_call, call_from, call_left, each_left, fine, first, first_of, literals, moved_place, named_left, own_fine, values_stand}
-use Rattle.meson_sources.proofs.CallTrees.{Expand, keyed, list_with, whole}
-use Rattle.meson_sources.proofs.ExtraCalls.{as_sources, as_whole}
-use Rattle.meson_sources.proofs.ExtrasAddable.{extra_once}
-use Rattle.meson_sources.proofs.FileKinds.{FileKind, met_in, of_extras, of_sources}
-use Rattle.meson_sources.proofs.FoundAgain.{Names}
-use Rattle.meson_sources.proofs.ItemsThere.{Holds, keyed_hold, whole_holds}
-use Rattle.meson_sources.proofs.KeyCounts.{few_once}
-use Rattle.meson_sources.proofs.LeftFiles.{CallStays, FilesStay, NamedGoes, call_moved, left_answered}
-use Rattle.meson_sources.proofs.Losses.{EachLoses, Loses}
-use Rattle.meson_sources.proofs.LostArguments.{FirstStays, keyed_left, keys_stay, whole_left}
-use Rattle.meson_sources.proofs.LostMarks.{Left, slot_gone, stand_left}
-use Rattle.meson_sources.proofs.NamedSpots.{named_spots}
-use Rattle.meson_sources.proofs.NodesMoved.{place_left}
-use Rattle.meson_sources.proofs.RemovedSources.{named_stand}
-use Rattle.meson_sources.proofs.RemovedSpots.{all_in}
-use Rattle.meson_sources.proofs.SpotsApart.{AreApart}
-use Rattle.meson_sources.proofs.SpotsDiffer.{spots_apart}
-use Rattle.meson_sources.proofs.SpotsHeld.{Held, items_held}
-use Rattle.meson_sources.proofs.Standings.{AllStand}
-use Rattle.meson_sources.proofs.StringsThere.{StringIn}
-use Rattle.meson_sources.proofs.TargetMarks.{files_stand}
-use Rattle.meson_sources.proofs.TellsKept.{FirstIs}
+use Rattle.meson_sources.proofs.Words.{All, Ok, [], ap, Bool, false, length, List, map, refl, Some, subst, sym, true, ℕ, ◌∙◌, ◌∷◌, ◌≡◌, ◌≤◌, value, Span, then_ok, string_kind, Arguments, Expression, Nowhere, string, StringKind, Every, every-append, Call, keyword, Numbered, the_call, IsProject, Loaded, project, once, sources_key, Placed, placed, one_of, target_functions, CallRef, Expansion, fixed, literal_item, Mark, max_followed, Stand, hidden, items, source_marks, MayStandBetween, checked_names, distinct, plain_trees, all_stepped, Step, trees_stand, once_was, then_was, AreSpotsOf, goes, checked_extra, extra_key, extra_marks, removal_steps, removed_at, Spot, spots_named, AllSourcesShrink, file_names, FilesShrink}
+use Rattle.meson_sources.proofs.added.Homes.{extra_once}
+use Rattle.meson_sources.proofs.gone.Calls.{Fine, are_named, at_call, call_from, call_left, each_left, fine, first, first_of, literals, moved_place, named_left, own_fine, values_stand}
+use Rattle.meson_sources.proofs.gone.Held.{Holds, keyed_hold, whole_holds, Held, items_held}
+use Rattle.meson_sources.proofs.gone.Losses.{EachLoses, Loses, place_left}
+use Rattle.meson_sources.proofs.gone.Marks.{FirstStays, keyed_left, keys_stay, whole_left, Left, slot_gone, stand_left}
+use Rattle.meson_sources.proofs.gone.Named.{named_spots, spots_apart}
+use Rattle.meson_sources.proofs.gone.Spots.{AreApart}
+use Rattle.meson_sources.proofs.gone.Trees.{named_stand, all_in}
+use Rattle.meson_sources.proofs.met.Arguments.{Expand, keyed, list_with, whole, as_sources, as_whole, few_once}
+use Rattle.meson_sources.proofs.met.Files.{FileKind, met_in, of_extras, of_sources, CallStays, FilesStay, NamedGoes, call_moved, left_answered}
+use Rattle.meson_sources.proofs.met.Marks.{bare_mark, expand_with, values_of}
+use Rattle.meson_sources.proofs.met.Standing.{AllStand, StringIn}
+use Rattle.meson_sources.proofs.met.Targets.{files_stand}
+use Rattle.meson_sources.proofs.told.FoundAgain.{Names}
+use Rattle.meson_sources.proofs.told.Kept.{FirstIs}
+use Rattle.meson_sources.proofs.trees.Calls.{CallIn, bare_arguments, called, target_at}
 
 -- what is met of a target stands where its slots say
 abbrev pub MetHolds : FileKind → Type 0

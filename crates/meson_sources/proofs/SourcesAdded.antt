@@ -1,38 +1,11 @@
 -- The list that gets sources has its elements in their order, and the new ones behind those without a name.
-use Rattle.std.proofs.Common.{◌≡◌, ℕ, suc, true, false, List, [], ◌∷◌, ◌++◌, append_assoc, length, length-append, take, drop, Some, refl, sym, ap, ap₂, ◌∙◌, arith}
-use Rattle.std.specs.Prelude.{Bool, option_and_then, option_map}
-use Rattle.std.specs.List.{filter}
-use Rattle.meson_syntax.specs.declared.operator.Bracket.{Bracket}
-use Rattle.meson_syntax.specs.Operators.{holds_pairs, holds_values}
-use Rattle.meson_syntax.specs.Grammar.{LevelArguments, LevelFile}
-use Rattle.meson_syntax.specs.Paths.{ListAt, list_at, nth}
-use Rattle.meson_syntax.specs.Tree.{Nowhere, Plain, Argument, plain, named, pair, arguments_of, erase}
-use Rattle.meson_syntax.proofs.parsing.Steps.{some-injective}
-use Rattle.meson_syntax.proofs.paths.Reaching.{and-then-some, list-fits, map-some}
-use Rattle.meson_edit.specs.Edits.{Edit, First, After, edited, edited_elements, edited_list, elements, first_element, element_added, with_elements}
-use Rattle.meson_calls.specs.declared.call.CallRef.{CallRef}
-use Rattle.meson_calls.specs.Calls.{keyword}
-use Rattle.meson_calls.specs.Loading.{IsProject, Loaded, project}
-use Rattle.meson_variables.specs.TargetSources.{home, source_marks}
-use Rattle.meson_calls.specs.NamedArguments.{once, sources_key}
-use Rattle.meson_calls.proofs.ListNodes.{values_no_pairs}
-use Rattle.meson_steps.specs.ListSteps.{MayStandBetween}
-use Rattle.meson_steps.specs.Names.{checked_names}
-use Rattle.meson_steps.specs.ResultLimits.{plain_trees}
-use Rattle.meson_steps.specs.Steps.{all_stepped, step_in, stepped}
-use Rattle.meson_steps.proofs.Insertable.{elements_with, there_again}
-use Rattle.meson_steps.proofs.PlainTrees.{plain_place, tree_is}
-use Rattle.meson_steps.proofs.WentWell.{once_was, then_was}
-use Rattle.meson_steps.proofs.WithOne.{all_nth, change_made}
-use Rattle.meson_sources.specs.Effects.{ListGets, SourcesAreAdded, elements_found, not_plain, strings}
 use Rattle.meson_sources.specs.SourceEdits as edits
-use Rattle.meson_sources.specs.SourceEdits.{elements_there, inserted_in, is_plain, new_names, plain_len, written_source}
-use Rattle.meson_sources.proofs.Homes.{Home, all_stand, list_levels}
-use Rattle.meson_sources.proofs.OnlyLists.{inserted_only, unchanged}
-use Rattle.meson_sources.proofs.PlainCounts.{count_erased, elements_are, plain_count, plain_count_is}
-use Rattle.meson_sources.proofs.SourcesAddable.{sources_home}
-use Rattle.meson_sources.proofs.TargetMarks.{files_stand}
-use Rattle.meson_sources.proofs.TargetsFound.{targets_stand}
+use Rattle.meson_sources.proofs.Words.{filter, option_and_then, option_map, [], ap, append_assoc, ap₂, arith, Bool, drop, false, length, length-append, List, refl, Some, suc, sym, take, true, ℕ, ◌++◌, ◌∙◌, ◌∷◌, ◌≡◌, LevelArguments, LevelFile, holds_pairs, holds_values, list_at, ListAt, nth, Argument, arguments_of, erase, named, Nowhere, pair, Plain, plain, Bracket, some-injective, and-then-some, list-fits, map-some, After, Edit, edited, edited_elements, edited_list, element_added, elements, First, first_element, with_elements, keyword, IsProject, Loaded, project, once, sources_key, CallRef, values_no_pairs, home, source_marks, MayStandBetween, checked_names, plain_trees, all_stepped, step_in, stepped, elements_with, there_again, plain_place, tree_is, once_was, then_was, all_nth, change_made, elements_found, ListGets, not_plain, SourcesAreAdded, strings, elements_there, inserted_in, is_plain, new_names, plain_len, written_source}
+use Rattle.meson_sources.proofs.added.Counts.{count_erased, elements_are, plain_count, plain_count_is}
+use Rattle.meson_sources.proofs.added.Homes.{Home, all_stand, list_levels, sources_home}
+use Rattle.meson_sources.proofs.added.Lists.{inserted_only, unchanged}
+use Rattle.meson_sources.proofs.met.Standing.{targets_stand}
+use Rattle.meson_sources.proofs.met.Targets.{files_stand}
 
 -- ---- a step, by what it leaves
 

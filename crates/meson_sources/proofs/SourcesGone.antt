@@ -1,30 +1,11 @@
 -- The sources and the extra files that are named are gone from all lists that held them, and nothing else is.
-use Rattle.std.specs.Prelude.{Result, Ok}
-use Rattle.std.proofs.Common.{◌≡◌, ℕ, List, Some, ap, ◌∙◌}
-use Rattle.meson_lex.specs.declared.kinds.Span.{Span}
-use Rattle.meson_splice.specs.Patch.{then_ok}
-use Rattle.meson_syntax.specs.Tree.{Plain}
-use Rattle.meson_calls.specs.declared.refusal.Refusal.{Refusal}
 use Rattle.meson_calls.specs.Calls as calls
-use Rattle.meson_variables.specs.Expansion.{Mark}
-use Rattle.meson_calls.specs.Loading.{IsProject, Loaded, project}
-use Rattle.meson_calls.specs.NamedArguments.{once, sources_key}
-use Rattle.meson_variables.specs.TargetSources.{source_marks}
-use Rattle.meson_steps.specs.Names.{checked_names, distinct}
-use Rattle.meson_steps.specs.ResultLimits.{plain_trees}
-use Rattle.meson_steps.specs.Steps.{Step, all_stepped}
-use Rattle.meson_steps.proofs.PlainTrees.{trees_stand}
-use Rattle.meson_steps.proofs.WentWell.{once_was, then_was}
-use Rattle.meson_sources.specs.Effects.{ExtraIsRemoved, NamesGo, SourcesAreRemoved}
-use Rattle.meson_sources.specs.SourceEdits.{checked_extra, extra_marks, removal_steps, removed_at, spots_named}
-use Rattle.meson_sources.proofs.Standings.{AllStand}
-use Rattle.meson_sources.proofs.ExtrasAddable.{checked_marks}
-use Rattle.meson_sources.proofs.NamedSpots.{named_spots}
-use Rattle.meson_sources.proofs.TreesLeft.{trees_left}
-use Rattle.meson_sources.proofs.RemovedSources.{named_stand}
-use Rattle.meson_sources.proofs.RemovedSpots.{all_in}
-use Rattle.meson_sources.proofs.SpotsDiffer.{spots_apart}
-use Rattle.meson_sources.proofs.TargetMarks.{files_stand}
+use Rattle.meson_sources.proofs.Words.{Ok, Result, ap, List, Some, ℕ, ◌∙◌, ◌≡◌, Span, then_ok, Plain, IsProject, Loaded, project, once, sources_key, Refusal, Mark, source_marks, checked_names, distinct, plain_trees, all_stepped, Step, trees_stand, once_was, then_was, ExtraIsRemoved, NamesGo, SourcesAreRemoved, checked_extra, extra_marks, removal_steps, removed_at, spots_named}
+use Rattle.meson_sources.proofs.added.Homes.{checked_marks}
+use Rattle.meson_sources.proofs.gone.Named.{named_spots, spots_apart}
+use Rattle.meson_sources.proofs.gone.Trees.{trees_left, named_stand, all_in}
+use Rattle.meson_sources.proofs.met.Standing.{AllStand}
+use Rattle.meson_sources.proofs.met.Targets.{files_stand}
 
 module _ (old : Loaded) (is : IsProject old) (marks : List (Mark Span)) (stand : AllStand (project old) marks) where
   abbrev spots_steps : List (List ℕ) → List (Mark Span) → Result (List Step) Refusal

@@ -1,9 +1,6 @@
-use Rattle.std.proofs.Common.{sym, ap, ◌∙◌, arith}
-use Rattle.std.specs.Prelude.{is_some}
-use Rattle.meson_syntax.specs.View.{arg_view}
-use Rattle.meson_calls.specs.Calls.{value_without_name}
-use Rattle.meson_sources.proofs.Plains.{one_plain, not_plain, all_counted}
 use Rattle.meson_sources.proofs.editing.count_plain.Goals as goal
+use Rattle.meson_sources.proofs.Words.{is_some, ap, arith, sym, ◌∙◌, arg_view, value_without_name}
+use Rattle.meson_sources.proofs.added.Counts.{one_plain, not_plain, all_counted}
 use Rattle.meson_sources.proofs.editing.count_plain.Goals.{then-is_plain, else-is_plain}
 
 pub loop-i-preserved : goal.loop-i-preserved

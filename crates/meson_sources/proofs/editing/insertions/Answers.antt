@@ -1,8 +1,5 @@
-use Rattle.std.proofs.Common.{◌++◌, map, ap, ◌∙◌}
-use Rattle.std.specs.Prelude.{Some}
-use Rattle.meson_steps.specs.ListSteps.{bare}
-use Rattle.meson_sources.specs.SourceEdits.{insertion_steps}
 use Rattle.meson_sources.proofs.editing.insertions.Goals as goal
+use Rattle.meson_sources.proofs.Words.{ap, map, Some, ◌++◌, ◌∙◌, bare, insertion_steps}
 
 pub returns-clause-done : goal.returns-clause-done
 returns-clause-done c =

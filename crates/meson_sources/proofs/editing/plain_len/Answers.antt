@@ -1,14 +1,7 @@
-use Rattle.std.proofs.Common.{length, ap, ◌∙◌}
-use Rattle.std.specs.List.{filter}
-use Rattle.meson_splice.specs.Files.{bytes_at}
-use Rattle.meson_syntax.specs.Paths.{ListAt, list_at}
-use Rattle.std.specs.Prelude.{option_map}
-use Rattle.meson_syntax.specs.View.{args_view, view}
-use Rattle.meson_sources.specs.SourceEdits.{is_plain}
-use Rattle.meson_calls.proofs.Loads.{as_many}
-use Rattle.meson_sources.proofs.Plains.{no_plains, plains_nowhere, plains_there}
-use Rattle.meson_lex.specs.declared.kinds.Span.{Span}
 use Rattle.meson_sources.proofs.editing.plain_len.Goals as goal
+use Rattle.meson_calls.proofs.Loads.{as_many}
+use Rattle.meson_sources.proofs.Words.{filter, option_map, ap, length, ◌∙◌, Span, bytes_at, list_at, ListAt, args_view, view, is_plain}
+use Rattle.meson_sources.proofs.added.Counts.{no_plains, plains_nowhere, plains_there}
 
 pub returns-then-list-trees-clause-counted : goal.returns-then-list-trees-clause-counted
 returns-then-list-trees-clause-counted c = no_plains c.args.variables.now.files.now c.args.variables.now.trees.now c.args.list.now c.if-list-trees.true

@@ -1,22 +1,7 @@
-use Rattle.std.proofs.Common.{◌≡◌, ◌<◌, ◌≤◌, length, map, refl, sym, ap, ◌∙◌, subst}
-use Rattle.std.specs.Str.{IsUtf8}
-use Rattle.std.specs.Prelude.{Ok, Err}
-use Rattle.std.proofs.lemmas.Result.{err_from_is_err_and}
-use Rattle.meson_calls.specs.declared.refusal.Refusal.TheVariants.{DuplicateKeyword}
-use Rattle.meson_calls.specs.Calls.{value_with_name}
-use Rattle.meson_variables.specs.Expansion.{max_followed}
-use Rattle.meson_steps.specs.ListSteps.{bare}
-use Rattle.meson_variables.specs.CodeVariables.{project_of}
-use Rattle.meson_sources.specs.inside.Naming.{new_among}
-use Rattle.meson_variables.specs.TargetSources.{or_call, or_option}
-use Rattle.meson_calls.specs.NamedArguments.{kept_args}
-use Rattle.meson_variables.specs.ExpandedArguments.{all_gathered}
-use Rattle.meson_sources.specs.SourceEdits.{insertion_steps, plain_len}
-use Rattle.meson_steps.specs.Names.{checked_names}
-use Rattle.meson_variables.specs.Tallies.{gathered}
-use Rattle.meson_sources.proofs.SourcesMeant.{added, added_twice}
-use Rattle.meson_sources.proofs.KeyTexts.{sources_text}
 use Rattle.meson_sources.proofs.editing.sources_added.Goals as goal
+use Rattle.meson_sources.proofs.Words.{Err, Ok, ap, IsUtf8, length, map, refl, subst, sym, ◌<◌, ◌∙◌, ◌≡◌, ◌≤◌, err_from_is_err_and, value_with_name, kept_args, DuplicateKeyword, project_of, all_gathered, max_followed, gathered, or_call, or_option, bare, checked_names, insertion_steps, plain_len, new_among}
+use Rattle.meson_sources.proofs.KeyTexts.{sources_text}
+use Rattle.meson_sources.proofs.commands.Meant.{added, added_twice}
 
 pub at_most_once-requires : goal.at_most_once-requires
 at_most_once-requires c = subst IsUtf8 (sym c.as_slice.ensures) sources_text

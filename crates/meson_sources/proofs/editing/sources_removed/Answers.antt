@@ -1,19 +1,7 @@
-use Rattle.std.proofs.Common.{◌≡◌, ◌<◌, ◌≤◌, [], length, sym, ap, ◌∙◌, subst}
-use Rattle.std.specs.Str.{IsUtf8}
-use Rattle.std.specs.Prelude.{Ok, Err}
-use Rattle.std.proofs.lemmas.Result.{err_from_is_err_and}
-use Rattle.meson_calls.specs.declared.refusal.Refusal.TheVariants.{DuplicateKeyword}
-use Rattle.meson_calls.specs.Calls.{value_with_name}
-use Rattle.meson_variables.specs.Expansion.{max_followed}
-use Rattle.meson_variables.specs.CodeVariables.{project_of}
-use Rattle.meson_calls.specs.NamedArguments.{kept_args}
-use Rattle.meson_variables.specs.ExpandedArguments.{all_gathered}
-use Rattle.meson_steps.specs.Names.{checked_names}
-use Rattle.meson_variables.specs.Tallies.{gathered}
-use Rattle.meson_sources.proofs.Marked.{as_many_numbers}
-use Rattle.meson_sources.proofs.SourcesMeant.{ms, fields, removed_twice, gone, not_gone}
-use Rattle.meson_sources.proofs.KeyTexts.{sources_text}
 use Rattle.meson_sources.proofs.editing.sources_removed.Goals as goal
+use Rattle.meson_sources.proofs.Words.{Err, Ok, [], ap, IsUtf8, length, subst, sym, ◌<◌, ◌∙◌, ◌≡◌, ◌≤◌, err_from_is_err_and, value_with_name, kept_args, DuplicateKeyword, project_of, all_gathered, max_followed, gathered, checked_names}
+use Rattle.meson_sources.proofs.KeyTexts.{sources_text}
+use Rattle.meson_sources.proofs.commands.Meant.{as_many_numbers, ms, fields, removed_twice, gone, not_gone}
 
 pub at_most_once-requires : goal.at_most_once-requires
 at_most_once-requires c = subst IsUtf8 (sym c.as_slice.ensures) sources_text

@@ -1,15 +1,7 @@
-use Rattle.std.proofs.Common.{◌≡◌, ◌<◌, ◌≤◌, length, sym, ap, ◌∙◌, subst}
-use Rattle.std.specs.Str.{IsUtf8}
-use Rattle.std.specs.Prelude.{Ok, Err}
-use Rattle.std.proofs.lemmas.Result.{err_from_is_err_and}
-use Rattle.meson_calls.specs.declared.refusal.Refusal.TheVariants.{DuplicateKeyword}
-use Rattle.meson_calls.specs.Calls.{value_with_name}
-use Rattle.meson_variables.specs.CodeVariables.{project_of}
-use Rattle.meson_calls.specs.NamedArguments.{kwargs_key, kept_args}
-use Rattle.meson_steps.specs.Names.{checked_names}
-use Rattle.meson_sources.proofs.ExtrasMeant.{extra_once, extra_twice}
-use Rattle.meson_sources.proofs.KeyTexts.{extra_text}
 use Rattle.meson_sources.proofs.extra_edits.checked_extra.Goals as goal
+use Rattle.meson_sources.proofs.Words.{Err, Ok, ap, IsUtf8, length, subst, sym, ◌<◌, ◌∙◌, ◌≡◌, ◌≤◌, err_from_is_err_and, value_with_name, kept_args, kwargs_key, DuplicateKeyword, project_of, checked_names}
+use Rattle.meson_sources.proofs.KeyTexts.{extra_text}
+use Rattle.meson_sources.proofs.commands.Meant.{extra_once, extra_twice}
 
 pub at_most_once-requires : goal.at_most_once-requires
 at_most_once-requires c = subst IsUtf8 (sym c.as_slice-2.ensures) extra_text

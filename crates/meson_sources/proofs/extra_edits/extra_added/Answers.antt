@@ -1,17 +1,6 @@
-use Rattle.std.proofs.Common.{length, map, refl, sym, ap, ◌∙◌, subst}
-use Rattle.std.proofs.lemmas.Result.{err_from_is_err_and}
-use Rattle.meson_calls.specs.Calls.{value_with_name}
-use Rattle.meson_steps.specs.ListSteps.{bare}
-use Rattle.meson_variables.specs.CodeVariables.{project_of}
-use Rattle.meson_sources.specs.inside.Naming.{new_among}
-use Rattle.meson_variables.specs.TargetSources.{or_option}
-use Rattle.meson_calls.specs.NamedArguments.{kept_args}
-use Rattle.meson_sources.specs.SourceEdits.{extra_key, insertion_steps, plain_len}
-use Rattle.meson_variables.specs.Tallies.{gathered}
-use Rattle.meson_sources.specs.inside.Targeted.{lone_or_new}
-use Rattle.meson_steps.specs.Meanings.{AreBehind}
-use Rattle.meson_sources.proofs.ExtrasAdded.{added_unchecked, home_meant, call_meant, call_refused}
 use Rattle.meson_sources.proofs.extra_edits.extra_added.Goals as goal
+use Rattle.meson_sources.proofs.Words.{ap, length, map, refl, subst, sym, ◌∙◌, err_from_is_err_and, value_with_name, kept_args, project_of, gathered, or_option, bare, AreBehind, extra_key, insertion_steps, plain_len, new_among, lone_or_new}
+use Rattle.meson_sources.proofs.commands.Meant.{added_unchecked, home_meant, call_meant, call_refused}
 
 pub returns-in_err-marks-clause-refused : goal.returns-in_err-marks-clause-refused
 returns-in_err-marks-clause-refused c =

@@ -1,13 +1,5 @@
-use Rattle.std.proofs.Common.{◌∙◌, ap}
-use Rattle.meson_calls.specs.Project.{place}
-use Rattle.meson_calls.specs.Calls.{value_with_name}
-use Rattle.meson_variables.specs.Expansion.{fixed}
-use Rattle.meson_variables.specs.CodeVariables.{project_of}
-use Rattle.meson_calls.specs.NamedArguments.{kept_args}
-use Rattle.meson_variables.specs.ExpandedArguments.{arguments_by}
-use Rattle.meson_variables.specs.Tallies.{gathered, expanded}
-use Rattle.meson_sources.specs.SourceEdits.{extra_key}
 use Rattle.meson_sources.proofs.extra_edits.extra_met.Goals as goal
+use Rattle.meson_sources.proofs.Words.{ap, ◌∙◌, value_with_name, kept_args, place, project_of, arguments_by, fixed, expanded, gathered, extra_key}
 
 pub returns : goal.returns
 returns c =

@@ -1,10 +1,6 @@
-use Rattle.std.proofs.Common.{[], ap}
-use Rattle.std.proofs.lemmas.Result.{err_from_is_err_and}
-use Rattle.meson_variables.specs.CodeVariables.{project_of}
-use Rattle.meson_variables.specs.Tallies.{gathered}
-use Rattle.meson_sources.proofs.Marked.{as_many_numbers}
-use Rattle.meson_sources.proofs.ExtrasMeant.{extras, extra_fields, extra_unchecked, extra_gone, extra_not_gone}
 use Rattle.meson_sources.proofs.extra_edits.extra_removed.Goals as goal
+use Rattle.meson_sources.proofs.Words.{[], ap, err_from_is_err_and, project_of, gathered}
+use Rattle.meson_sources.proofs.commands.Meant.{as_many_numbers, extras, extra_fields, extra_unchecked, extra_gone, extra_not_gone}
 
 pub returns-in_err-marks-clause-refused : goal.returns-in_err-marks-clause-refused
 returns-in_err-marks-clause-refused c =

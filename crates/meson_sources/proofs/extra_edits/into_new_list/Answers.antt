@@ -1,15 +1,6 @@
-use Rattle.std.proofs.Common.{◌≡◌, ◌-◌, ◌++◌, ◌∷◌, [], map, take, drop, subst, length, sym, ap, ◌∙◌, arith}
-use Rattle.std.specs.Prelude.{OnOk, Option, Some}
-use Rattle.std.proofs.Math.Seq.{drop-cons}
-use Rattle.std.proofs.lemmas.List.{map-append, append_assoc, take_all, length-drop}
-use Rattle.meson_edit.specs.Edits.{After}
-use Rattle.meson_steps.specs.declared.step.ListStep.{ListStep}
 use Rattle.meson_steps.specs.declared.step.ListEdit.TheVariants as code
-use Rattle.meson_steps.specs.ListSteps.{bare}
-use Rattle.meson_steps.specs.Steps.{step_in}
-use Rattle.meson_sources.specs.SourceEdits.{insertion_steps, written_keyword}
-use Rattle.meson_sources.specs.inside.Targeted.{new_list_steps}
 use Rattle.meson_sources.proofs.extra_edits.into_new_list.Goals as goal
+use Rattle.meson_sources.proofs.Words.{OnOk, [], ap, append_assoc, arith, drop, length, map, Option, Some, subst, sym, take, ◌++◌, ◌-◌, ◌∙◌, ◌∷◌, ◌≡◌, drop-cons, length-drop, map-append, take_all, After, bare, step_in, ListStep, insertion_steps, written_keyword, new_list_steps}
 
 pub returns-clause-done : goal.returns-clause-done
 returns-clause-done c =

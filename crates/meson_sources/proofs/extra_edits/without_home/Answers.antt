@@ -1,13 +1,8 @@
-use Rattle.std.proofs.Common.{◌<◌, length, map, sym, ◌∙◌, subst, arith}
-use Rattle.std.specs.Prelude.{OnOk}
-use Rattle.std.proofs.lemmas.List.{length-map}
-use Rattle.meson_calls.specs.NamedArguments.{IsFirstNamed}
-use Rattle.meson_calls.specs.Refusals.{RefusedAs}
-use Rattle.meson_steps.specs.Meanings.{AreBehind}
-use Rattle.meson_sources.proofs.ExtrasAdded.{lone}
-use Rattle.meson_calls.proofs.FirstValue.{not_a_name, pair_no_name}
-use Rattle.meson_calls.proofs.FirstValue.{good_value}
 use Rattle.meson_sources.proofs.extra_edits.without_home.Goals as goal
+use Rattle.meson_calls.specs.Refusals.{RefusedAs}
+use Rattle.meson_calls.proofs.FirstValue.{not_a_name, pair_no_name, good_value}
+use Rattle.meson_sources.proofs.Words.{OnOk, arith, length, map, subst, sym, ◌<◌, ◌∙◌, length-map, IsFirstNamed, AreBehind}
+use Rattle.meson_sources.proofs.commands.Meant.{lone}
 
 pub behind_value-requires : goal.behind_value-requires
 behind_value-requires c =

@@ -1,19 +1,8 @@
 -- The extra files of a call are those that its marks tell of, where the keyword is there once.
-use Rattle.std.proofs.Common.{rules, ◌<◌, ◌≤◌, length, sym, ap, ◌∙◌, subst}
-use Rattle.std.specs.Str.{IsUtf8}
-use Rattle.std.specs.Prelude.{Ok, Err}
-use Rattle.std.proofs.lemmas.Result.{err_from_is_err_and}
-use Rattle.meson_calls.specs.declared.refusal.Refusal.TheVariants.{DuplicateKeyword}
-use Rattle.meson_calls.specs.Calls.{value_with_name}
-use Rattle.meson_variables.specs.Expansion.{max_followed}
-use Rattle.meson_variables.specs.CodeVariables.{project_of}
-use Rattle.meson_calls.specs.NamedArguments.{kept_args}
-use Rattle.meson_variables.specs.TargetSources.{or_call, or_option}
-use Rattle.meson_variables.specs.Tallies.{gathered}
-use Rattle.meson_sources.specs.inside.Targeted.{extra_gathered}
-use Rattle.meson_sources.proofs.ExtrasTold.{told_once, told_twice}
-use Rattle.meson_sources.proofs.KeyTexts.{extra_text}
 use Rattle.meson_sources.proofs.extra_files.extra_files_of.Goals as goal
+use Rattle.meson_sources.proofs.Words.{Err, Ok, ap, IsUtf8, length, rules, subst, sym, ◌<◌, ◌∙◌, ◌≤◌, err_from_is_err_and, value_with_name, kept_args, DuplicateKeyword, project_of, max_followed, gathered, or_call, or_option, extra_gathered}
+use Rattle.meson_sources.proofs.KeyTexts.{extra_text}
+use Rattle.meson_sources.proofs.commands.Meant.{told_once, told_twice}
 
 pub at_most_once-requires : goal.at_most_once-requires
 at_most_once-requires c = subst IsUtf8 (sym c.as_slice.ensures) extra_text

@@ -1,8 +1,5 @@
-use Rattle.std.proofs.Common.{◌≡◌, ◌+◌, ◌++◌, drop, map}
-use Rattle.std.specs.Prelude.{Some}
-use Rattle.meson_steps.specs.ListSteps.{bare}
-use Rattle.meson_sources.specs.SourceEdits.{insertion_steps}
 use Rattle.meson_sources.proofs.inserting.insert.Given as goal
+use Rattle.meson_sources.proofs.Words.{drop, map, Some, ◌++◌, ◌+◌, ◌≡◌, bare, insertion_steps}
 
 abbrev pub invariant-loop-i : goal.invariant-loop-i
 invariant-loop-i l =

@@ -1,10 +1,7 @@
-use Rattle.std.proofs.Common.{rules, ◌∙◌, ap, map}
-use Rattle.std.specs.Prelude.{not}
-use Rattle.std.specs.List.{filter, list_any}
-use Rattle.std.proofs.lemmas.Fn.{filter_same}
-use Rattle.meson_sources.specs.inside.Naming.{has_value}
-use Rattle.meson_steps.proofs.Distincts.{filter_under}
 use Rattle.meson_sources.proofs.inserting.new_names.Goals as goal
+use Rattle.std.proofs.lemmas.Fn.{filter_same}
+use Rattle.meson_steps.proofs.Distincts.{filter_under}
+use Rattle.meson_sources.proofs.Words.{filter, list_any, not, ap, map, rules, ◌∙◌, has_value}
 
 pub returns : goal.returns
 returns c =

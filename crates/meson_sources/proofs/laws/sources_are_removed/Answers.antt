@@ -1,5 +1,5 @@
-use Rattle.meson_sources.proofs.SourcesGone.{sources-are-removed}
 use Rattle.meson_sources.proofs.laws.sources_are_removed.Goals as goal
+use Rattle.meson_sources.proofs.SourcesGone.{sources-are-removed}
 
 pub returns : goal.returns
 returns c = sources-are-removed

@@ -1,7 +1,5 @@
-use Rattle.std.proofs.Common.{◌≡◌, drop, map}
-use Rattle.std.specs.Prelude.{◌||◌}
-use Rattle.meson_sources.specs.inside.CodeSpots.{all_there, before_all, is_some_there, spot_view, spots_at, spots_in}
 use Rattle.meson_sources.proofs.removing.find_spots.Given as goal
+use Rattle.meson_sources.proofs.Words.{◌||◌, drop, map, ◌≡◌, all_there, before_all, is_some_there, spot_view, spots_at, spots_in}
 
 abbrev pub invariant-loop-i : goal.invariant-loop-i
 invariant-loop-i l =

@@ -1,10 +1,7 @@
-use Rattle.std.proofs.Common.{◌≡◌, sym, ap, ◌∙◌}
-use Rattle.std.specs.Cmp.Lexicographic.{pointwise}
-use Rattle.std.specs.Prelude.{true, ◌&&◌, nat_eq, nat_lt}
-use Rattle.std.proofs.lemmas.Bool.{eq-eqb}
-use Rattle.meson_sources.specs.SourceEdits.{is_path}
-use Rattle.meson_sources.proofs.SamePaths.{pointwise_is}
 use Rattle.meson_sources.proofs.removing.is_before.Goals as goal
+use Rattle.std.specs.Cmp.Lexicographic.{pointwise}
+use Rattle.meson_sources.proofs.Words.{nat_eq, nat_lt, ◌&&◌, ap, sym, true, ◌∙◌, ◌≡◌, eq-eqb, is_path}
+use Rattle.meson_sources.proofs.gone.Spots.{pointwise_is}
 
 pub returns-then-eq : goal.returns-then-eq
 returns-then-eq c =

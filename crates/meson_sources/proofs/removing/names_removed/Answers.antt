@@ -1,9 +1,5 @@
-use Rattle.std.proofs.Common.{map, sym, ap, ◌∙◌}
-use Rattle.std.proofs.lemmas.Result.{err_from_is_err_and}
-use Rattle.meson_steps.specs.ListSteps.{bare}
-use Rattle.meson_sources.specs.SourceEdits.{removal_steps, removed_at}
-use Rattle.meson_sources.specs.inside.CodeSpots.{all_spots_in, spot_view}
 use Rattle.meson_sources.proofs.removing.names_removed.Goals as goal
+use Rattle.meson_sources.proofs.Words.{ap, map, sym, ◌∙◌, err_from_is_err_and, bare, removal_steps, removed_at, all_spots_in, spot_view}
 
 pub returns-in_err-spots-clause-refused : goal.returns-in_err-spots-clause-refused
 returns-in_err-spots-clause-refused c =

@@ -1,9 +1,5 @@
-use Rattle.std.proofs.Common.{◌≡◌, ◌+◌, ◌≤◌, drop, map}
-use Rattle.std.specs.List.{count_by}
-use Rattle.meson_calls.specs.Project.{place_at}
-use Rattle.meson_sources.specs.SourceEdits.{is_before}
-use Rattle.meson_sources.specs.inside.CodeSpots.{spot_view}
 use Rattle.meson_sources.proofs.removing.number_without.Given as goal
+use Rattle.meson_sources.proofs.Words.{count_by, drop, map, ◌+◌, ◌≡◌, ◌≤◌, place_at, is_before, spot_view}
 
 abbrev pub invariant-loop-i : goal.invariant-loop-i
 invariant-loop-i l =

@@ -1,8 +1,5 @@
-use Rattle.std.proofs.Common.{◌≡◌, ◌++◌, [], drop, map, take}
-use Rattle.meson_calls.specs.Project.{place}
-use Rattle.meson_sources.specs.SourceEdits.{path_without}
-use Rattle.meson_sources.specs.inside.CodeSpots.{spot_view}
 use Rattle.meson_sources.proofs.removing.path_without.Given as goal
+use Rattle.meson_sources.proofs.Words.{[], drop, map, take, ◌++◌, ◌≡◌, place, path_without, spot_view}
 
 abbrev pub invariant-loop-depth : goal.invariant-loop-depth
 invariant-loop-depth l =

@@ -1,14 +1,7 @@
-use Rattle.std.proofs.Common.{◌≡◌, ◌+◌, [], ◌∷◌, ◌++◌, map, take, get_or, sym, ap, ◌∙◌}
-use Rattle.std.specs.Prelude.{Some}
-use Rattle.std.proofs.lemmas.List.{map-append, append_assoc}
-use Rattle.meson_calls.specs.Project.{place}
-use Rattle.meson_steps.specs.ListSteps.{bare}
 use Rattle.meson_steps.specs.declared.step.ListEdit.TheVariants as code
-use Rattle.meson_steps.specs.declared.step.ListStep.{ListStep}
-use Rattle.meson_sources.specs.SourceEdits.{removal, spot_without}
-use Rattle.meson_sources.specs.inside.CodeSpots.{spot_view}
-use Rattle.meson_sources.proofs.RemovalsInTurn.{one_step, steps_from}
 use Rattle.meson_sources.proofs.removing.removals.Goals as goal
+use Rattle.meson_sources.proofs.Words.{[], ap, append_assoc, get_or, map, Some, sym, take, ◌++◌, ◌+◌, ◌∙◌, ◌∷◌, ◌≡◌, map-append, place, bare, ListStep, removal, spot_without, spot_view}
+use Rattle.meson_sources.proofs.commands.Removals.{one_step, steps_from}
 
 pub loop-i-preserved : goal.loop-i-preserved
 loop-i-preserved c =

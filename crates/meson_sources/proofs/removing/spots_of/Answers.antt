@@ -1,10 +1,7 @@
-use Rattle.std.proofs.Common.{◌≡◌, ◌+◌, ◌∷◌, length, map, drop, get_or, sym, ap, ◌∙◌, add-one, rules, arith}
-use Rattle.std.proofs.lemmas.Grind.{common_steps}
-use Rattle.std.specs.Prelude.{true}
-use Rattle.std.proofs.Math.Seq.{drop-cons}
-use Rattle.meson_sources.specs.inside.CodeSpots.{joined_spots, spot_view, spots_at, spots_of_names}
-use Rattle.meson_sources.proofs.SpotsFound.{next_name}
 use Rattle.meson_sources.proofs.removing.spots_of.Goals as goal
+use Rattle.std.proofs.lemmas.Grind.{common_steps}
+use Rattle.meson_sources.proofs.Words.{add-one, ap, arith, drop, get_or, length, map, rules, sym, true, ◌+◌, ◌∙◌, ◌∷◌, ◌≡◌, drop-cons, joined_spots, spot_view, spots_at, spots_of_names}
+use Rattle.meson_sources.proofs.commands.Removals.{next_name}
 
 pub loop-i-preserved : goal.loop-i-preserved
 loop-i-preserved c =

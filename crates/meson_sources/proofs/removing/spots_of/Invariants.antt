@@ -1,6 +1,5 @@
-use Rattle.std.proofs.Common.{◌≡◌, drop, map}
-use Rattle.meson_sources.specs.inside.CodeSpots.{all_spots_in, joined_spots, spot_view}
 use Rattle.meson_sources.proofs.removing.spots_of.Given as goal
+use Rattle.meson_sources.proofs.Words.{drop, map, ◌≡◌, all_spots_in, joined_spots, spot_view}
 
 abbrev pub invariant-loop-i : goal.invariant-loop-i
 invariant-loop-i l =

@@ -1,12 +1,8 @@
-use Rattle.std.proofs.Common.{subst}
-use Rattle.std.specs.Prelude.{IfOk}
-use Rattle.meson_calls.specs.Loading.{project}
-use Rattle.meson_calls.specs.NotedProjects.{loaded_in}
+use Rattle.meson_sources.proofs.targeting.on_target.Goals as goal
 use Rattle.meson_calls.specs.Refusals.{RefusedAs}
 use Rattle.meson_steps.specs.Plans.{ArePlanned}
-use Rattle.meson_sources.specs.Targeted.{target_steps}
-use Rattle.meson_sources.proofs.Planned.{all_mean}
-use Rattle.meson_sources.proofs.targeting.on_target.Goals as goal
+use Rattle.meson_sources.proofs.Words.{IfOk, subst, project, loaded_in, target_steps}
+use Rattle.meson_sources.proofs.commands.Targets.{all_mean}
 
 pub returns-clause-plan : goal.returns-clause-plan
 returns-clause-plan c =

@@ -1,0 +1,4 @@
+pub mod Lists
+pub mod Counts
+pub mod Homes
+pub mod Turns

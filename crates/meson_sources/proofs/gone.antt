@@ -1,0 +1,14 @@
+pub mod Spots
+pub mod Named
+pub mod Nodes
+pub mod Places
+pub mod OneElement
+pub mod NodeTwice
+pub mod Twice
+pub mod Trees
+pub mod Losses
+pub mod Marks
+pub mod Held
+pub mod Variables
+pub mod Calls
+pub mod InTurn

@@ -1,0 +1,14 @@
+pub mod Outcomes
+pub mod Marks
+pub mod Expressions
+pub mod Arguments
+pub mod Variables
+pub mod Ways
+pub mod Files
+pub mod GrownLists
+pub mod Arrivals
+pub mod ExtraArguments
+pub mod Standing
+pub mod Once
+pub mod Regions
+pub mod Targets
