@@ -1,5 +1,4 @@
 pub mod Reading
-pub mod Counting
 pub mod NoHelp
 pub mod Json
 pub mod HelpAlone

@@ -12,7 +12,7 @@ use Rattle.meson_command.specs.declared.asked.Action.TheVariants.{Run, Info, Scr
 use Rattle.meson_command.specs.declared.asked.Asked.{Asked}
 use Rattle.meson_json.specs.Titles.{is_title}
 use Rattle.meson_json.specs.Operations.{kwargs_operation, role_of}
-use Rattle.meson_command.specs.Counts.{count_of}
+use Rattle.meson_json.specs.Counts.{count_of}
 use Rattle.meson_command.specs.Operations.{options_word}
 use Rattle.meson_command.specs.Pairs.{lone_names, pairs_of}
 use Rattle.meson_command.specs.declared.fault.UsageFault.TheVariants.{Usage, BadTitle}

@@ -16,7 +16,7 @@ use Rattle.meson_calls.specs.declared.call.Role.{Role}
 use Rattle.meson_splice.specs.Patch.{then_ok}
 use Rattle.meson_command.specs.Actions.{action_of, count_in, history_by, kwargs_action, kwargs_by, list_by, list_with, listing_of, options_action, options_by, other_action, target_action, undo_of, word_at, words_at}
 use Rattle.meson_command.specs.Asking.{answer, asked_from, asked_of, help, is_dry, names_no_folder, texts_fit, title_in, version, with_texts, with_title}
-use Rattle.meson_command.specs.Counts.{count_of}
+use Rattle.meson_json.specs.Counts.{count_of}
 use Rattle.meson_command.specs.Laws.{HelpWhereAsked, IsNoCount, IsUnknown, TextsAreMisused, UsageMeansUnknown, VersionWhereAsked}
 use Rattle.meson_json.specs.Titles.{is_title}
 use Rattle.meson_json.specs.Operations.{kwargs_operation, role_of}

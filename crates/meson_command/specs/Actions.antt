@@ -10,7 +10,7 @@ use Rattle.meson_steps.specs.declared.command.Setting.{Setting}
 use Rattle.meson_steps.specs.declared.command.Setting.TheVariants as setting
 use Rattle.meson_json.specs.Operations.{kwargs_operation, role_of}
 use Rattle.meson_json.specs.Targets.{target_command}
-use Rattle.meson_command.specs.Counts.{count_of}
+use Rattle.meson_json.specs.Counts.{count_of}
 use Rattle.meson_command.specs.Operations.{operation_of_word, options_word}
 use Rattle.meson_command.specs.Pairs.{lone_names, pair_names, pairs_of}
 use Rattle.meson_command.specs.declared.asked.Action.{Action}

@@ -6,7 +6,7 @@ use Rattle.clap.specs.declared.error.kind.ErrorKind.TheVariants.{DisplayHelp, Di
 use Rattle.meson_command.specs.Actions.{action_of, has_flag, options_by, word_at}
 use Rattle.meson_command.specs.Asking.{asked_by, help, is_dry, names_no_folder, only_asks, only_shows, texts_fit, version, wants_json}
 use Rattle.meson_json.specs.Operations.{kwargs_operation, role_of}
-use Rattle.meson_command.specs.Counts.{count_of}
+use Rattle.meson_json.specs.Counts.{count_of}
 use Rattle.meson_command.specs.Operations.{operation_of_word, options_word}
 use Rattle.meson_command.specs.Pairs.{pair_names, pairs_of}
 use Rattle.meson_command.specs.Program.{program}

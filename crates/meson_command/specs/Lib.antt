@@ -1,7 +1,6 @@
 pub mod Program
 pub mod Operations
 pub mod Pairs
-pub mod Counts
 pub mod Actions
 pub mod Asking
 pub mod Rows

@@ -1,7 +1,7 @@
 //! What explains words that clap does not take.
 
 use crate::choices::{FUNCTIONS, KWARGS_OPERATIONS, OPTIONS_OPERATIONS, TARGET_OPERATIONS};
-use crate::count::count_of;
+use meson_json::count::count_of;
 use crate::subcommands::{SUBCOMMANDS, Subcommand};
 use clap::Error;
 use clap::error::ErrorKind;

@@ -4,7 +4,6 @@
 mod asked;
 mod choices;
 mod clap_faults;
-mod count;
 mod fault;
 mod help;
 mod history;

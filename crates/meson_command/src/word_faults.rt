@@ -2,7 +2,7 @@
 
 use crate::choices::{FUNCTIONS, KWARGS_OPERATIONS, OPTIONS_OPERATIONS, TARGET_OPERATIONS};
 use crate::clap_faults::add_usage;
-use crate::count::count_of;
+use meson_json::count::count_of;
 use crate::fault::UsageFault;
 use crate::keys::{explain_odd, explain_repeated};
 use crate::shell::quoted;

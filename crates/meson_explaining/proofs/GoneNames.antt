@@ -215,3 +215,4 @@ module _ (l : Loaded) (why : Refusal) (gone : is_gone why ≡ true)
       never_changed (command.OptionsSet pairs) role.Project (codes "/") set_option_entry pairs refl (λ p. after is_gone (checked_option p.0) _ (option_free is_gone p.0 refl) (λ u. tt))
   gone_meant (command.OptionsDelete names) =
       never_changed (command.OptionsDelete names) role.Project (codes "/") delete_option_entry names refl (λ n. after is_gone (checked_option n) _ (option_free is_gone n refl) (λ u. tt))
+  gone_meant (command.Argument name change) = λ e. absurd (let none : ◌≡◌ {A = Result (List Step) Refusal} (Ok []) (Err why) = e in let no : ⊥ = cc in no)

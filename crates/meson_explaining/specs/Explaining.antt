@@ -20,7 +20,7 @@ use Rattle.meson_explaining.specs.Sources.{extras_at, sources_at, source_notes}
 use Rattle.meson_explaining.specs.Targets.{in_use, no_file}
 use Rattle.meson_explaining.specs.Values.{value_notes}
 
--- the kind of the call that a command is about, and the id that is to name it
+-- the kind of the call that a command is about, and the id that is to name it; a change of a value is about none
 abbrev pub subject : Command → Role × List ℕ
 subject (command.SourcesAdd target sources) = (role.Target, target)
 subject (command.SourcesRemove target sources) = (role.Target, target)
@@ -36,6 +36,7 @@ subject (command.KwargsDelete r id keys) = (r, id)
 subject (command.KwargsInfo r id) = (r, id)
 subject (command.OptionsSet pairs) = (role.Project, codes "/")
 subject (command.OptionsDelete names) = (role.Project, codes "/")
+subject (command.Argument name change) = (role.Project, codes "/")
 
 abbrev pub only_help : List ℕ → Explanation
 only_help text = record { notes = []; help = text ∷ [] }
@@ -170,27 +171,41 @@ no_such_value = stated (codes "nothing there has this key, number or value") (co
 
 -- ---- each refusal
 
+abbrev pub call_explanation : Loaded → Command → Refusal → Explanation
+call_explanation l c refusal.NoProject = no_project l
+call_explanation l c refusal.NotFound = not_found l (subject c).0 (subject c).1
+call_explanation l c refusal.Ambiguous = ambiguous l (subject c).0 (subject c).1
+call_explanation l c (refusal.UnknownKey key) = unknown_key (subject c).0 key
+call_explanation l c (refusal.WrongKind key) = wrong_kind c key
+call_explanation l c refusal.BadName = not_valid c
+call_explanation l c refusal.HiddenKeywords = hidden l c
+call_explanation l c (refusal.DuplicateKeyword key) = duplicate l c key
+call_explanation l c (refusal.NotLiteral key) = not_literal l c key
+call_explanation l c (refusal.Shared name) = shared
+call_explanation l c (refusal.OtherKind key) = other_kind
+call_explanation l c refusal.ThereAlready = there_already
+call_explanation l c (refusal.NoSuchValue key) = no_such_value
+call_explanation l c refusal.SourceNotFound = not_there l c
+call_explanation l c refusal.Unresolved = unresolved l c
+call_explanation l c refusal.NotRemovable = not_removable l c
+call_explanation l c refusal.NameTaken = name_taken l c
+call_explanation l c refusal.NoFile = no_file l c
+call_explanation l c refusal.NotStatement = not_statement l c
+call_explanation l c (refusal.InUse name) = in_use l c name
+call_explanation l c refusal.TooDeep = too_deep
+call_explanation l c refusal.TooLarge = too_large
+call_explanation l c refusal.OutOfMemory = record { notes = []; help = [] }
+
+-- of a change of a value
+abbrev pub value_explanation : Refusal → Explanation
+value_explanation (refusal.Shared name) = shared
+value_explanation (refusal.OtherKind key) = other_kind
+value_explanation refusal.ThereAlready = there_already
+value_explanation (refusal.NoSuchValue key) = no_such_value
+value_explanation refusal.TooDeep = too_deep
+value_explanation refusal.TooLarge = too_large
+value_explanation _ = record { notes = []; help = [] }
+
 abbrev pub explanation : Loaded → Command → Refusal → Explanation
-explanation l c refusal.NoProject = no_project l
-explanation l c refusal.NotFound = not_found l (subject c).0 (subject c).1
-explanation l c refusal.Ambiguous = ambiguous l (subject c).0 (subject c).1
-explanation l c (refusal.UnknownKey key) = unknown_key (subject c).0 key
-explanation l c (refusal.WrongKind key) = wrong_kind c key
-explanation l c refusal.BadName = not_valid c
-explanation l c refusal.HiddenKeywords = hidden l c
-explanation l c (refusal.DuplicateKeyword key) = duplicate l c key
-explanation l c (refusal.NotLiteral key) = not_literal l c key
-explanation l c (refusal.Shared name) = shared
-explanation l c (refusal.OtherKind key) = other_kind
-explanation l c refusal.ThereAlready = there_already
-explanation l c (refusal.NoSuchValue key) = no_such_value
-explanation l c refusal.SourceNotFound = not_there l c
-explanation l c refusal.Unresolved = unresolved l c
-explanation l c refusal.NotRemovable = not_removable l c
-explanation l c refusal.NameTaken = name_taken l c
-explanation l c refusal.NoFile = no_file l c
-explanation l c refusal.NotStatement = not_statement l c
-explanation l c (refusal.InUse name) = in_use l c name
-explanation l c refusal.TooDeep = too_deep
-explanation l c refusal.TooLarge = too_large
-explanation l c refusal.OutOfMemory = record { notes = []; help = [] }
+explanation l (command.Argument name change) why = value_explanation why
+explanation l c why = call_explanation l c why

@@ -2,8 +2,8 @@
 
 ghost use Rattle.std.specs.Prelude.{◌≡◌, ◌∷◌, [], IfOk, filter, is_none, length, option_map};
 ghost use Rattle.meson_explaining.specs.Sources.{source_notes};
-ghost use Rattle.meson_explaining.specs.Explaining.{ambiguous, ambiguous_help, explanation, list_help, missing_notes, not_found, not_literal};
-ghost use Rattle.meson_explaining.specs.Explaining.{not_there, unknown_help, unknown_key, unnamed, with_info, wrong_kind};
+ghost use Rattle.meson_explaining.specs.Explaining.{ambiguous, ambiguous_help, call_explanation, explanation, list_help, missing_notes, not_found, not_literal};
+ghost use Rattle.meson_explaining.specs.Explaining.{not_there, unknown_help, unknown_key, unnamed, value_explanation, with_info, wrong_kind};
 
 use crate::calls::{Telling, add_few, add_further};
 use crate::explanation::{Explanation, Note};
@@ -275,6 +275,36 @@ pub fn explain(
     refusal: &Refusal,
 ) -> Result<Explanation, AllocError>
     ensures { IfOk result (λ e. e ≡ explanation project.now command.now refusal.now) }
+{
+    match command {
+        Command::Argument { .. } => explain_value(alloc, refusal),
+        _ => explain_call(alloc, project, command, refusal),
+    }
+}
+
+/// Why a change of a value is refused.
+fn explain_value(alloc: Global, refusal: &Refusal) -> Result<Explanation, AllocError>
+    ensures { IfOk result (λ e. e ≡ value_explanation refusal.now) }
+{
+    match refusal {
+        Refusal::Shared(_) => shared(alloc),
+        Refusal::OtherKind(_) => other_kind(alloc),
+        Refusal::ThereAlready => there_already(alloc),
+        Refusal::NoSuchValue(_) => no_such_value(alloc),
+        Refusal::TooDeep => too_deep(alloc),
+        Refusal::TooLarge => too_large(alloc),
+        _ => Ok(unexplained(alloc)),
+    }
+}
+
+/// Why any other command is refused.
+fn explain_call(
+    alloc: Global,
+    project: &Project,
+    command: &Command,
+    refusal: &Refusal,
+) -> Result<Explanation, AllocError>
+    ensures { IfOk result (λ e. e ≡ call_explanation project.now command.now refusal.now) }
 {
     match refusal {
         Refusal::NoProject => no_project(alloc, project),

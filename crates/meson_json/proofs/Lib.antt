@@ -1,4 +1,6 @@
 pub mod EachFacts
+mod Counting
+mod Dots
 pub mod LogFacts
 pub mod LogLines
 pub mod ScriptFacts

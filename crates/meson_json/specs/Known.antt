@@ -3,8 +3,16 @@ use Rattle.std.specs.Prelude.{ℕ, List, [], ◌∷◌, Bool, not, codes, bytes_
 use Rattle.std.specs.List.{list_any}
 use Rattle.serde_json.specs.Data.{Members}
 use Rattle.meson_json.specs.Each.{names_of_members}
+use Rattle.meson_steps.specs.declared.argument.ValueChange.{ValueChange}
+use Rattle.meson_steps.specs.declared.argument.ValueChange.TheVariants as change
 use Rattle.meson_steps.specs.declared.command.Command.{Command}
 use Rattle.meson_steps.specs.declared.command.Command.TheVariants as command
+
+-- those that a change of a value uses
+abbrev pub value_members : ValueChange → List (List ℕ)
+value_members (change.Set g) = codes "function" ∷ codes "id" ∷ codes "key" ∷ codes "in" ∷ codes "values" ∷ []
+value_members (change.SetAll gs) = codes "function" ∷ codes "id" ∷ codes "key" ∷ codes "in" ∷ codes "values" ∷ []
+value_members change.Delete = codes "function" ∷ codes "id" ∷ codes "key" ∷ codes "in" ∷ []
 
 -- those that the operation of a command uses
 abbrev pub used_members : Command → List (List ℕ)
@@ -22,6 +30,7 @@ used_members (command.KwargsRemove role id pairs) = codes "function" ∷ codes "
 used_members (command.KwargsInfo role id) = codes "function" ∷ codes "id" ∷ []
 used_members (command.OptionsSet pairs) = codes "options" ∷ []
 used_members (command.OptionsDelete names) = codes "options" ∷ []
+used_members (command.Argument name c) = value_members c
 
 -- one of these, or one that says which command it is
 abbrev pub is_known : Command → List ℕ → Bool

@@ -1,4 +1,6 @@
 pub mod Members
+pub mod Counts
+pub mod Arguments
 pub mod Each
 pub mod Log
 pub mod Operations

@@ -2,6 +2,8 @@
 use Rattle.std.specs.Prelude.{ℕ, List, [], ◌∷◌, codes, bytes_eq, if◌then◌else◌, Option, Some, None}
 use Rattle.meson_calls.specs.declared.call.Role.{Role}
 use Rattle.meson_calls.specs.declared.call.Role.TheVariants as role
+use Rattle.meson_json.specs.declared.names.ArgumentOperation.{ArgumentOperation}
+use Rattle.meson_json.specs.declared.names.ArgumentOperation.TheVariants as argument
 use Rattle.meson_json.specs.declared.names.EntryType.{EntryType}
 use Rattle.meson_json.specs.declared.names.EntryType.TheVariants as entry
 use Rattle.meson_json.specs.declared.names.KwargsOperation.{KwargsOperation}
@@ -17,7 +19,8 @@ among [] s = None
 among (row ∷ rows) s = if bytes_eq s row.0 then Some row.1 else among rows s
 
 abbrev pub entry_type : List ℕ → Option EntryType
-entry_type s = among ((codes "target", entry.Target) ∷ (codes "kwargs", entry.Kwargs) ∷ (codes "default_options", entry.DefaultOptions) ∷ []) s
+entry_type s =
+    among ((codes "target", entry.Target) ∷ (codes "kwargs", entry.Kwargs) ∷ (codes "default_options", entry.DefaultOptions) ∷ (codes "arg", entry.Argument) ∷ []) s
 
 abbrev pub target_operation : List ℕ → Option TargetOperation
 target_operation s =
@@ -33,6 +36,9 @@ kwargs_operation s =
 
 abbrev pub options_operation : List ℕ → Option OptionsOperation
 options_operation s = among ((codes "set", options.Set) ∷ (codes "delete", options.Delete) ∷ []) s
+
+abbrev pub argument_operation : List ℕ → Option ArgumentOperation
+argument_operation s = among ((codes "set", argument.Set) ∷ (codes "delete", argument.Delete) ∷ []) s
 
 abbrev pub role_of : List ℕ → Option Role
 role_of s = among ((codes "dependency", role.Dependency) ∷ (codes "target", role.Target) ∷ (codes "project", role.Project) ∷ []) s

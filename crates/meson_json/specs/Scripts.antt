@@ -1,15 +1,19 @@
 -- The commands of a JSON value, or the first fault.
-use Rattle.std.specs.Prelude.{ℕ, ◌+◌, List, [], ◌∷◌, codes, is_some, nat_lt, if◌then◌else◌, Option, Some, None, ok_or, option_and_then, Result, Ok, Err}
-use Rattle.serde_json.specs.Data.{Data, Items, no_items, item, Members, no_members}
+use Rattle.std.specs.Prelude.{ℕ, ◌+◌, List, [], ◌∷◌, codes, is_some, nat_lt, if◌then◌else◌, Option, Some, None, ok_or, option_and_then, option_map, Result, Ok, Err}
+use Rattle.serde_json.specs.Data.{Data, array, string, Items, no_items, item, Members, no_members}
 use Rattle.serde_json.specs.Events.{items_len}
 use Rattle.serde_json.specs.Find.{get, as_array, as_object, as_str}
 use Rattle.meson_splice.specs.Patch.{then_ok}
+use Rattle.meson_json.specs.Arguments.{keys_in, place_named, set_to}
 use Rattle.meson_json.specs.Each.{each_of, each_member, names_of_members}
 use Rattle.meson_json.specs.Known.{unknown_in}
 use Rattle.meson_json.specs.Members.{member_text}
-use Rattle.meson_json.specs.Operations.{entry_type, target_operation, kwargs_operation, options_operation, role_of}
-use Rattle.meson_json.specs.Settings.{setting_of, option_value}
+use Rattle.meson_json.specs.Operations.{argument_operation, entry_type, target_operation, kwargs_operation, options_operation, role_of}
+use Rattle.meson_json.specs.Settings.{given_value, setting_of, option_value}
 use Rattle.meson_json.specs.Targets.{target_command}
+use Rattle.meson_steps.specs.declared.argument.ValueChange.{ValueChange}
+use Rattle.meson_steps.specs.declared.argument.ValueChange.TheVariants as change
+use Rattle.meson_steps.specs.declared.argument.ValueName.{ValueName}
 use Rattle.meson_steps.specs.declared.command.Command.{Command}
 use Rattle.meson_steps.specs.declared.command.Command.TheVariants as command
 use Rattle.meson_calls.specs.declared.call.Role.{Role}
@@ -18,6 +22,8 @@ use Rattle.meson_json.specs.declared.fault.ScriptFault.{ScriptFault}
 use Rattle.meson_json.specs.declared.fault.ScriptFault.TheVariants.{NotJson, NotArray, TooMany, NotObject, UnknownType, BadField, UnknownOperation, Unsupported, UnknownMember}
 use Rattle.meson_json.specs.declared.member_check.UnknownMembers.{UnknownMembers}
 use Rattle.meson_json.specs.declared.member_check.UnknownMembers.TheVariants.{Ignored, Refused}
+use Rattle.meson_json.specs.declared.names.ArgumentOperation.{ArgumentOperation}
+use Rattle.meson_json.specs.declared.names.ArgumentOperation.TheVariants as argument
 use Rattle.meson_json.specs.declared.names.EntryType.{EntryType}
 use Rattle.meson_json.specs.declared.names.EntryType.TheVariants as entry
 use Rattle.meson_json.specs.declared.names.KwargsOperation.{KwargsOperation}
@@ -95,12 +101,47 @@ options_entry i d =
     then_ok (ok_or (options_operation word) (UnknownOperation i)) (λ operation.
     then_ok (given as_object i (codes "options") no_members (get (codes "options") d)) (λ ms. options_command i operation ms)))
 
+-- ---- entries of type `arg`
+
+-- texts joined by dots, or an array of texts
+abbrev pub keys_of : Data → Option (List (List ℕ))
+keys_of (string word) = Some (keys_in word)
+keys_of (array ds) = each_of as_str ds
+keys_of _ = None
+
+-- to one value or to several, of which there is one at least
+abbrev pub change_at : ℕ → ArgumentOperation → Data → Result ValueChange ScriptFault
+change_at i argument.Set d =
+    then_ok (given (λ v. option_and_then (each_of given_value) (as_array v)) i (codes "values") [] (get (codes "values") d))
+    (λ gs. ok_or (set_to gs) (BadField i (codes "values")))
+change_at i argument.Delete d = Ok change.Delete
+
+abbrev pub folder_at : ℕ → Data → Result (Option (List ℕ)) ScriptFault
+folder_at i d = given (λ v. option_map Some (as_str v)) i (codes "in") None (get (codes "in") d)
+
+unfoldable pub value_name : ℕ → Data → Result ValueName ScriptFault
+value_name i d =
+    then_ok (required_text i (codes "function") d) (λ function.
+    then_ok (required_text i (codes "id") d) (λ id.
+    then_ok (ok_or (place_named function id) (BadField i (codes "id"))) (λ place.
+    then_ok (ok_or (option_and_then keys_of (get (codes "key") d)) (BadField i (codes "key"))) (λ keys.
+    then_ok (folder_at i d) (λ folder.
+    Ok (record { place = record { name = place; folder = folder }; keys = keys }))))))
+
+unfoldable pub argument_entry : ℕ → Data → Result Command ScriptFault
+argument_entry i d =
+    then_ok (required_text i (codes "operation") d) (λ word.
+    then_ok (ok_or (argument_operation word) (UnknownOperation i)) (λ operation.
+    then_ok (value_name i d) (λ name.
+    then_ok (change_at i operation d) (λ c. Ok (command.Argument name c)))))
+
 -- ---- entries and scripts
 
 abbrev pub entry_command : ℕ → Data → EntryType → Result Command ScriptFault
 entry_command i d entry.Target = target_entry i d
 entry_command i d entry.Kwargs = kwargs_entry i d
 entry_command i d entry.DefaultOptions = options_entry i d
+entry_command i d entry.Argument = argument_entry i d
 
 -- the command of entry i
 unfoldable pub entry_of : ℕ → Data → Result Command ScriptFault

@@ -1,26 +1,33 @@
 //! Entries of a script: each is one command.
 
-ghost use Rattle.std.specs.Prelude.{◌≡◌, ◌≢◌, Err, IfErr, IfOk, Ok};
+ghost use Rattle.std.specs.Prelude.{◌≡◌, ◌≢◌, [], Err, IfErr, IfOk, Ok, codes, ok_or, option_and_then};
+ghost use Rattle.serde_json.specs.Find.{as_array, get};
 ghost use Rattle.serde_json.specs.View.{members_view, view};
 ghost use Rattle.meson_json.specs.Operations.{kwargs_operation};
-ghost use Rattle.meson_json.specs.Scripts.{entry_of, kwargs_asked, kwargs_command, kwargs_entry, options_command, options_entry, role_at, target_entry, target_members};
-ghost use Rattle.meson_json.specs.declared.fault.ScriptFault.TheVariants.{OutOfMemory};
+ghost use Rattle.meson_json.specs.Arguments.{place_named};
+ghost use Rattle.meson_json.specs.Each.{each_of};
+ghost use Rattle.meson_json.specs.Settings.{given_value};
+ghost use Rattle.meson_json.specs.Scripts.{argument_entry, change_at, entry_of, folder_at, given, keys_of, kwargs_asked, kwargs_command, kwargs_entry, options_command, options_entry, role_at, target_entry, target_members, value_name};
+ghost use Rattle.meson_json.specs.declared.fault.ScriptFault.TheVariants.{BadField, OutOfMemory};
 
+use crate::argument::{keys_in, place_named, set_to};
 use crate::fault::ScriptFault;
 use crate::members::{
-    bad_field, members_or, names, option_texts, required_text, settings, text_at, text_or,
-    texts_or_none,
+    bad_field, given_values, members_or, names, option_texts, owned, required_text, settings,
+    text_at, text_or, texts, texts_or_none,
 };
 use crate::names::{
-    EntryType, KwargsOperation, OptionsOperation, find_kwargs_operation, find_options_operation,
-    find_role, find_target_operation, find_type,
+    ArgumentOperation, EntryType, KwargsOperation, OptionsOperation, find_argument_operation,
+    find_kwargs_operation, find_options_operation, find_role, find_target_operation, find_type,
 };
 use crate::target::{TargetMembers, target_command};
 use meson_calls::Role;
-use meson_splice::Text;
+use meson_splice::{Many, Text};
+use meson_steps::argument::{PlaceName, Search, ValueChange, ValueName};
 use meson_steps::command::Command;
+use meson_steps::given::Given;
 use serde_json::{Map, Value};
-use std::alloc::Global;
+use std::alloc::{AllocError, Global};
 
 #[tactic(auto, unfolding(crate::specs::Scripts::target_members))]
 fn target_members(alloc: Global, index: usize, entry: &Value) -> Result<TargetMembers, ScriptFault>
@@ -155,6 +162,127 @@ fn options_entry(alloc: Global, index: usize, entry: &Value) -> Result<Command, 
     options_command(alloc, index, operation, members)
 }
 
+/// The keys of an entry: texts joined by dots, or an array of texts.
+fn keys_of(alloc: Global, value: &Value) -> Result<Option<Many<Text>>, AllocError>
+    ensures { IfOk result (λ keys. keys ≡ keys_of (view value.now)) }
+{
+    match value {
+        Value::String(word) => Ok(Some(keys_in(alloc, word.as_str())?)),
+        Value::Array(list) => texts(alloc, list),
+        Value::Null | Value::Bool(_) | Value::Number(_) | Value::Object(_) => Ok(None),
+    }
+}
+
+/// The place of an entry.
+fn place_at(alloc: Global, index: usize, function: &str, id: &str) -> Result<PlaceName, ScriptFault>
+    ensures ok { IfOk result (λ p. ok_or (place_named function.now id.now) (BadField index (codes "id")) ≡ Ok p) }
+    ensures refused { IfErr result (λ e. e ≢ OutOfMemory → ok_or (place_named function.now id.now) (BadField index (codes "id")) ≡ Err e) }
+{
+    match place_named(alloc, function, id)? {
+        Some(place) => Ok(place),
+        None => Err(bad_field(alloc, index, "id")?),
+    }
+}
+
+/// The keys of an entry.
+fn keys_at(alloc: Global, index: usize, entry: &Value) -> Result<Many<Text>, ScriptFault>
+    ensures ok { IfOk result (λ ks. ok_or (option_and_then keys_of (get (codes "key") (view entry.now))) (BadField index (codes "key")) ≡ Ok ks) }
+    ensures refused { IfErr result (λ e. e ≢ OutOfMemory
+        → ok_or (option_and_then keys_of (get (codes "key") (view entry.now))) (BadField index (codes "key")) ≡ Err e) }
+{
+    let Some(member) = entry.get("key") else {
+        return Err(bad_field(alloc, index, "key")?);
+    };
+    match keys_of(alloc, member)? {
+        Some(keys) => Ok(keys),
+        None => Err(bad_field(alloc, index, "key")?),
+    }
+}
+
+/// The folder of an entry, if it names one.
+fn folder_at(alloc: Global, index: usize, entry: &Value) -> Result<Option<Text>, ScriptFault>
+    ensures ok { IfOk result (λ f. folder_at index (view entry.now) ≡ Ok f) }
+    ensures refused { IfErr result (λ e. e ≢ OutOfMemory → folder_at index (view entry.now) ≡ Err e) }
+{
+    let Some(member) = entry.get("in") else {
+        return Ok(None);
+    };
+    match member.as_str() {
+        Some(folder) => Ok(Some(owned(alloc, folder)?)),
+        None => Err(bad_field(alloc, index, "in")?),
+    }
+}
+
+/// What names the value of an entry.
+#[tactic(auto, unfolding(crate::specs::Scripts::value_name))]
+fn value_name(alloc: Global, index: usize, entry: &Value) -> Result<ValueName, ScriptFault>
+    ensures ok { IfOk result (λ n. value_name index (view entry.now) ≡ Ok n) }
+    ensures refused { IfErr result (λ e. e ≢ OutOfMemory → value_name index (view entry.now) ≡ Err e) }
+{
+    let function = required_text(alloc, index, entry, "function")?;
+    let id = required_text(alloc, index, entry, "id")?;
+    let name = place_at(alloc, index, function.get(), id.get())?;
+    let keys = keys_at(alloc, index, entry)?;
+    let folder = folder_at(alloc, index, entry)?;
+    let place = Search { name, folder };
+    Ok(ValueName { place, keys })
+}
+
+/// The values of an entry.
+fn values_at(alloc: Global, index: usize, entry: &Value) -> Result<Vec<Given>, ScriptFault>
+    ensures ok { IfOk result (λ v. given (λ d. option_and_then (each_of given_value) (as_array d)) index (codes "values") [] (get (codes "values") (view entry.now))
+        ≡ Ok v.items) }
+    ensures refused { IfErr result (λ e. e ≢ OutOfMemory
+        → given (λ d. option_and_then (each_of given_value) (as_array d)) index (codes "values") [] (get (codes "values") (view entry.now)) ≡ Err e) }
+{
+    let Some(member) = entry.get("values") else {
+        return Ok(Vec::new(alloc));
+    };
+    let Some(list) = member.as_array() else {
+        return Err(bad_field(alloc, index, "values")?);
+    };
+    match given_values(alloc, list)? {
+        Some(values) => Ok(values),
+        None => Err(bad_field(alloc, index, "values")?),
+    }
+}
+
+/// The change of an entry.
+fn change_at(
+    alloc: Global,
+    index: usize,
+    operation: ArgumentOperation,
+    entry: &Value,
+) -> Result<ValueChange, ScriptFault>
+    ensures ok { IfOk result (λ c. change_at index operation (view entry.now) ≡ Ok c) }
+    ensures refused { IfErr result (λ e. e ≢ OutOfMemory → change_at index operation (view entry.now) ≡ Err e) }
+{
+    match operation {
+        ArgumentOperation::Set => {
+            let values = values_at(alloc, index, entry)?;
+            match set_to(values) {
+                Some(change) => Ok(change),
+                None => Err(bad_field(alloc, index, "values")?),
+            }
+        }
+        ArgumentOperation::Delete => Ok(ValueChange::Delete),
+    }
+}
+
+#[tactic(auto, unfolding(crate::specs::Scripts::argument_entry))]
+fn argument_entry(alloc: Global, index: usize, entry: &Value) -> Result<Command, ScriptFault>
+    ensures ok { IfOk result (λ c. argument_entry index (view entry.now) ≡ Ok c) }
+    ensures refused { IfErr result (λ e. e ≢ OutOfMemory → argument_entry index (view entry.now) ≡ Err e) }
+{
+    let word = required_text(alloc, index, entry, "operation")?;
+    let Some(operation) = find_argument_operation(word.get()) else {
+        return Err(ScriptFault::UnknownOperation(index));
+    };
+    let name = value_name(alloc, index, entry)?;
+    let change = change_at(alloc, index, operation, entry)?;
+    Ok(Command::Argument { name, change })
+}
+
 /// The command of an entry, whatever other members it has.
 #[tactic(auto, unfolding(crate::specs::Scripts::entry_of))]
 pub(crate) fn entry_command(
@@ -172,6 +300,7 @@ pub(crate) fn entry_command(
         Some(EntryType::Target) => target_entry(alloc, index, entry),
         Some(EntryType::Kwargs) => kwargs_entry(alloc, index, entry),
         Some(EntryType::DefaultOptions) => options_entry(alloc, index, entry),
+        Some(EntryType::Argument) => argument_entry(alloc, index, entry),
         None => Err(ScriptFault::UnknownType(index)),
     }
 }

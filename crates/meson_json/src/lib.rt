@@ -1,7 +1,9 @@
 //! Scripts and the undo log as JSON.
 #![tactic(auto)]
 
+pub mod argument;
 mod choices;
+pub mod count;
 mod entry;
 mod fault;
 pub mod laws;

@@ -1,15 +1,17 @@
 //! Members of an entry that its operation does not use.
 
-ghost use Rattle.std.specs.Prelude.{◌≡◌, ◌≢◌, Err, IfErr, IfOk, Ok, option_and_then, option_map};
+ghost use Rattle.std.specs.Prelude.{◌≡◌, ◌≢◌, Err, IfErr, IfOk, Ok, bytes_eq, option_and_then, option_map};
+ghost use Rattle.std.specs.List.{list_any};
 ghost use Rattle.serde_json.specs.Find.{as_object};
 ghost use Rattle.serde_json.specs.View.{view};
-ghost use Rattle.meson_json.specs.Known.{is_known, unknown_in};
+ghost use Rattle.meson_json.specs.Known.{is_known, unknown_in, value_members};
 ghost use Rattle.meson_json.specs.Scripts.{entry_by};
 ghost use Rattle.meson_json.specs.declared.fault.ScriptFault.TheVariants.{OutOfMemory};
 
 use crate::entry::entry_command;
 use crate::fault::ScriptFault;
 use crate::members::owned;
+use meson_steps::argument::ValueChange;
 use meson_steps::command::Command;
 use serde_json::Value;
 use std::alloc::Global;
@@ -21,6 +23,19 @@ pub enum UnknownMembers {
     Ignored,
     /// The first of them is refused.
     Refused,
+}
+
+/// Whether a member has an effect on a change of a value.
+fn is_known_of_value(change: &ValueChange, name: &str) -> bool
+    ensures { result ≡ list_any (bytes_eq name.now) (value_members change.now) }
+{
+    if name == "function" || name == "id" || name == "key" || name == "in" {
+        return true;
+    }
+    match change {
+        ValueChange::Set(_) | ValueChange::SetAll(_) => name == "values",
+        ValueChange::Delete => false,
+    }
 }
 
 /// Whether a member has an effect on the command of its entry.
@@ -45,6 +60,7 @@ fn is_known(command: &Command, name: &str) -> bool
         | Command::KwargsRemove { .. } => name == "function" || name == "id" || name == "kwargs",
         Command::KwargsInfo { .. } => name == "function" || name == "id",
         Command::OptionsSet { .. } | Command::OptionsDelete { .. } => name == "options",
+        Command::Argument { change, .. } => is_known_of_value(change, name),
     }
 }
 

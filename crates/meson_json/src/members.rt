@@ -6,12 +6,14 @@ ghost use Rattle.serde_json.specs.View.{items_view, members_view, view};
 ghost use Rattle.meson_json.specs.Each.{each_member, each_of, names_of_members};
 ghost use Rattle.meson_json.specs.Members.{member_text};
 ghost use Rattle.meson_json.specs.Scripts.{given, required_text};
-ghost use Rattle.meson_json.specs.Settings.{option_value, setting_of};
+ghost use Rattle.meson_json.specs.Settings.{given_value, option_value, setting_of};
 ghost use Rattle.meson_json.specs.declared.fault.ScriptFault.TheVariants.{BadField, OutOfMemory};
 
 use crate::fault::ScriptFault;
 use meson_splice::{Many, Text};
+use meson_steps::code::Code;
 use meson_steps::command::Setting;
+use meson_steps::given::Given;
 use serde_json::{Map, Value};
 use std::alloc::{AllocError, Global};
 
@@ -137,6 +139,35 @@ fn setting(alloc: Global, value: &Value) -> Result<Option<Setting>, AllocError>
         Value::Array(list) => Ok(texts(alloc, list)?.map(Setting::Texts)),
         Value::Null | Value::Number(_) | Value::Object(_) => Ok(None),
     }
+}
+
+/// A value that is given: a text, `true`, `false`, or the code of an object's member `code`.
+fn given_value(alloc: Global, value: &Value) -> Result<Option<Given>, AllocError>
+    ensures { IfOk result (λ o. o ≡ given_value (view value.now)) }
+{
+    match value {
+        Value::String(text) => Ok(Some(Given::Text(owned(alloc, text.as_str())?))),
+        Value::Bool(flag) => Ok(Some(Given::Switch(*flag))),
+        Value::Object(_) => match text_at(value, "code") {
+            Some(code) => Ok(Code::of(alloc, code)?.map(Given::Code)),
+            None => Ok(None),
+        },
+        Value::Null | Value::Number(_) | Value::Array(_) => Ok(None),
+    }
+}
+
+/// The values of an array, if all of its elements are such values.
+pub(crate) fn given_values(alloc: Global, list: &[Value]) -> Result<Option<Vec<Given>>, AllocError>
+    ensures { IfOk result (λ o. option_map (λ v. v.items) o ≡ each_of given_value (items_view list.now)) }
+{
+    let mut all = Vec::new(alloc);
+    for value in list {
+        let Some(given) = given_value(alloc, value)? else {
+            return Ok(None);
+        };
+        all.push(given)?;
+    }
+    Ok(Some(all))
 }
 
 /// The value of an option, if it is a text, `true`, `false` or a whole number of 64 bits with sign.

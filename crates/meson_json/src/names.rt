@@ -1,7 +1,7 @@
 //! The words for operations and functions. The command line has the same ones for keyword arguments, and others for targets and options.
 
 ghost use Rattle.std.specs.Prelude.{◌≡◌};
-ghost use Rattle.meson_json.specs.Operations.{entry_type, kwargs_operation, options_operation, role_of, target_operation};
+ghost use Rattle.meson_json.specs.Operations.{argument_operation, entry_type, kwargs_operation, options_operation, role_of, target_operation};
 
 use crate::target::TargetOperation;
 use meson_calls::Role;
@@ -12,6 +12,7 @@ pub(crate) enum EntryType {
     Target,
     Kwargs,
     DefaultOptions,
+    Argument,
 }
 
 /// What is done to the keyword arguments of a call.
@@ -33,6 +34,13 @@ pub(crate) enum OptionsOperation {
     Delete,
 }
 
+/// What is done to a value.
+#[derive(Clone, Copy)]
+pub enum ArgumentOperation {
+    Set,
+    Delete,
+}
+
 pub(crate) fn find_type(name: &str) -> Option<EntryType>
     ensures { result ≡ entry_type name.now }
 {
@@ -42,6 +50,8 @@ pub(crate) fn find_type(name: &str) -> Option<EntryType>
         Some(EntryType::Kwargs)
     } else if name == "default_options" {
         Some(EntryType::DefaultOptions)
+    } else if name == "arg" {
+        Some(EntryType::Argument)
     } else {
         None
     }
@@ -99,6 +109,19 @@ pub(crate) fn find_options_operation(name: &str) -> Option<OptionsOperation>
         Some(OptionsOperation::Set)
     } else if name == "delete" {
         Some(OptionsOperation::Delete)
+    } else {
+        None
+    }
+}
+
+/// The operation on a value that a word names, if it names one.
+pub fn find_argument_operation(name: &str) -> Option<ArgumentOperation>
+    ensures { result ≡ argument_operation name.now }
+{
+    if name == "set" {
+        Some(ArgumentOperation::Set)
+    } else if name == "delete" {
+        Some(ArgumentOperation::Delete)
     } else {
         None
     }

@@ -8,12 +8,12 @@ use meson_case_files::Transcript;
 use meson_places::arguments::argument_steps;
 use meson_places::lookup::find_place;
 use meson_places::slots::find_slot;
-use meson_places::values::given_of;
-use meson_places::{
-    Callee, Given, PlaceName, Search, Slot, Sources, ValueChange, ValueFault, ValueName,
-};
+use meson_places::{Slot, Sources};
 use meson_splice::{Many, Text};
+use meson_steps::argument::{Callee, PlaceName, Search, ValueChange, ValueName};
+use meson_steps::given::{Given, given_of};
 use meson_steps::step::{ListEdit, ListStep};
+use meson_steps::value_fault::ValueFault;
 use std::alloc::{AllocError, Global};
 
 /// A question: its word, and the words after it.

@@ -13,8 +13,8 @@ use Rattle.meson_calls.specs.Project.{child, expression_at}
 use Rattle.meson_steps.specs.ListSteps.{AreDoable}
 use Rattle.meson_steps.specs.ResultLimits.{plain_trees}
 use Rattle.meson_steps.specs.Steps.{Step}
-use Rattle.meson_places.specs.declared.arguments.ValueChange.{ValueChange}
-use Rattle.meson_places.specs.declared.arguments.ValueChange.TheVariants as change
+use Rattle.meson_steps.specs.declared.argument.ValueChange.{ValueChange}
+use Rattle.meson_steps.specs.declared.argument.ValueChange.TheVariants as change
 use Rattle.meson_places.specs.declared.slots.Slot.{Slot}
 use Rattle.meson_places.specs.declared.slots.Slot.TheVariants as slot
 use Rattle.meson_places.specs.Arguments.{MayBeMade, last_key, slot_steps}
@@ -55,7 +55,7 @@ key_is_text old c keys all s h = go (expression_at (project old) c) h
 
 -- ---- the law
 
-ok_then : {X Y : Type 0} (r : Result X Refusal) (f : X → Result Y Refusal) (y : Y) → then_ok r f ≡ Ok y → (x : X) × (r ≡ Ok x) × (f x ≡ Ok y)
+pub ok_then : {X Y : Type 0} (r : Result X Refusal) (f : X → Result Y Refusal) (y : Y) → then_ok r f ≡ Ok y → (x : X) × (r ≡ Ok x) × (f x ≡ Ok y)
 ok_then (Ok x) f y h = (x, refl, h)
 ok_then (Err e) f y h = absurd (let no : ⊥ = cc in no)
 

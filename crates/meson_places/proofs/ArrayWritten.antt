@@ -18,11 +18,12 @@ use Rattle.meson_syntax.specs.Tree.{Expression, Nowhere, plain, arguments_of}
 use Rattle.meson_syntax.specs.Grammar.{Flagged, LevelArguments, LevelExpression, arguments_depth, arguments_words, expression_depth, expression_words}
 use Rattle.meson_edit.specs.Places.{IsWritten}
 use Rattle.meson_steps.specs.WrittenTexts.{comma_between}
-use Rattle.meson_places.specs.declared.values.Given.{Given}
-use Rattle.meson_places.specs.Code.{IsValue}
+use Rattle.meson_steps.specs.declared.given.Given.{Given}
+use Rattle.meson_steps.specs.Code.{IsValue}
 use Rattle.meson_places.specs.Several.{AllMayBeGiven, all_written, array_bytes, written_array}
-use Rattle.meson_places.specs.Values.{MayBeGiven, given_bytes, given_node}
-use Rattle.meson_places.proofs.Bracketed.{quiet_first, shape_quiet}
+use Rattle.meson_steps.specs.GivenWords.{MayBeGiven}
+use Rattle.meson_places.specs.Values.{given_bytes, given_node}
+use Rattle.meson_steps.proofs.Bracketed.{quiet_first, shape_quiet}
 use Rattle.meson_places.proofs.GivenWritten.{given_level, given_low, given_written}
 use Rattle.meson_places.proofs.KeyedWritten.{first_text}
 

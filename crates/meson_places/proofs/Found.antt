@@ -20,8 +20,8 @@ use Rattle.meson_calls.specs.Parts as part
 use Rattle.meson_calls.specs.Project.{Project, Placed, child, expression_at, placed}
 use Rattle.meson_calls.proofs.CallsReached.{InProject, every_chosen, every_part}
 use Rattle.meson_calls.proofs.ExpressionsAt.{assigned_stands, expression_stands}
-use Rattle.meson_places.specs.declared.name.Callee.{Callee}
-use Rattle.meson_places.specs.declared.name.PlaceName.TheVariants as name
+use Rattle.meson_steps.specs.declared.argument.Callee.{Callee}
+use Rattle.meson_steps.specs.declared.argument.PlaceName.TheVariants as name
 use Rattle.meson_places.specs.Laws.{FindsOneCall, IsNamedCall, IsOnlyCall, IsSetTo}
 use Rattle.meson_places.specs.Names.{calls_callee, calls_other, found_within, is_searched, named_place, places_by_id, searched, searched_file}
 

@@ -8,10 +8,11 @@ use Rattle.meson_syntax.specs.Operators.{boolean_kind}
 use Rattle.meson_syntax.specs.Tree.{boolean, Expression, Nowhere}
 use Rattle.meson_edit.specs.Places.{IsWritten}
 use Rattle.meson_steps.proofs.StepsDoable.{text_written}
-use Rattle.meson_places.specs.declared.values.Given.{Given}
-use Rattle.meson_places.specs.declared.values.Given.TheVariants as given
-use Rattle.meson_places.specs.Code.{IsValue}
-use Rattle.meson_places.specs.Values.{MayBeGiven, given_bytes, given_node, switch_text}
+use Rattle.meson_steps.specs.declared.given.Given.{Given}
+use Rattle.meson_steps.specs.declared.given.Given.TheVariants as given
+use Rattle.meson_steps.specs.Code.{IsValue}
+use Rattle.meson_steps.specs.GivenWords.{MayBeGiven}
+use Rattle.meson_places.specs.Values.{given_bytes, given_node, switch_text}
 
 true_text : IsUtf8 (codes "true")
 unfolding encode_utf8

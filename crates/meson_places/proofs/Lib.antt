@@ -2,7 +2,6 @@ mod ArgumentsDoable
 mod Around
 mod ArrayWritten
 mod Between
-mod Bracketed
 mod DepthTexts
 mod Found
 mod GivenWritten
@@ -13,8 +12,7 @@ mod ListStands
 mod ListsThere
 mod Meant
 mod Numbers
-mod OneElement
-mod ReadKinds
+pub mod OneMeaning
 mod Refused
 mod RoomFound
 mod SetValues
@@ -23,3 +21,4 @@ mod SlotSteps
 mod SlotsDoable
 mod SlotsThere
 mod Standing
+pub mod ValuesLeft

@@ -10,7 +10,7 @@ use Rattle.meson_calls.specs.declared.call.CallRef.{CallRef}
 use Rattle.meson_calls.specs.Loading.{project}
 use Rattle.meson_steps.specs.Steps.{Step, all_stepped, changed_at, step_in, stepped}
 use Rattle.meson_places.specs.declared.slots.Slot.TheVariants as slot
-use Rattle.meson_places.specs.declared.values.Given.{Given}
+use Rattle.meson_steps.specs.declared.given.Given.{Given}
 use Rattle.meson_places.specs.Changes.{element_child, replaces_texts, set_steps, set_there}
 use Rattle.meson_places.specs.Laws.{KeepsKind, MaySet, SetsOneValue, DeletesOneElement, SlotIs}
 use Rattle.meson_places.specs.Slots.{Child}

@@ -23,7 +23,7 @@ use Rattle.meson_steps.specs.WrittenTexts.{string_of}
 use Rattle.meson_steps.proofs.PlainTrees.{parsed_shallow, trees_stand}
 use Rattle.meson_places.specs.declared.slots.Slot.{Slot}
 use Rattle.meson_places.specs.declared.slots.Slot.TheVariants as slot
-use Rattle.meson_places.specs.declared.values.Given.{Given}
+use Rattle.meson_steps.specs.declared.given.Given.{Given}
 use Rattle.meson_places.specs.Changes.{added_to, behind_all, element_child, rest_removed}
 use Rattle.meson_places.specs.Room.{has_room, if_room, list_in_trees}
 use Rattle.meson_places.specs.Several.{AllMayBeGiven, all_written, becomes_array, is_text_given, put_all, put_each, set_all, set_all_there, set_array, set_elements, written_array}

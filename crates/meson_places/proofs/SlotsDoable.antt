@@ -28,14 +28,15 @@ use Rattle.meson_steps.specs.WrittenTexts.{string_of}
 use Rattle.meson_steps.proofs.PlainTrees.{parsed_shallow, trees_stand, value_erased}
 use Rattle.meson_places.specs.declared.slots.Slot.{Slot}
 use Rattle.meson_places.specs.declared.slots.Slot.TheVariants as slot
-use Rattle.meson_places.specs.declared.values.Given.{Given}
-use Rattle.meson_places.specs.declared.values.Given.TheVariants as given
+use Rattle.meson_steps.specs.declared.given.Given.{Given}
+use Rattle.meson_steps.specs.declared.given.Given.TheVariants as given
 use Rattle.meson_places.specs.Arguments.{set_within, slot_list}
 use Rattle.meson_places.specs.Changes.{added_there, added_to, alone_in_array, behind_all, colon_of, delete_steps, element_child, keyword_behind, last_colon, replaces_texts, rest_removed, set_steps, set_there, written_entry, written_keyword}
 use Rattle.meson_places.specs.Laws.{SlotIsThere}
 use Rattle.meson_places.specs.Room.{has_room, if_room, list_in_trees}
 use Rattle.meson_places.specs.Slots.{Child, elements_in, list_kind}
-use Rattle.meson_places.specs.Values.{MayBeGiven, is_array, is_identifier, keeps_kind, written_given}
+use Rattle.meson_steps.specs.GivenWords.{MayBeGiven}
+use Rattle.meson_places.specs.Values.{is_array, is_identifier, keeps_kind, written_given}
 use Rattle.meson_places.specs.inside.Colons.{colon_text}
 use Rattle.meson_places.proofs.GivenWritten.{given_level, given_written}
 use Rattle.meson_places.proofs.IdentifierTexts.{identifier_true}

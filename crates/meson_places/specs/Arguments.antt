@@ -7,18 +7,19 @@ use Rattle.meson_calls.specs.declared.call.CallRef.{CallRef}
 use Rattle.meson_calls.specs.declared.refusal.Refusal.{Refusal}
 use Rattle.meson_calls.specs.Loading.{Loaded, project}
 use Rattle.meson_steps.specs.Steps.{Step}
-use Rattle.meson_places.specs.declared.arguments.ValueChange.{ValueChange}
-use Rattle.meson_places.specs.declared.arguments.ValueChange.TheVariants as change
-use Rattle.meson_places.specs.declared.arguments.ValueName.{ValueName}
+use Rattle.meson_steps.specs.declared.argument.ValueChange.{ValueChange}
+use Rattle.meson_steps.specs.declared.argument.ValueChange.TheVariants as change
+use Rattle.meson_steps.specs.declared.argument.ValueName.{ValueName}
 use Rattle.meson_places.specs.declared.slots.Slot.{Slot}
 use Rattle.meson_places.specs.declared.slots.Slot.TheVariants as slot
-use Rattle.meson_places.specs.declared.values.Given.{Given}
+use Rattle.meson_steps.specs.declared.given.Given.{Given}
 use Rattle.meson_places.specs.Changes.{delete_steps, set_steps}
 use Rattle.meson_places.specs.Names.{the_place}
 use Rattle.meson_places.specs.Room.{if_room}
 use Rattle.meson_places.specs.Several.{AllMayBeGiven, set_all}
 use Rattle.meson_places.specs.Slots.{the_slot}
-use Rattle.meson_places.specs.Values.{MayBeGiven, written_given}
+use Rattle.meson_steps.specs.GivenWords.{MayBeGiven}
+use Rattle.meson_places.specs.Values.{written_given}
 
 -- the key that a refusal names: the last one, or `.` for the thing itself
 abbrev pub last_key : List (List ℕ) → List ℕ

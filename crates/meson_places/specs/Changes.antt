@@ -18,8 +18,8 @@ use Rattle.meson_places.specs.declared.elements.ListKind.TheVariants as kind
 use Rattle.meson_calls.specs.declared.refusal.Refusal.{Refusal}
 use Rattle.meson_places.specs.declared.slots.Slot.{Slot}
 use Rattle.meson_places.specs.declared.slots.Slot.TheVariants as slot
-use Rattle.meson_places.specs.declared.values.Given.{Given}
-use Rattle.meson_places.specs.declared.values.Given.TheVariants as given
+use Rattle.meson_steps.specs.declared.given.Given.{Given}
+use Rattle.meson_steps.specs.declared.given.Given.TheVariants as given
 use Rattle.meson_places.specs.Slots.{Child, elements_in, list_kind, nth_child}
 use Rattle.meson_places.specs.Values.{are_texts, is_identifier, keeps_kind}
 

@@ -14,14 +14,14 @@ use Rattle.meson_calls.specs.Project.{Project, Placed, child, expression_at, pla
 use Rattle.meson_steps.specs.ListSteps.{AreDoable}
 use Rattle.meson_steps.specs.ResultLimits.{plain_trees}
 use Rattle.meson_steps.specs.Steps.{Step, all_stepped, changed_at}
-use Rattle.meson_places.specs.declared.arguments.ValueChange.{ValueChange}
-use Rattle.meson_places.specs.declared.arguments.ValueName.{ValueName}
-use Rattle.meson_places.specs.declared.name.Callee.{Callee}
-use Rattle.meson_places.specs.declared.name.PlaceName.TheVariants as name
-use Rattle.meson_places.specs.declared.name.Search.{Search}
+use Rattle.meson_steps.specs.declared.argument.ValueChange.{ValueChange}
+use Rattle.meson_steps.specs.declared.argument.ValueName.{ValueName}
+use Rattle.meson_steps.specs.declared.argument.Callee.{Callee}
+use Rattle.meson_steps.specs.declared.argument.PlaceName.TheVariants as name
+use Rattle.meson_steps.specs.declared.argument.Search.{Search}
 use Rattle.meson_places.specs.declared.slots.Slot.{Slot}
 use Rattle.meson_places.specs.declared.slots.Slot.TheVariants as slot
-use Rattle.meson_places.specs.declared.values.Given.{Given}
+use Rattle.meson_steps.specs.declared.given.Given.{Given}
 use Rattle.meson_places.specs.Arguments.{MayBeMade, argument_steps}
 use Rattle.meson_places.specs.Changes.{delete_steps, replaces_texts, set_steps, slot_value}
 use Rattle.meson_places.specs.Slots.{number_in, the_slot}

@@ -1,11 +1,10 @@
 pub mod Arguments
 pub mod Changes
-pub mod Code
-pub mod Faults
 pub mod Names
 pub mod Room
 pub mod Several
 pub mod Values
 pub mod Slots
 pub mod Laws
+pub mod Effects
 pub mod inside

@@ -21,11 +21,11 @@ use Rattle.meson_calls.specs.Notes.{Note, a_call, an_assignment, a_loop, notes}
 use Rattle.meson_calls.specs.OnePlace.{any_place}
 use Rattle.meson_calls.specs.Project.{Placed, child}
 use Rattle.meson_calls.specs.Roles.{has_role, one_of}
-use Rattle.meson_places.specs.declared.name.Callee.{Callee}
-use Rattle.meson_places.specs.declared.name.Callee.TheVariants as callee
-use Rattle.meson_places.specs.declared.name.PlaceName.{PlaceName}
-use Rattle.meson_places.specs.declared.name.PlaceName.TheVariants as name
-use Rattle.meson_places.specs.declared.name.Search.{Search}
+use Rattle.meson_steps.specs.declared.argument.Callee.{Callee}
+use Rattle.meson_steps.specs.declared.argument.Callee.TheVariants as callee
+use Rattle.meson_steps.specs.declared.argument.PlaceName.{PlaceName}
+use Rattle.meson_steps.specs.declared.argument.PlaceName.TheVariants as name
+use Rattle.meson_steps.specs.declared.argument.Search.{Search}
 use Rattle.meson_places.specs.declared.name.Sources.{Sources}
 
 -- the files and trees of the code

@@ -16,12 +16,13 @@ use Rattle.meson_steps.specs.Steps.{Step, step_in}
 use Rattle.meson_steps.specs.WrittenTexts.{array_of_values, comma_between}
 use Rattle.meson_places.specs.declared.slots.Slot.{Slot}
 use Rattle.meson_places.specs.declared.slots.Slot.TheVariants as slot
-use Rattle.meson_places.specs.declared.values.Given.{Given}
-use Rattle.meson_places.specs.declared.values.Given.TheVariants as given
+use Rattle.meson_steps.specs.declared.given.Given.{Given}
+use Rattle.meson_steps.specs.declared.given.Given.TheVariants as given
 use Rattle.meson_places.specs.Changes.{added_to, behind_all, element_child, rest_removed}
 use Rattle.meson_places.specs.Room.{has_room, if_room, list_in_trees}
 use Rattle.meson_places.specs.Slots.{Child, elements_in}
-use Rattle.meson_places.specs.Values.{MayBeGiven, are_texts, given_bytes, is_array, written_given}
+use Rattle.meson_steps.specs.GivenWords.{MayBeGiven}
+use Rattle.meson_places.specs.Values.{are_texts, given_bytes, is_array, written_given}
 
 -- ---- several values
 

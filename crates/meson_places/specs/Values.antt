@@ -1,7 +1,6 @@
--- Values that are given in words, what is written for them, and which of them may replace a value.
+-- What is written for values that are given, and which of them may replace a value.
 use Rattle.std.specs.Prelude.{ℕ, ◌==◌, Bool, true, false, not, ◌&&◌, List, [], ◌∷◌, map, bytes_eq, codes, if◌then◌else◌, is_some}
 use Rattle.std.specs.List.{list_all}
-use Rattle.std.specs.Str.{IsUtf8}
 use Rattle.meson_lex.specs.Bytes.{is_word_byte, is_word_start}
 use Rattle.meson_lex.specs.Kinds.{reserved, spelling}
 use Rattle.meson_lex.specs.Literals.{literal}
@@ -10,32 +9,10 @@ use Rattle.meson_edit.specs.Edits.{Written}
 use Rattle.meson_calls.specs.Calls.{literal_of}
 use Rattle.meson_calls.specs.Roles.{one_of}
 use Rattle.meson_steps.specs.WrittenTexts.{string_of}
-use Rattle.meson_places.specs.declared.values.Given.{Given}
-use Rattle.meson_places.specs.declared.values.Given.TheVariants as given
-use Rattle.meson_places.specs.Code.{IsExpression}
+use Rattle.meson_steps.specs.declared.given.Given.{Given}
+use Rattle.meson_steps.specs.declared.given.Given.TheVariants as given
+use Rattle.meson_steps.specs.GivenWords.{MayBeGiven}
 use Rattle.meson_places.specs.Slots.{elements_in}
-
--- ---- words
-
-abbrev pub begins_colon : List ℕ → Bool
-begins_colon [] = false
-begins_colon (b ∷ bs) = b == 58
-
-abbrev pub after_first : List ℕ → List ℕ
-after_first [] = []
-after_first (b ∷ bs) = bs
-
--- `:CODE` is that code, `true` and `false` are truth values, and any other word is the text
-abbrev pub meant_by : List ℕ → Given
-meant_by word =
-    if begins_colon word then given.Code (after_first word)
-    else (if bytes_eq word (codes "true") then given.Switch true else (if bytes_eq word (codes "false") then given.Switch false else given.Text word))
-
--- code has to be an expression
-abbrev pub MayBeGiven : Given → Type 0
-MayBeGiven (given.Text text) = IsUtf8 text
-MayBeGiven (given.Switch b) = Unit {0}
-MayBeGiven (given.Code code) = IsExpression code
 
 -- ---- what is written
 

@@ -1,3 +1,2 @@
-pub mod Bare
 pub mod Colons
 pub mod Wanted

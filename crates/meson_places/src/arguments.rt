@@ -8,36 +8,56 @@ ghost use Rattle.meson_steps.specs.Meanings.{AreMeant};
 ghost use Rattle.meson_steps.specs.Plans.{ArePlanned};
 ghost use Rattle.meson_places.specs.Arguments.{MayBeMade, argument_steps, last_key, set_within, slot_list, slot_steps};
 ghost use Rattle.meson_places.specs.Names.{loaded_in};
-ghost use Rattle.meson_places.specs.Values.{MayBeGiven, written_given};
+ghost use Rattle.meson_places.specs.Several.{AllMayBeGiven};
+ghost use Rattle.meson_steps.specs.GivenWords.{MayBeGiven};
+ghost use Rattle.meson_places.specs.Values.{written_given};
 
 use crate::changes::{delete_steps, set_steps};
 use crate::lookup::find_place;
-use crate::name::{Search, Sources};
+use crate::name::Sources;
 use crate::room::has_room;
 use crate::several::set_all;
 use crate::slots::{Slot, find_slot};
-use crate::values::Given;
 use meson_calls::{CallRef, Refusal};
-use meson_splice::{Many, Text};
+use meson_splice::Text;
+use meson_steps::argument::{ValueChange, ValueName};
+use meson_steps::given::Given;
 use meson_steps::step::ListStep;
 use std::alloc::{AllocError, Global};
 
-/// What names a value: the search for a place, and the keys that lead to the value from there.
-#[derive(Debug, Drop)]
-pub struct ValueName {
-    pub place: Search,
-    pub keys: Many<Text>,
+/// Does nothing. That a value may be given is true of each; this tells it to callers.
+fn reads(given: &Given)
+    ensures { MayBeGiven given.now }
+{
+    match given {
+        Given::Text(text) => {
+            let _ = text.get();
+        }
+        Given::Switch(_) => {}
+        Given::Code(code) => {
+            let _ = code.get();
+        }
+    }
 }
 
-/// What is done with a value.
-#[derive(Debug, Drop)]
-pub enum ValueChange {
-    /// It becomes this one.
-    Set(Given),
-    /// The elements of its array become these values, or it becomes the array of them.
-    SetAll(Many<Given>),
-    /// Its argument, entry or element is removed.
-    Delete,
+/// The same for some values.
+fn reads_all(values: &[Given])
+    ensures { AllMayBeGiven values.now }
+{
+    for i in 0..values.len() {
+        reads(&values[i]);
+    }
+}
+
+/// The same for the values of a change.
+fn reads_change(change: &ValueChange)
+    ensures { MayBeMade change.now }
+{
+    match change {
+        ValueChange::Set(given) => reads(given),
+        ValueChange::SetAll(values) => reads_all(values.get()),
+        ValueChange::Delete => {}
+    }
 }
 
 /// The key that a refusal names: the last one, or `.` without keys.
@@ -120,10 +140,12 @@ pub fn argument_steps(
     change: &ValueChange,
 ) -> Result<Vec<ListStep>, Refusal>
     requires { IsProject (loaded_in sources) }
+    ensures may { MayBeMade change.now }
     ensures plan { (may : MayBeMade change.now) → let old = loaded_in sources.entry in
         IfOk result (λ steps. ArePlanned old (argument_steps old name.now change.now may) steps.items) }
     ensures refused { (may : MayBeMade change.now) → RefusedAs result (argument_steps (loaded_in sources.entry) name.now change.now may) }
 {
+    reads_change(change);
     let place = find_place(alloc, sources, &name.place)?;
     let keys = name.keys.get();
     let slot = find_slot(alloc, sources, &place, keys)?;

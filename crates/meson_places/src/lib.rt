@@ -4,10 +4,8 @@
 mod additions;
 pub mod arguments;
 pub mod changes;
-pub mod code;
 mod colon;
 mod elements;
-pub mod fault;
 mod keys;
 pub mod laws;
 mod lines;
@@ -20,9 +18,6 @@ pub mod slots;
 pub mod spans;
 pub mod values;
 
-pub use arguments::{ValueChange, ValueName};
 pub use elements::ListKind;
-pub use fault::ValueFault;
-pub use name::{Callee, PlaceName, Search, Sources};
+pub use name::Sources;
 pub use slots::Slot;
-pub use values::Given;

@@ -10,13 +10,14 @@ ghost use Rattle.meson_places.specs.Names.{file_of_folder, found_by_id, found_on
 ghost use Rattle.meson_places.specs.Names.{project_there, searched, searched_file, the_place};
 
 use crate::lines::{first_around, place_on};
-use crate::name::{PlaceName, Search, Sources};
+use crate::name::Sources;
 use crate::naming::named_place;
 use meson_calls::chosen_notes::with_role;
 use meson_calls::note::Note;
 use meson_calls::notes::notes_of;
 use meson_calls::{CallRef, Refusal, Role};
 use meson_splice::{FileSet, Text};
+use meson_steps::argument::{PlaceName, Search};
 use std::alloc::{AllocError, Global};
 
 /// The places that a name finds.

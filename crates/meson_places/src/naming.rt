@@ -11,7 +11,6 @@ ghost use Rattle.meson_calls.specs.Roles.{one_of};
 ghost use Rattle.meson_calls.specs.Strings.{AreGood, note_words};
 ghost use Rattle.meson_places.specs.Names.{calls_callee, calls_other, is_named, named_place, sets_named};
 
-use crate::name::{Callee, PlaceName};
 use meson_calls::literals::first_literal;
 use meson_calls::note::{Note, What};
 use meson_calls::place::{child_place, place_of};
@@ -19,6 +18,7 @@ use meson_calls::roles::{note_has_role, text_of};
 use meson_calls::{CallRef, Role};
 use meson_lex::Span;
 use meson_splice::Text;
+use meson_steps::argument::{Callee, PlaceName};
 use meson_syntax::{Bracket, Expr, List};
 use std::alloc::{AllocError, Global};
 

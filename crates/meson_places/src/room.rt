@@ -9,16 +9,17 @@ ghost use Rattle.meson_syntax.specs.View.{list_view, view};
 ghost use Rattle.meson_calls.specs.ChosenNotes.{Source};
 ghost use Rattle.meson_calls.specs.Loading.{AreParsed};
 ghost use Rattle.meson_steps.specs.ResultLimits.{plain_trees};
-ghost use Rattle.meson_places.specs.Code.{IsValue};
+ghost use Rattle.meson_steps.specs.Code.{IsValue};
 ghost use Rattle.meson_places.specs.Names.{loaded_in};
 ghost use Rattle.meson_places.specs.Room.{has_room, list_in_trees};
-ghost use Rattle.meson_places.specs.Values.{MayBeGiven, given_node};
+ghost use Rattle.meson_steps.specs.GivenWords.{MayBeGiven};
+ghost use Rattle.meson_places.specs.Values.{given_node};
 
-use crate::code::not_list;
 use crate::name::Sources;
-use crate::values::Given;
 use meson_calls::CallRef;
 use meson_edit::nests_within;
+use meson_steps::code::not_list;
+use meson_steps::given::Given;
 use meson_syntax::{Bracket, List, MAX_DEPTH, Parsed, Path, copy_tree, parse_list_within};
 use std::alloc::{AllocError, Global};
 

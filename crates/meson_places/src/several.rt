@@ -25,10 +25,11 @@ use crate::changes::{are_texts, element_child, is_array, is_literal, push_edit, 
 use crate::name::Sources;
 use crate::room::{has_room, has_room_for};
 use crate::slots::{ChildValue, Slot, elements_in};
-use crate::values::{Given, given_bytes};
+use crate::values::given_bytes;
 use meson_calls::place::child_place;
 use meson_calls::{CallRef, Refusal};
 use meson_splice::{Bytes, Text};
+use meson_steps::given::Given;
 use meson_steps::step::{ListEdit, ListStep};
 use meson_syntax::Expr;
 use std::alloc::{AllocError, Global};

@@ -27,6 +27,7 @@ use Rattle.meson_sources.specs.SourceEdits.{extra_key, extra_marks}
 use Rattle.meson_steps.specs.declared.command.Command.{Command}
 use Rattle.meson_steps.specs.declared.command.Command.TheVariants as command
 use Rattle.meson_steps.specs.declared.command.Done.{Done}
+use Rattle.meson_steps.specs.Done.{Meaning}
 use Rattle.meson_steps.specs.ResultLimits.{AreShallow, AreSmall, plain_trees, saturated}
 use Rattle.meson_steps.specs.Steps.{Step, StepsMake, none, step, all_stepped}
 use Rattle.meson_steps.proofs.PlainTrees.{parsed_shallow}
@@ -35,7 +36,7 @@ use Rattle.meson_details.specs.declared.details.Head.{Head}
 use Rattle.meson_details.specs.Details.{head, head_of, keywords, keywords_of_call}
 use Rattle.meson_plan.specs.Performing.{MayRefuse, Performs, unplanned, deep, large}
 use Rattle.meson_details.specs.Once.{call_told}
-use Rattle.meson_plan.specs.Planning.{call_asked, planned, target_told}
+use Rattle.meson_plan.specs.Planning.{Means, call_asked, target_told}
 use Rattle.meson_listing.specs.Entries.{call_data, target_data}
 use Rattle.meson_plan.specs.ListingLaws.{CallsAgree, CallsListed, DoesNothing, IsListedAs, TargetsAgree, TargetsListed, no_steps}
 use Rattle.meson_plan.specs.Listing as listing
@@ -161,9 +162,9 @@ none_saturated : 0 ≡ saturated 0
 none_saturated = omega arith
 
 -- without steps nothing changes, and the limits are those of the files
-nothing_done : (l : Loaded) (c : Command) (done : Done) → planned (project l) c ≡ Ok [] → IsProject l → DoesNothing done → Performs l c done l
-nothing_done l c done planned_none whole nothing = record {
-  made = record { steps = []; are_planned = planned_none; trees = plain_trees l; are_trees = refl; splices = []; files = l.files; bytes = 0; are_done = none l.files };
+nothing_done : (l : Loaded) (c : Command) (done : Done) → Means l c (Ok []) → IsProject l → DoesNothing done → Performs l c done l
+nothing_done l c done means whole nothing = record {
+  made = record { steps = []; are_planned = means; trees = plain_trees l; are_trees = refl; splices = []; files = l.files; bytes = 0; are_done = none l.files };
   shallow = parsed_shallow l.files l.parsed whole.parsed;
   small = parsed_small l.files l.parsed whole.parsed;
   is_change = nothing.no_splices;
@@ -173,22 +174,22 @@ nothing_done l c done planned_none whole nothing = record {
   are_trees = refl;
 }
 
-listed_as : (l : Loaded) (c : Command) (x : Result Data Refusal) → no_steps x ≡ planned (project l) c → IsListedAs l c x
-listed_as l c x agree = record {
-  done = λ d done is whole nothing. nothing_done l c done (sym agree ∙ ap no_steps is) whole nothing;
-  made = λ done new performs. is_made x performs.made.steps (agree ∙ performs.made.are_planned);
+listed_as : (l : Loaded) (c : Command) (x : Result Data Refusal) → Means l c (no_steps x) → ((m : Meaning) → Means l c m → no_steps x ≡ m) → IsListedAs l c x
+listed_as l c x means agree = record {
+  done = λ d done is whole nothing. nothing_done l c done (subst (Means l c) (ap no_steps is) means) whole nothing;
+  made = λ done new performs. is_made x performs.made.steps (agree (Ok performs.made.steps) performs.made.are_planned);
   refused = λ e refuses whole. by e refuses whole;
 }
   where
     by : (e : Refusal) → MayRefuse l c e → IsProject l → x ≡ Err e
-    by e (unplanned f is) whole = is_refused x f (agree ∙ is)
+    by e (unplanned f is) whole = is_refused x f (agree (Err f) is)
     by e (deep steps trees is are not_shallow) whole =
-        absurd (not_shallow (subst AreShallow (sym (same_trees l steps trees (none_meant x steps (agree ∙ is)) are)) (parsed_shallow l.files l.parsed whole.parsed)))
+        absurd (not_shallow (subst AreShallow (sym (same_trees l steps trees (none_meant x steps (agree (Ok steps) is)) are)) (parsed_shallow l.files l.parsed whole.parsed)))
     by e (large made shallow not_small) whole =
-        absurd (not_small (subst AreSmall (sym (nothing_made l.files made.files made.steps made.splices made.bytes made.are_done (none_meant x made.steps (agree ∙ made.are_planned)))) (parsed_small l.files l.parsed whole.parsed)))
+        absurd (not_small (subst AreSmall (sym (nothing_made l.files made.files made.steps made.splices made.bytes made.are_done (none_meant x made.steps (agree (Ok made.steps) made.are_planned)))) (parsed_small l.files l.parsed whole.parsed)))
 
 pub targets_listed : TargetsListed
-targets_listed l id = listed_as l (command.TargetInfo id) (target_listing l id) (targets_agree l id)
+targets_listed l id = listed_as l (command.TargetInfo id) (target_listing l id) (sym (targets_agree l id)) (λ m is. targets_agree l id ∙ is)
 
 pub calls_listed : CallsListed
-calls_listed l r id = listed_as l (command.KwargsInfo r id) (kwargs_listing l r id) (calls_agree l r id)
+calls_listed l r id = listed_as l (command.KwargsInfo r id) (kwargs_listing l r id) (sym (calls_agree l r id)) (λ m is. calls_agree l r id ∙ is)

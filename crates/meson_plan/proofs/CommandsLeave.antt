@@ -18,6 +18,8 @@ use Rattle.meson_keywords.specs.Tasking.{Asked, to_set, to_add, to_remove, to_de
 use Rattle.meson_keywords.proofs.RequestsLeave.{requests-leave}
 use Rattle.meson_steps.specs.declared.command.Command.{Command}
 use Rattle.meson_steps.specs.declared.command.Command.TheVariants as command
+use Rattle.meson_steps.specs.declared.argument.ValueChange.{ValueChange}
+use Rattle.meson_steps.specs.declared.argument.ValueName.{ValueName}
 use Rattle.meson_steps.specs.declared.command.Done.{Done}
 use Rattle.meson_steps.specs.ResultLimits.{plain_trees}
 use Rattle.meson_steps.specs.Steps.{Step, all_stepped}
@@ -33,7 +35,10 @@ use Rattle.meson_targets.specs.TargetEdits.{target_added, target_removed}
 use Rattle.meson_targets.proofs.AddedTargets.{added-targets-are-named}
 use Rattle.meson_targets.proofs.RemovedTargets.{removed-targets-are-gone}
 use Rattle.meson_plan.specs.Effects.{CommandsLeave, ExtrasCome, ExtrasGo, LeavesOf, SourcesCome, SourcesGo, TargetComes, TargetGoes}
+use Rattle.meson_places.specs.Effects.{ValueLeft}
+use Rattle.meson_places.proofs.ValuesLeft.{values_left}
 use Rattle.meson_plan.specs.Performing.{Performs}
+use Rattle.meson_plan.specs.Planning.{Means}
 use Rattle.meson_plan.proofs.NamesKept.{names_kept}
 
 module _ (old new : Loaded) (c : Command) (done : Done) (is : IsProject old) (p : Performs old c done new) where
@@ -103,6 +108,9 @@ module _ (old new : Loaded) (c : Command) (done : Done) (is : IsProject old) (p 
       let t = added-targets-are-named old name kind folder sources p.made.steps (plain_trees new) utf8 made (p.made.are_trees ∙ ap Some (sym p.are_trees)) in
       record { file = t.0; is_file = t.1; named = t.2 }
 
+  value_left : (name : ValueName) (change : ValueChange) → Means old (command.Argument name change) (Ok p.made.steps) → ValueLeft old name change (plain_trees old) (plain_trees new)
+  value_left name change means = values_left old name change means.0 p.made.steps (plain_trees new) means.1 stepped
+
 pub commands-leave : CommandsLeave
 commands-leave old new (command.SourcesAdd id names) done is p = sources_come old new (command.SourcesAdd id names) done is p id names p.made.are_planned
 commands-leave old new (command.TargetAdd name kind folder sources) done is p = λ utf8. target_comes old new (command.TargetAdd name kind folder sources) done is p name kind folder sources p.made.are_planned utf8
@@ -116,4 +124,5 @@ commands-leave old new (command.KwargsRemove r id pairs) done is p = leaves old 
 commands-leave old new (command.KwargsDelete r id keys) done is p = leaves old new (command.KwargsDelete r id keys) done is p r id (to_delete keys) p.made.are_planned
 commands-leave old new (command.OptionsSet pairs) done is p = leaves old new (command.OptionsSet pairs) done is p _ _ (to_set_options pairs) p.made.are_planned
 commands-leave old new (command.OptionsDelete names) done is p = leaves old new (command.OptionsDelete names) done is p _ _ (to_delete_options names) p.made.are_planned
+commands-leave old new (command.Argument name change) done is p = value_left old new (command.Argument name change) done is p name change p.made.are_planned
 commands-leave old new _ done is p = tt

@@ -4,6 +4,7 @@ pub mod PlacesFound
 mod DetailsThere
 mod CommandsLeave
 mod NamesKept
+pub mod OneMeaning
 mod UnchangedFiles
 mod KeptAfter
 pub mod Agreeing

@@ -1,4 +1,5 @@
--- What is there after a command: the arguments of the call that it changes, the lists that get or lose sources or extra files, and the calls that a name names.
+-- What is there after a command: the arguments of the call that it changes, the lists that get or lose sources or extra files, the calls that a name names, and
+-- the value that is changed.
 -- Meson manual, Rewriter.
 use Rattle.std.specs.Prelude.{◌≡◌, ℕ, List, ◌∷◌, All, codes, Ok}
 use Rattle.std.specs.Str.{IsUtf8}
@@ -15,6 +16,7 @@ use Rattle.meson_keywords.specs.Tasking.{Asked, to_set, to_add, to_remove, to_de
 use Rattle.meson_steps.specs.declared.command.Command.{Command}
 use Rattle.meson_steps.specs.declared.command.Command.TheVariants as command
 use Rattle.meson_steps.specs.declared.command.Done.{Done}
+use Rattle.meson_places.specs.Effects.{ValueLeft}
 use Rattle.meson_sources.specs.Effects.{ExtraComes, ListGets, NamesGo, extra_home}
 use Rattle.meson_sources.specs.SourceEdits.{extra_marks, new_names}
 use Rattle.meson_sources.specs.WholeExtras.{ExtrasGrow, ExtrasShrink}
@@ -84,6 +86,7 @@ HasEffect old (command.KwargsRemove r id pairs) new = LeavesOf old r id (to_remo
 HasEffect old (command.KwargsDelete r id keys) new = LeavesOf old r id (to_delete keys) new
 HasEffect old (command.OptionsSet pairs) new = LeavesOf old role.Project (codes "/") (to_set_options pairs) new
 HasEffect old (command.OptionsDelete names) new = LeavesOf old role.Project (codes "/") (to_delete_options names) new
+HasEffect old (command.Argument name change) new = ValueLeft old name change (plain_trees old) (plain_trees new)
 HasEffect old _ new = Unit {0}
 
 -- the law: what a command that is performed leaves of the call that it changes

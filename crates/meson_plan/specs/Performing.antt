@@ -7,16 +7,16 @@ use Rattle.meson_steps.specs.declared.command.Command.{Command}
 use Rattle.meson_steps.specs.declared.command.Done.{Done}
 use Rattle.meson_calls.specs.declared.refusal.Refusal.{Refusal}
 use Rattle.meson_calls.specs.declared.refusal.Refusal.TheVariants.{TooDeep, TooLarge}
-use Rattle.meson_calls.specs.Loading.{Loaded, project}
+use Rattle.meson_calls.specs.Loading.{Loaded}
 use Rattle.meson_steps.specs.Steps.{Step, all_stepped, StepsMake}
 use Rattle.meson_steps.specs.Keeping.{StepsKeep}
-use Rattle.meson_plan.specs.Planning.{planned}
+use Rattle.meson_plan.specs.Planning.{Means}
 use Rattle.meson_steps.specs.ResultLimits.{AreShallow, AreSmall, plain_trees, saturated}
 
 -- What a command makes of a project: the trees by its edits, the splices and files by the layouts of these.
 pub record Makes (old : Loaded) (c : Command) : Type 0 where
   pub steps : List Step
-  pub are_planned : planned (project old) c ≡ Ok steps
+  pub are_planned : Means old c (Ok steps)
   pub trees : List Plain
   pub are_trees : all_stepped steps (plain_trees old) ≡ Some trees
   pub splices : List Splice
@@ -40,12 +40,12 @@ pub record Performs (old : Loaded) (c : Command) (done : Done) (new : Loaded) : 
 -- Each step of the command changes one file, and keeps in it all that the step's edit does not touch.
 pub record KeepsUntouched (old : Loaded) (c : Command) (new : Loaded) : Type 0 where
   pub steps : List Step
-  pub are_planned : planned (project old) c ≡ Ok steps
+  pub are_planned : Means old c (Ok steps)
   pub keep : StepsKeep old.files steps new.files
 
 -- Why a command is refused: it means no edits, or what it makes passes a limit.
 pub data MayRefuse (old : Loaded) (c : Command) : Refusal → Type 0 where
-  unplanned : (refusal : Refusal) → planned (project old) c ≡ Err refusal → MayRefuse old c refusal
-  deep : (steps : List Step) (trees : List Plain) → planned (project old) c ≡ Ok steps → all_stepped steps (plain_trees old) ≡ Some trees
+  unplanned : (refusal : Refusal) → Means old c (Err refusal) → MayRefuse old c refusal
+  deep : (steps : List Step) (trees : List Plain) → Means old c (Ok steps) → all_stepped steps (plain_trees old) ≡ Some trees
       → (AreShallow trees → ⊥) → MayRefuse old c TooDeep
   large : (made : Makes old c) → AreShallow made.trees → (AreSmall made.files → ⊥) → MayRefuse old c TooLarge

@@ -1,11 +1,12 @@
 -- The edits that a command means, or why it is refused. Meson manual, Rewriter.
-use Rattle.std.specs.Prelude.{List, [], codes, Result, Ok}
+use Rattle.std.specs.Prelude.{◌≡◌, List, [], codes, Result, Ok}
 use Rattle.meson_splice.specs.Patch.{then_ok}
 use Rattle.meson_calls.specs.declared.call.Role.{Role}
 use Rattle.meson_calls.specs.declared.call.Role.TheVariants as role
 use Rattle.meson_steps.specs.declared.command.Command.{Command}
 use Rattle.meson_steps.specs.declared.command.Command.TheVariants as command
 use Rattle.meson_calls.specs.declared.refusal.Refusal.{Refusal}
+use Rattle.meson_calls.specs.Loading.{Loaded, project}
 use Rattle.meson_calls.specs.Project.{Project}
 use Rattle.meson_calls.specs.Calls.{Call}
 use Rattle.meson_calls.specs.Finding.{the_call}
@@ -15,6 +16,8 @@ use Rattle.meson_sources.specs.SourceEdits.{extra_key, sources_added, sources_re
 use Rattle.meson_targets.specs.TargetEdits.{target_added, target_removed}
 use Rattle.meson_keywords.specs.Tasks.{each_made, set_entry, delete_entry, add_entry, remove_entry, set_option_entry, delete_option_entry}
 use Rattle.meson_keywords.specs.TaskSteps.{call_changed}
+use Rattle.meson_places.specs.Arguments.{MayBeMade, argument_steps}
+use Rattle.meson_steps.specs.Done.{Meaning}
 use Rattle.meson_steps.specs.Steps.{Step}
 
 -- ---- commands that change nothing: what they report may be there once only
@@ -27,6 +30,7 @@ call_asked r c = then_ok (call_told r c) (λ _. Ok [])
 
 -- ---- commands
 
+-- what a command means by the calls of a project alone; nothing where a value is changed
 abbrev pub planned : {S : Type 0} → Project S → Command → Result (List Step) Refusal
 planned p (command.SourcesAdd target sources) = then_ok (the_call p role.Target target) (λ c. sources_added p c sources)
 planned p (command.SourcesRemove target sources) = then_ok (the_call p role.Target target) (λ c. sources_removed p c sources)
@@ -42,3 +46,9 @@ planned p (command.KwargsDelete r id keys) = then_ok (the_call p r id) (call_cha
 planned p (command.KwargsInfo r id) = then_ok (the_call p r id) (λ c. call_asked r c.it)
 planned p (command.OptionsSet pairs) = then_ok (the_call p role.Project (codes "/")) (call_changed p (each_made set_option_entry pairs))
 planned p (command.OptionsDelete names) = then_ok (the_call p role.Project (codes "/")) (call_changed p (each_made delete_option_entry names))
+planned p (command.Argument name change) = Ok []
+
+-- What a command means. A change of a value, whose values may be given, also reads the files: where lines begin, and how its neighbours are written.
+abbrev pub Means : Loaded → Command → Meaning → Type 0
+Means l (command.Argument name change) meant = (may : MayBeMade change) × (argument_steps l name change may ≡ meant)
+Means l c meant = planned (project l) c ≡ meant

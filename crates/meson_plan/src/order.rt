@@ -4,10 +4,9 @@ ghost use Rattle.std.specs.Prelude.{◌≡◌, codes, false};
 ghost use Rattle.meson_lex.specs.declared.kinds.Span as lex;
 ghost use Rattle.meson_calls.specs.Project.{Project};
 ghost use Rattle.meson_keywords.specs.Changing.{request_steps};
-ghost use Rattle.meson_keywords.specs.Tasking.{asked};
+ghost use Rattle.meson_keywords.specs.Tasking.{asked, request_view};
 ghost use Rattle.meson_plan.specs.Listing.{asks};
-ghost use Rattle.meson_plan.specs.inside.Orders.{order_steps, sought};
-ghost use Rattle.meson_plan.specs.Planning.{planned};
+ghost use Rattle.meson_plan.specs.inside.Orders.{IsOrder, plan_steps, sought};
 ghost use Rattle.meson_sources.specs.Targeted.{target_steps};
 
 use meson_calls::Role;
@@ -17,6 +16,7 @@ use meson_sources::targeting::TargetChange::{
     ExtraAdded, ExtraRemoved, SourcesAdded, SourcesRemoved,
 };
 use meson_splice::{Many, Text};
+use meson_steps::argument::{ValueChange, ValueName};
 use meson_steps::command::Command;
 use meson_targets::target_adding::NewTarget;
 
@@ -49,47 +49,57 @@ impl<'c> Plan<'c> {
 pub(crate) enum Order<'c> {
     Planned(Plan<'c>),
     Changed(Request<'c>),
+    /// A value is changed.
+    OnValue(&'c ValueName, &'c ValueChange),
 }
 
 /// A change of a target.
-fn on_target<'c>(target: &'c Text, change: TargetChange, names: &'c Many<Text>) -> Order<'c>
-    ensures { (p : Project lex.Span) → order_steps p result ≡ target_steps p target.entry.now change names.entry.now }
+fn on_target<'c>(target: &'c Text, change: TargetChange, names: &'c Many<Text>) -> Plan<'c>
+    ensures { (p : Project lex.Span) → plan_steps p result ≡ target_steps p target.entry.now change names.entry.now }
 {
-    Order::Planned(Plan::OnTarget(target, change, names))
+    Plan::OnTarget(target, change, names)
 }
 
 /// A change of a call.
-fn on_call<'c>(role: Role, id: &'c Text, words: AskedWords<'c>) -> Order<'c>
-    ensures { (p : Project lex.Span) → order_steps p result ≡ request_steps p (role, id.entry.now, asked words.entry) }
+fn on_call<'c>(role: Role, id: &'c Text, words: AskedWords<'c>) -> Request<'c>
+    ensures { (p : Project lex.Span) → request_steps p (request_view result) ≡ request_steps p (role, id.entry.now, asked words.entry) }
 {
-    Order::Changed(Request {
+    Request {
         role,
         id: id.get(),
         words,
-    })
+    }
 }
 
 /// A change of the call of `project`.
-fn on_project(words: AskedWords<'_>) -> Order<'_>
-    ensures { (p : Project lex.Span) → order_steps p result ≡ request_steps p (Role.Project, codes "/", asked words.entry) }
+fn on_project(words: AskedWords<'_>) -> Request<'_>
+    ensures { (p : Project lex.Span) → request_steps p (request_view result) ≡ request_steps p (Role.Project, codes "/", asked words.entry) }
 {
-    Order::Changed(Request {
+    Request {
         role: Role::Project,
         id: "/",
         words,
-    })
+    }
 }
 
-/// The order of a command that changes something. The command's steps, or the reason why it is refused, are those of the order.
+/// The order of a command that changes something. What the order means is what the command means.
 pub(crate) fn order_of(command: &Command) -> Order<'_>
     requires { asks command.now ≡ false }
-    ensures { (p : Project lex.Span) → order_steps p result ≡ planned p command.now }
+    ensures { IsOrder command.now result }
 {
     match command {
-        Command::SourcesAdd { target, sources } => on_target(target, SourcesAdded, sources),
-        Command::SourcesRemove { target, sources } => on_target(target, SourcesRemoved, sources),
-        Command::ExtraAdd { target, sources } => on_target(target, ExtraAdded, sources),
-        Command::ExtraRemove { target, sources } => on_target(target, ExtraRemoved, sources),
+        Command::SourcesAdd { target, sources } => {
+            Order::Planned(on_target(target, SourcesAdded, sources))
+        }
+        Command::SourcesRemove { target, sources } => {
+            Order::Planned(on_target(target, SourcesRemoved, sources))
+        }
+        Command::ExtraAdd { target, sources } => {
+            Order::Planned(on_target(target, ExtraAdded, sources))
+        }
+        Command::ExtraRemove { target, sources } => {
+            Order::Planned(on_target(target, ExtraRemoved, sources))
+        }
         Command::TargetAdd {
             target,
             target_kind,
@@ -104,19 +114,24 @@ pub(crate) fn order_of(command: &Command) -> Order<'_>
         Command::TargetRemove { target } => Order::Planned(Plan::RemoveTarget(target.get())),
         Command::TargetInfo { .. } => unreachable!(),
         Command::KwargsInfo { .. } => unreachable!(),
-        Command::KwargsSet { role, id, pairs } => on_call(*role, id, AskedWords::Set(pairs.get())),
-        Command::KwargsAdd { role, id, pairs } => on_call(*role, id, AskedWords::Add(pairs.get())),
-        Command::KwargsRemove { role, id, pairs } => on_call(
-            *role,
-            id,
-            AskedWords::Remove(pairs.get()),
-        ),
-        Command::KwargsDelete { role, id, keys } => on_call(
-            *role,
-            id,
-            AskedWords::Delete(keys.get()),
-        ),
-        Command::OptionsSet { pairs } => on_project(AskedWords::SetOptions(pairs.get())),
-        Command::OptionsDelete { names } => on_project(AskedWords::DeleteOptions(names.get())),
+        Command::KwargsSet { role, id, pairs } => {
+            Order::Changed(on_call(*role, id, AskedWords::Set(pairs.get())))
+        }
+        Command::KwargsAdd { role, id, pairs } => {
+            Order::Changed(on_call(*role, id, AskedWords::Add(pairs.get())))
+        }
+        Command::KwargsRemove { role, id, pairs } => {
+            Order::Changed(on_call(*role, id, AskedWords::Remove(pairs.get())))
+        }
+        Command::KwargsDelete { role, id, keys } => {
+            Order::Changed(on_call(*role, id, AskedWords::Delete(keys.get())))
+        }
+        Command::OptionsSet { pairs } => {
+            Order::Changed(on_project(AskedWords::SetOptions(pairs.get())))
+        }
+        Command::OptionsDelete { names } => {
+            Order::Changed(on_project(AskedWords::DeleteOptions(names.get())))
+        }
+        Command::Argument { name, change } => Order::OnValue(name, change),
     }
 }

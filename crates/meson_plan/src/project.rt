@@ -10,7 +10,7 @@ ghost use Rattle.meson_steps.specs.Done.{IsDone, MayNotBeDone};
 ghost use Rattle.meson_steps.specs.Working.{IsFresh, Restores, so_far};
 ghost use Rattle.meson_plan.specs.Listing.{asks};
 ghost use Rattle.meson_plan.specs.Performing.{MayRefuse, Performs};
-ghost use Rattle.meson_plan.specs.Planning.{planned};
+ghost use Rattle.meson_plan.specs.inside.Orders.{Ends};
 ghost use Rattle.meson_calls.specs.Roles.{targets, is_target, places};
 ghost use Rattle.meson_calls.specs.Naming.{found};
 ghost use Rattle.meson_calls.specs.Finding.{the_call};
@@ -39,6 +39,7 @@ use meson_details::called::call_at;
 use meson_details::showing::{head_of, keywords_of};
 use meson_details::{Head, Shown};
 use meson_keywords::changing::changed;
+use meson_places::arguments::argument_steps;
 use meson_sources::extra_files::extra_files_of;
 use meson_splice::{Change, FileSet, Many, Text, put_bytes_back};
 use meson_steps::command::{Command, Done};
@@ -382,9 +383,9 @@ fn performed(
     requires fresh { IsFresh work.old }
     requires kept { AreKept kept.old.items work.old.files work.old.trees.items }
     ensures kept { AreKept kept.new.items work.old.files work.old.trees.items }
-    ensures done { OnOk result (IsDone (so_far work.old) (planned (project (so_far work.old)) command.now) work.new) }
+    ensures done { OnOk result (Ends (so_far work.old) command.now (λ meant. IsDone (so_far work.old) meant work.new)) }
     ensures restores { (first : Loaded) → Restores work.old first → Restores work.new first }
-    ensures refused { IfRefused result (MayNotBeDone (so_far work.old) (planned (project (so_far work.old)) command.now)) }
+    ensures refused { IfRefused result (λ e. Ends (so_far work.old) command.now (λ meant. MayNotBeDone (so_far work.old) meant e)) }
 {
     match order_of(command) {
         Order::Planned(plan) => {
@@ -392,5 +393,13 @@ fn performed(
             done(alloc, work, steps)
         }
         Order::Changed(request) => changed(alloc, work, request),
+        Order::OnValue(name, change) => {
+            let sources = meson_places::Sources {
+                files: &work.files,
+                trees: work.trees.as_slice(),
+            };
+            let steps = argument_steps(alloc, sources, name, change)?;
+            done(alloc, work, steps)
+        }
     }
 }

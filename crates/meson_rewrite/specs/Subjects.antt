@@ -4,8 +4,17 @@ use Rattle.meson_calls.specs.Loading.{Loaded}
 use Rattle.meson_calls.specs.declared.refusal.Refusal.{Refusal}
 use Rattle.meson_calls.specs.declared.refusal.Refusal.TheVariants as refusal
 use Rattle.meson_explaining.specs.Names.{meant_name}
+use Rattle.meson_steps.specs.declared.argument.PlaceName.{PlaceName}
+use Rattle.meson_steps.specs.declared.argument.PlaceName.TheVariants as name
 use Rattle.meson_steps.specs.declared.command.Command.{Command}
-use Rattle.meson_steps.specs.declared.command.Command.TheVariants.{SourcesAdd, SourcesRemove, ExtraAdd, ExtraRemove, TargetAdd, TargetRemove, TargetInfo, KwargsSet, KwargsAdd, KwargsRemove, KwargsDelete, KwargsInfo, OptionsSet, OptionsDelete}
+use Rattle.meson_steps.specs.declared.command.Command.TheVariants.{SourcesAdd, SourcesRemove, ExtraAdd, ExtraRemove, TargetAdd, TargetRemove, TargetInfo, KwargsSet, KwargsAdd, KwargsRemove, KwargsDelete, KwargsInfo, OptionsSet, OptionsDelete, Argument}
+
+-- the id of a call or a variable; a line has none
+abbrev pub id_in : PlaceName → Option (List ℕ)
+id_in (name.Project id) = Some id
+id_in (name.Call callee id) = Some id
+id_in (name.Variable id) = Some id
+id_in (name.Line file line) = None
 
 -- the id of the call that the command is about; default options are of no id
 abbrev pub id_of : Command → Option (List ℕ)
@@ -23,6 +32,7 @@ id_of (KwargsDelete role id keys) = Some id
 id_of (KwargsInfo role id) = Some id
 id_of (OptionsSet pairs) = None
 id_of (OptionsDelete names) = None
+id_of (Argument n change) = id_in n.place.name
 
 -- the folder of a new target
 abbrev pub folder_of : Command → Option (List ℕ)

@@ -1,13 +1,24 @@
 //! The names that refusals of commands mean.
 
 ghost use Rattle.std.specs.Prelude.{◌≡◌, IfOk, option_map};
-ghost use Rattle.meson_rewrite.specs.Subjects.{folder_of, id_of, subject_of};
+ghost use Rattle.meson_rewrite.specs.Subjects.{folder_of, id_in, id_of, subject_of};
 
 use meson_explaining::meant_name;
 use meson_json::owned;
 use meson_plan::{Command, Project, Refusal};
 use meson_splice::Text;
+use meson_steps::argument::PlaceName;
 use std::alloc::{AllocError, Global};
+
+/// The id of a call or a variable; a line has none.
+fn id_in(name: &PlaceName) -> Option<&Text>
+    ensures { option_map (λ id. id.now) result ≡ id_in name.now }
+{
+    match name {
+        PlaceName::Project(id) | PlaceName::Call { id, .. } | PlaceName::Variable(id) => Some(id),
+        PlaceName::Line { .. } => None,
+    }
+}
 
 /// The id of the call that a command is about; default options are of no id.
 fn id_of(command: &Command) -> Option<&Text>
@@ -27,6 +38,7 @@ fn id_of(command: &Command) -> Option<&Text>
         | Command::KwargsDelete { id, .. }
         | Command::KwargsInfo { id, .. } => Some(id),
         Command::OptionsSet { .. } | Command::OptionsDelete { .. } => None,
+        Command::Argument { name, .. } => id_in(&name.place.name),
     }
 }
 

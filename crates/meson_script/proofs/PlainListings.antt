@@ -159,3 +159,4 @@ told-plain l (command.KwargsRemove r id pairs) more is = none-plain more is
 told-plain l (command.KwargsDelete r id keys) more is = none-plain more is
 told-plain l (command.OptionsSet pairs) more is = none-plain more is
 told-plain l (command.OptionsDelete names) more is = none-plain more is
+told-plain l (command.Argument name change) more is = none-plain more is

@@ -1,5 +1,5 @@
 -- What is told and done of a project goes by its files and its trees.
-use Rattle.std.proofs.Common.{◌≡◌, List, [], ◌∷◌, map, Result, Ok, refl, sym, ap, ap₂, ◌∙◌, subst}
+use Rattle.std.proofs.Common.{◌≡◌, List, [], ◌∷◌, map, Result, Ok, Err, refl, sym, ap, ap₂, ◌∙◌, subst}
 use Rattle.serde_json.specs.Data.{Data}
 use Rattle.meson_splice.specs.declared.file_set.File.{File}
 use Rattle.meson_splice.specs.Patch.{then_ok}
@@ -8,14 +8,14 @@ use Rattle.meson_syntax.specs.Tree.{erase}
 use Rattle.meson_syntax.specs.View.{view}
 use Rattle.meson_syntax.proofs.parsing.Unique.{one-spanned}
 use Rattle.meson_calls.specs.declared.refusal.Refusal.{Refusal}
-use Rattle.meson_calls.specs.Loading.{AreParsed, Loaded, project, named_trees, trees, views}
+use Rattle.meson_calls.specs.Loading.{AreParsed, Loaded, trees, views}
 use Rattle.meson_script.proofs.ByTrees.{calls-same, targets-same}
 use Rattle.meson_steps.specs.declared.command.Command.{Command}
 use Rattle.meson_steps.specs.declared.command.Command.TheVariants as command
 use Rattle.meson_steps.specs.declared.command.Done.{Done}
 use Rattle.meson_steps.specs.ResultLimits.{plain_trees}
 use Rattle.meson_steps.specs.Steps.{StepsMake, all_stepped}
-use Rattle.meson_plan.specs.Planning.{planned}
+use Rattle.meson_plan.proofs.OneMeaning.{means-same}
 use Rattle.meson_plan.specs.Performing.{Makes, MayRefuse, Performs, unplanned, deep, large}
 use Rattle.meson_plan.specs.Listing.{told}
 use Rattle.meson_script.specs.Outcomes.{OneProject}
@@ -35,9 +35,6 @@ one-project p q h k is = same-views p.files p.parsed q.parsed h.parsed (subst (�
 pub record Same (p q : Loaded) : Type 0 where
   pub files : p.files ≡ q.files
   pub trees : trees p ≡ trees q
-
-same-project : (p q : Loaded) → Same p q → project p ≡ project q
-same-project p q s = ap₂ named_trees s.files s.trees
 
 same-plain : (p q : Loaded) → Same p q → plain_trees p ≡ plain_trees q
 same-plain p q s = ap (map erase) s.trees
@@ -62,13 +59,14 @@ told-same p q s (command.KwargsRemove role id pairs) = refl
 told-same p q s (command.KwargsDelete role id keys) = refl
 told-same p q s (command.OptionsSet pairs) = refl
 told-same p q s (command.OptionsDelete names) = refl
+told-same p q s (command.Argument name change) = refl
 
 -- ---- what is done
 
 abbrev made-same : (p q : Loaded) (c : Command) → Same p q → Makes p c → Makes q c
 made-same p q c s m = record {
   steps = m.steps;
-  are_planned = ap (λ x. planned x c) (sym (same-project p q s)) ∙ m.are_planned;
+  are_planned = means-same p q s.files s.trees c (Ok m.steps) m.are_planned;
   trees = m.trees;
   are_trees = ap (all_stepped m.steps) (sym (same-plain p q s)) ∙ m.are_trees;
   splices = m.splices;
@@ -90,7 +88,7 @@ performs-same p q c done new s h = record {
 }
 
 pub refuses-same : (p q : Loaded) (c : Command) (e : Refusal) → Same p q → MayRefuse p c e → MayRefuse q c e
-refuses-same p q c e s (unplanned f is) = unplanned e (ap (λ x. planned x c) (sym (same-project p q s)) ∙ is)
+refuses-same p q c e s (unplanned f is) = unplanned e (means-same p q s.files s.trees c (Err e) is)
 refuses-same p q c e s (deep steps trees is stepped high) =
-    deep steps trees (ap (λ x. planned x c) (sym (same-project p q s)) ∙ is) (ap (all_stepped steps) (sym (same-plain p q s)) ∙ stepped) high
+    deep steps trees (means-same p q s.files s.trees c (Ok steps) is) (ap (all_stepped steps) (sym (same-plain p q s)) ∙ stepped) high
 refuses-same p q c e s (large made shallow wide) = large (made-same p q c s made) shallow wide

@@ -39,3 +39,7 @@ pub mod Keeping
 pub mod ErasedParts
 pub mod ToldAlike
 pub mod PartsPut
+pub mod OneElement
+pub mod ReadKinds
+pub mod Bracketed
+pub mod CodeDecided

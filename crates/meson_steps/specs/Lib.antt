@@ -10,4 +10,7 @@ pub mod OneStanding
 pub mod Meanings
 pub mod Names
 pub mod WrittenTexts
+pub mod Code
+pub mod GivenWords
+pub mod ValueFaults
 pub mod inside

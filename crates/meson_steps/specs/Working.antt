@@ -1,5 +1,5 @@
 -- The state of the work between two steps of a command.
-use Rattle.std.specs.Prelude.{◌≡◌, ℕ, ◌+◌, ◌<◌, ◌≤◌, List, [], ◌++◌, All, length, slice_index_or, Some, Ok, if◌then◌else◌}
+use Rattle.std.specs.Prelude.{◌≡◌, ℕ, ◌<◌, ◌≤◌, List, [], ◌++◌, All, length, slice_index_or, Some, Ok, if◌then◌else◌}
 use Rattle.meson_lex.specs.declared.kinds.Span.{Span}
 use Rattle.meson_splice.specs.declared.file_set.File.{File}
 use Rattle.meson_splice.specs.declared.splice.Splice.{Splice}
@@ -17,9 +17,8 @@ use Rattle.meson_syntax.specs.View.{view}
 use Rattle.meson_steps.specs.declared.journal.Saved.{Saved}
 use Rattle.meson_steps.specs.declared.spans.ListSpot.{ListSpot}
 use Rattle.meson_steps.specs.declared.step.ListStep.{ListStep}
-use Rattle.meson_steps.specs.declared.step.ListEdit.TheVariants as code
 use Rattle.meson_steps.specs.declared.work.Work.{Work}
-use Rattle.meson_steps.specs.ListSteps.{AreBare, AreDoable, bare, wide_depth}
+use Rattle.meson_steps.specs.ListSteps.{AreBare, AreDoable, wide_depth}
 use Rattle.meson_calls.specs.declared.call.CallRef.{CallRef}
 use Rattle.meson_calls.specs.Loading.{Loaded, HasFileName, IsProject, max_files}
 use Rattle.meson_steps.specs.Journal.{PutsBack, is_saved}

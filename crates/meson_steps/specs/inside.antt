@@ -5,3 +5,4 @@ pub mod WrittenValues
 pub mod Working
 pub mod ListSteps
 pub mod Journal
+pub mod Bare

@@ -1,5 +1,6 @@
 //! Commands, and what a command did.
 
+use crate::argument::{ValueChange, ValueName};
 use meson_calls::Role;
 use meson_splice::{Change, Many, Text};
 use std::fmt;
@@ -73,6 +74,11 @@ pub enum Command {
     OptionsDelete {
         names: Many<Text>,
     },
+    /// A value of a call, a dictionary, an array or a variable is changed.
+    Argument {
+        name: ValueName,
+        change: ValueChange,
+    },
 }
 
 /// What a command did.
@@ -135,6 +141,7 @@ impl Drop for Command {
             Command::KwargsInfo { role: _, id: _ } => {}
             Command::OptionsSet { pairs: _ } => {}
             Command::OptionsDelete { names: _ } => {}
+            Command::Argument { name: _, change: _ } => {}
         }
     }
 }
@@ -168,6 +175,7 @@ impl Command {
             Command::KwargsInfo { .. } => "KwargsInfo",
             Command::OptionsSet { .. } => "OptionsSet",
             Command::OptionsDelete { .. } => "OptionsDelete",
+            Command::Argument { .. } => "Argument",
         }
     }
 }
@@ -201,6 +209,7 @@ impl fmt::Debug for Command {
             Command::KwargsInfo { role, id } => shown.field(role).field(id),
             Command::OptionsSet { pairs } => shown.field(pairs),
             Command::OptionsDelete { names } => shown.field(names),
+            Command::Argument { name, change } => shown.field(name).field(change),
         };
         shown.finish()
     }

@@ -1,5 +1,6 @@
 //! Laws of steps. The functions do nothing: what they ensure is the law.
 
+ghost use Rattle.meson_steps.specs.Code.{CodeIsExpression};
 ghost use Rattle.meson_steps.specs.Keeping.{MakingKeeps};
 ghost use Rattle.meson_steps.specs.OneStanding.{OneMaking, OneStanding};
 ghost use Rattle.meson_steps.specs.Steps.{ListsAreReadAgain};
@@ -18,4 +19,9 @@ pub fn reading()
 pub fn one_making()
     ensures one_making { OneMaking }
     ensures one_standing { OneStanding }
+{}
+
+/// The function that says of each text whether it is an expression says so exactly of those that are.
+pub fn code_is_expression()
+    ensures { CodeIsExpression }
 {}

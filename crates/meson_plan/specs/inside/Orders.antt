@@ -1,15 +1,19 @@
 -- What an order means: its steps, or why it is refused.
-use Rattle.std.specs.Prelude.{ℕ, List}
+use Rattle.std.specs.Prelude.{◌≡◌, ℕ, List}
 use Rattle.meson_calls.specs.declared.call.Role.{Role}
 use Rattle.meson_calls.specs.declared.call.Role.TheVariants as role
+use Rattle.meson_calls.specs.Loading.{Loaded, project}
 use Rattle.meson_calls.specs.Project.{Project}
 use Rattle.meson_lex.specs.declared.kinds.Span.{Span}
 use Rattle.meson_steps.specs.Done.{Meaning}
+use Rattle.meson_steps.specs.declared.command.Command.{Command}
+use Rattle.meson_steps.specs.declared.command.Command.TheVariants as command
 use Rattle.meson_sources.specs.Targeted.{target_steps}
 use Rattle.meson_targets.specs.TargetEdits.{named_removed}
 use Rattle.meson_targets.specs.TargetViews.{new_target}
 use Rattle.meson_keywords.specs.Changing.{request_steps}
 use Rattle.meson_keywords.specs.Tasking.{request_view}
+use Rattle.meson_plan.specs.Planning.{Means}
 use Rattle.meson_plan.specs.declared.order.Order.{Order}
 use Rattle.meson_plan.specs.declared.order.Order.TheVariants as order
 use Rattle.meson_plan.specs.declared.order.Plan.{Plan}
@@ -26,6 +30,12 @@ plan_steps p (plan.OnTarget target change names) = target_steps p target.now cha
 plan_steps p (plan.AddTarget new) = new_target p new
 plan_steps p (plan.RemoveTarget target) = named_removed p target.now
 
-abbrev pub order_steps : Project Span → Order → Meaning
-order_steps p (order.Planned q) = plan_steps p q
-order_steps p (order.Changed r) = request_steps p (request_view r)
+-- an order of a command: its steps are those that the command means, or it is the change of a value that the command is
+abbrev pub IsOrder : Command → Order → Type 0
+IsOrder c (order.Planned q) = (l : Loaded) → Means l c (plan_steps (project l) q)
+IsOrder c (order.Changed r) = (l : Loaded) → Means l c (request_steps (project l) (request_view r))
+IsOrder c (order.OnValue name change) = c ≡ command.Argument name.now change.now
+
+-- what a command means, as it is done or refused
+abbrev pub Ends : Loaded → Command → (Meaning → Type 0) → Type 0
+Ends l c Ended = (meant : Meaning) × Means l c meant × Ended meant

@@ -2,7 +2,6 @@
 use Rattle.std.specs.Prelude.{Bool, true, false}
 use Rattle.meson_steps.specs.declared.step.ListEdit.{ListEdit}
 use Rattle.meson_steps.specs.declared.step.ListEdit.TheVariants as code
-use Rattle.meson_steps.specs.ListSteps.{one}
 
 -- whether an edit is one of a list
 abbrev pub edits_list : ListEdit → Bool

@@ -2,7 +2,7 @@ use Rattle.std.proofs.Common.{refl}
 use Rattle.clap.proofs.OnLiterals.{clap_on_literals}
 use Rattle.meson_command.specs.Actions.{action_of, kwargs_action, kwargs_by, options_action, options_by, other_action, script_action, target_action}
 use Rattle.meson_command.specs.Asking.{asked_from}
-use Rattle.meson_command.specs.Counts.{count_of}
+use Rattle.meson_json.specs.Counts.{count_of}
 use Rattle.meson_command.specs.Pairs.{lone_names, pairs_of}
 use Rattle.meson_command.specs.Program.{command, default_options, history, kwargs, list, program, redo, target, undo}
 use Rattle.meson_command.proofs.laws.rows.Goals as goal

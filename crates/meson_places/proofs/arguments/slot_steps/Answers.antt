@@ -2,10 +2,10 @@ use Rattle.std.proofs.Common.{◌≡◌, ℕ, List, refl, sym, ◌∙◌, subst}
 use Rattle.std.proofs.lemmas.Result.{IfOk-weaker}
 use Rattle.meson_calls.specs.Loading.{Loaded}
 use Rattle.meson_steps.specs.Meanings.{AreMeant}
-use Rattle.meson_places.specs.declared.arguments.ValueChange.{ValueChange}
-use Rattle.meson_places.specs.declared.arguments.ValueChange.TheVariants as change
+use Rattle.meson_steps.specs.declared.argument.ValueChange.{ValueChange}
+use Rattle.meson_steps.specs.declared.argument.ValueChange.TheVariants as change
 use Rattle.meson_places.specs.declared.slots.Slot.{Slot}
-use Rattle.meson_places.specs.declared.values.Given.{Given}
+use Rattle.meson_steps.specs.declared.given.Given.{Given}
 use Rattle.meson_places.specs.Arguments.{MayBeMade, slot_steps}
 use Rattle.meson_places.specs.Names.{loaded_in}
 use Rattle.meson_places.specs.Several.{AllMayBeGiven, set_all}

@@ -6,7 +6,7 @@ use Rattle.meson_calls.specs.Calls.{first_literal, is}
 use Rattle.meson_calls.specs.ChosenNotes.{call_with}
 use Rattle.meson_calls.specs.Notes.{what_view}
 use Rattle.meson_places.specs.Names.{is_named}
-use Rattle.meson_places.specs.declared.name.PlaceName.TheVariants as name
+use Rattle.meson_steps.specs.declared.argument.PlaceName.TheVariants as name
 use Rattle.meson_places.proofs.naming.is_named.Goals as goal
 
 pub returns-then-calls_callee : goal.returns-then-calls_callee

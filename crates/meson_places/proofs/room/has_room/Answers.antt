@@ -21,5 +21,5 @@ returns-in-Switch c = λ may.
 
 pub returns-in-Code : goal.returns-in-Code
 returns-in-Code c = λ may.
-    let x = code_value c.args.given.now c.in-Code.code c.as_bytes.result.now c.in-Code.is (c.as_bytes.ensures.value ∙ c.get.ensures) may in
+    let x = code_value c.args.given.now c.in-Code.code c.as_bytes.result.now c.in-Code.is (c.as_bytes.ensures.value ∙ c.get.ensures.text) may in
     IfOk-weaker c.has_room_for.result _ _ (λ b h. h ∙ ap (λ e. has_room e (list_in_trees (plain_trees (loaded_in c.args.sources)) c.args.list.now)) x.1) (c.has_room_for.ensures x.0)

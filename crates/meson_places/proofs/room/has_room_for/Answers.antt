@@ -11,7 +11,7 @@ use Rattle.meson_syntax.proofs.parsing.Erased.{listing-depth-erased}
 use Rattle.meson_syntax.proofs.paths.Reaching.{map-some}
 use Rattle.meson_calls.proofs.Loads.{as_many}
 use Rattle.meson_places.specs.Room.{alone, has_room}
-use Rattle.meson_places.proofs.Bracketed.{written_complete}
+use Rattle.meson_steps.proofs.Bracketed.{written_complete}
 use Rattle.meson_places.proofs.DepthTexts.{same_depth}
 use Rattle.meson_places.proofs.RoomFound.{list_past, no_list, room_found}
 use Rattle.meson_places.proofs.room.has_room_for.Goals as goal

@@ -4,11 +4,12 @@ use Rattle.std.specs.List.{list_all}
 use Rattle.meson_syntax.specs.Tree.{Expression, Nowhere}
 use Rattle.meson_edit.specs.Edits.{Written}
 use Rattle.meson_steps.specs.ResultLimits.{plain_trees}
-use Rattle.meson_places.specs.declared.values.Given.{Given}
+use Rattle.meson_steps.specs.declared.given.Given.{Given}
 use Rattle.meson_places.specs.Names.{loaded_in}
 use Rattle.meson_places.specs.Room.{has_room, list_in_trees}
 use Rattle.meson_places.specs.Several.{AllMayBeGiven, all_written}
-use Rattle.meson_places.specs.Values.{MayBeGiven, written_given}
+use Rattle.meson_steps.specs.GivenWords.{MayBeGiven}
+use Rattle.meson_places.specs.Values.{written_given}
 use Rattle.meson_places.proofs.several.has_room_for_all.Goals as goal
 
 record At (gs : List Given) (mays : AllMayBeGiven gs) (i : ℕ) (g : Given) : Type 0 where

@@ -2,7 +2,7 @@ use Rattle.std.proofs.Common.{◌≡◌, ◌-◌, List, [], ◌∷◌, ◌++◌,
 use Rattle.std.specs.Prelude.{Some}
 use Rattle.std.proofs.lemmas.List.{map-append}
 use Rattle.meson_steps.specs.ListSteps.{bare}
-use Rattle.meson_places.specs.declared.values.Given.{Given}
+use Rattle.meson_steps.specs.declared.given.Given.{Given}
 use Rattle.meson_places.specs.Changes.{rest_removed}
 use Rattle.meson_places.specs.Several.{AllMayBeGiven, all_written, put_each}
 use Rattle.meson_places.specs.Values.{given_bytes}

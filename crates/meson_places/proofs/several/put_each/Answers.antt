@@ -6,7 +6,7 @@ use Rattle.meson_edit.specs.Edits.{Written}
 use Rattle.meson_calls.specs.declared.call.CallRef.{CallRef}
 use Rattle.meson_steps.specs.declared.step.ListStep.{ListStep}
 use Rattle.meson_steps.specs.ListSteps.{bare}
-use Rattle.meson_places.specs.declared.values.Given.{Given}
+use Rattle.meson_steps.specs.declared.given.Given.{Given}
 use Rattle.meson_places.specs.Several.{put_at, put_each}
 use Rattle.meson_places.specs.Values.{given_bytes}
 use Rattle.meson_places.proofs.several.put_each.Goals as goal

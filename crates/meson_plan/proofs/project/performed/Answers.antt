@@ -1,19 +1,25 @@
--- What a command orders is what it means: its steps are planned and done, or its call is changed.
-use Rattle.std.proofs.Common.{◌≡◌, List, sym, subst, ◌∙◌}
-use Rattle.std.specs.Prelude.{Err, OnOk}
-use Rattle.std.proofs.lemmas.Result.{err_from_is_err_and}
+-- What a command orders is what it means: its steps are planned and done, its call is changed, or its value.
+use Rattle.std.proofs.Common.{◌≡◌, List, refl, sym, subst}
+use Rattle.std.specs.Prelude.{Err}
+use Rattle.std.proofs.lemmas.Result.{IfErr-weaker, err_from_is_err_and, on_ok_weaker}
 use Rattle.meson_splice.specs.declared.file_set.File.{File}
 use Rattle.meson_syntax.specs.declared.tree.Parsed.{Parsed}
 use Rattle.meson_calls.specs.Loading.{IsProject, Loaded, project}
-use Rattle.meson_calls.specs.Refusals.{IfRefused}
 use Rattle.meson_calls.specs.Setters.{AreKept}
-use Rattle.meson_steps.specs.Done.{IsDone, MayNotBeDone, Meaning, unmeant}
+use Rattle.meson_places.specs.Arguments.{MayBeMade, argument_steps}
+use Rattle.meson_keywords.specs.Changing.{request_steps}
+use Rattle.meson_keywords.specs.Tasking.{request_view}
+use Rattle.meson_steps.specs.Done.{unmeant}
+use Rattle.meson_steps.specs.declared.argument.ValueChange.{ValueChange}
+use Rattle.meson_steps.specs.declared.argument.ValueName.{ValueName}
+use Rattle.meson_steps.specs.declared.command.Command.{Command}
+use Rattle.meson_steps.specs.declared.command.Command.TheVariants as command
 use Rattle.meson_steps.specs.declared.step.ListStep.{ListStep}
 use Rattle.meson_steps.specs.Plans.{ArePlanned}
 use Rattle.meson_steps.specs.Working.{so_far}
 use Rattle.meson_plan.specs.declared.order.Plan.{Plan}
 use Rattle.meson_plan.specs.inside.Orders.{plan_steps}
-use Rattle.meson_plan.specs.Planning.{planned}
+use Rattle.meson_plan.specs.Planning.{Means}
 use Rattle.meson_plan.proofs.project.performed.Goals as goal
 
 pub planned-requires : goal.planned-requires
@@ -26,31 +32,31 @@ planned-requires c =
     }
 
 -- the steps of a plan, of the trees that are read in another place
-planned_there : (files : List File) (here there : List Parsed) → here ≡ there → (p : Plan) (meant : Meaning) → plan_steps (project (record { files = files; parsed = there })) p ≡ meant → (steps : List ListStep)
-    → ArePlanned (record { files = files; parsed = here }) (plan_steps (project (record { files = files; parsed = here })) p) steps → ArePlanned (record { files = files; parsed = there }) meant steps
-planned_there files here there same p meant is steps are =
-    let of : List Parsed → Loaded = λ ts. record { files = files; parsed = ts } in
-    subst (λ m. ArePlanned (of there) m steps) is (subst (λ ts. ArePlanned (of ts) (plan_steps (project (of ts)) p) steps) same are)
+planned_there : (files : List File) (here there : List Parsed) → here ≡ there → (p : Plan) (steps : List ListStep)
+    → ArePlanned (record { files = files; parsed = here }) (plan_steps (project (record { files = files; parsed = here })) p) steps
+    → ArePlanned (record { files = files; parsed = there }) (plan_steps (project (record { files = files; parsed = there })) p) steps
+planned_there files here there same p steps are = let of : List Parsed → Loaded = λ ts. record { files = files; parsed = ts } in subst (λ ts. ArePlanned (of ts) (plan_steps (project (of ts)) p) steps) same are
 
 pub done-requires-clause-planned : goal.done-requires-clause-planned
 done-requires-clause-planned c =
     let w = c.args.work.now in
-    let meant = planned (project (so_far w)) c.args.command.now in
-    (meant, planned_there w.files c.as_slice.result.now w.trees.items c.as_slice.ensures.value c.in-Planned.plan meant (c.in-Planned.ensures (project (so_far w))) c.in_ok-steps-in-Planned.steps.items c.in_ok-steps-in-Planned.ensures.plan)
+    (plan_steps (project (so_far w)) c.in-Planned.plan, planned_there w.files c.as_slice.result.now w.trees.items c.as_slice.ensures.value c.in-Planned.plan c.in_ok-steps-in-Planned.steps.items c.in_ok-steps-in-Planned.ensures.plan)
 
 pub returns-in_ok-steps-in-Planned-clause-done : goal.returns-in_ok-steps-in-Planned-clause-done
 returns-in_ok-steps-in-Planned-clause-done c =
     let w = c.args.work.now in
-    let meant = planned (project (so_far w)) c.args.command.now in
-    c.done.ensures.done meant
-    (planned_there w.files c.as_slice.result.now w.trees.items c.as_slice.ensures.value c.in-Planned.plan meant (c.in-Planned.ensures (project (so_far w))) c.in_ok-steps-in-Planned.steps.items c.in_ok-steps-in-Planned.ensures.plan)
+    let p = c.in-Planned.plan in
+    let meant = plan_steps (project (so_far w)) p in
+    on_ok_weaker c.done.result (λ out. (meant, c.in-Planned.ensures (so_far w), out))
+    (c.done.ensures.done meant (planned_there w.files c.as_slice.result.now w.trees.items c.as_slice.ensures.value p c.in_ok-steps-in-Planned.steps.items c.in_ok-steps-in-Planned.ensures.plan))
 
 pub returns-in_ok-steps-in-Planned-clause-refused : goal.returns-in_ok-steps-in-Planned-clause-refused
 returns-in_ok-steps-in-Planned-clause-refused c =
     let w = c.args.work.now in
-    let meant = planned (project (so_far w)) c.args.command.now in
-    c.done.ensures.refused meant
-    (planned_there w.files c.as_slice.result.now w.trees.items c.as_slice.ensures.value c.in-Planned.plan meant (c.in-Planned.ensures (project (so_far w))) c.in_ok-steps-in-Planned.steps.items c.in_ok-steps-in-Planned.ensures.plan)
+    let p = c.in-Planned.plan in
+    let meant = plan_steps (project (so_far w)) p in
+    IfErr-weaker c.done.result _ _ (λ e why other. (meant, c.in-Planned.ensures (so_far w), why other))
+    (c.done.ensures.refused meant (planned_there w.files c.as_slice.result.now w.trees.items c.as_slice.ensures.value p c.in_ok-steps-in-Planned.steps.items c.in_ok-steps-in-Planned.ensures.plan))
 
 pub returns-in_err-steps-in-Planned-clause-refused : goal.returns-in_err-steps-in-Planned-clause-refused
 returns-in_err-steps-in-Planned-clause-refused c =
@@ -60,14 +66,66 @@ returns-in_err-steps-in-Planned-clause-refused c =
     let of : _ → Loaded = λ ts. record { files = c.args.work.now.files; parsed = ts } in
     let e = c.in_err-steps-in-Planned.field-0.0 in
     let why = subst (λ ts. plan_steps (project (of ts)) c.in-Planned.plan ≡ Err e) c.as_slice.ensures.value (c.in_err-steps-in-Planned.ensures.refused other) in
-    unmeant e (sym (c.in-Planned.ensures (project old)) ∙ why))
+    (plan_steps (project old) c.in-Planned.plan, c.in-Planned.ensures old, unmeant e why))
 
 pub returns-in-Changed-clause-done : goal.returns-in-Changed-clause-done
 returns-in-Changed-clause-done c =
     let old = so_far c.args.work.now in
-    subst (λ m. OnOk c.changed.result (IsDone old m c.changed.new.work)) (c.in-Changed.ensures (project old)) c.changed.ensures.done
+    on_ok_weaker c.changed.result (λ out. (request_steps (project old) (request_view c.in-Changed.request), c.in-Changed.ensures old, out)) c.changed.ensures.done
 
 pub returns-in-Changed-clause-refused : goal.returns-in-Changed-clause-refused
 returns-in-Changed-clause-refused c =
     let old = so_far c.args.work.now in
-    subst (λ m. IfRefused c.changed.result (MayNotBeDone old m)) (c.in-Changed.ensures (project old)) c.changed.ensures.refused
+    IfErr-weaker c.changed.result _ _ (λ e why other. (request_steps (project old) (request_view c.in-Changed.request), c.in-Changed.ensures old, why other)) c.changed.ensures.refused
+
+-- ---- a value is changed
+
+-- the steps of its change, of the trees that are read in another place
+valued_there : (files : List File) (here there : List Parsed) → here ≡ there → (n : ValueName) (ch : ValueChange) (may : MayBeMade ch) (steps : List ListStep)
+    → ArePlanned (record { files = files; parsed = here }) (argument_steps (record { files = files; parsed = here }) n ch may) steps
+    → ArePlanned (record { files = files; parsed = there }) (argument_steps (record { files = files; parsed = there }) n ch may) steps
+valued_there files here there same n ch may steps are = let of : List Parsed → Loaded = λ ts. record { files = files; parsed = ts } in subst (λ ts. ArePlanned (of ts) (argument_steps (of ts) n ch may) steps) same are
+
+value_means : (l : Loaded) (c : Command) (n : ValueName) (ch : ValueChange) → c ≡ command.Argument n ch → (may : MayBeMade ch) → Means l c (argument_steps l n ch may)
+value_means l c n ch is may = subst (λ k. Means l k (argument_steps l n ch may)) (sym is) (may, refl)
+
+pub done-requires-in-OnValue-clause-planned : goal.done-requires-in-OnValue-clause-planned
+done-requires-in-OnValue-clause-planned c =
+    let w = c.args.work.now in
+    let n = c.in-OnValue.name.now in
+    let ch = c.in-OnValue.change.now in
+    let may = c.argument_steps.ensures.may in
+    (argument_steps (so_far w) n ch may, valued_there w.files c.as_slice-in-OnValue.result.now w.trees.items c.as_slice-in-OnValue.ensures.value n ch may c.in_ok-steps-in-OnValue.steps.items (c.in_ok-steps-in-OnValue.ensures.plan may))
+
+pub returns-in_ok-steps-in-OnValue-clause-done : goal.returns-in_ok-steps-in-OnValue-clause-done
+returns-in_ok-steps-in-OnValue-clause-done c =
+    let w = c.args.work.now in
+    let n = c.in-OnValue.name.now in
+    let ch = c.in-OnValue.change.now in
+    let may = c.argument_steps.ensures.may in
+    let meant = argument_steps (so_far w) n ch may in
+    on_ok_weaker c.done-in-OnValue.result (λ out. (meant, value_means (so_far w) c.args.command.now n ch c.in-OnValue.ensures may, out))
+    (c.done-in-OnValue.ensures.done meant (valued_there w.files c.as_slice-in-OnValue.result.now w.trees.items c.as_slice-in-OnValue.ensures.value n ch may c.in_ok-steps-in-OnValue.steps.items (c.in_ok-steps-in-OnValue.ensures.plan may)))
+
+pub returns-in_ok-steps-in-OnValue-clause-refused : goal.returns-in_ok-steps-in-OnValue-clause-refused
+returns-in_ok-steps-in-OnValue-clause-refused c =
+    let w = c.args.work.now in
+    let n = c.in-OnValue.name.now in
+    let ch = c.in-OnValue.change.now in
+    let may = c.argument_steps.ensures.may in
+    let meant = argument_steps (so_far w) n ch may in
+    IfErr-weaker c.done-in-OnValue.result _ _ (λ e why other. (meant, value_means (so_far w) c.args.command.now n ch c.in-OnValue.ensures may, why other))
+    (c.done-in-OnValue.ensures.refused meant (valued_there w.files c.as_slice-in-OnValue.result.now w.trees.items c.as_slice-in-OnValue.ensures.value n ch may c.in_ok-steps-in-OnValue.steps.items (c.in_ok-steps-in-OnValue.ensures.plan may)))
+
+pub returns-in_err-steps-in-OnValue-clause-refused : goal.returns-in_err-steps-in-OnValue-clause-refused
+returns-in_err-steps-in-OnValue-clause-refused c =
+    let error = err_from_is_err_and c.from_residual-in_err-steps-in-OnValue.result c.from_residual-in_err-steps-in-OnValue.ensures.1 in
+    rw (error.1, error.2) (λ other.
+    let old = so_far c.args.work.now in
+    let n = c.in-OnValue.name.now in
+    let ch = c.in-OnValue.change.now in
+    let may = c.argument_steps.ensures.may in
+    let of : _ → Loaded = λ ts. record { files = c.args.work.now.files; parsed = ts } in
+    let e = c.in_err-steps-in-OnValue.field-0.0 in
+    let why = subst (λ ts. argument_steps (of ts) n ch may ≡ Err e) c.as_slice-in-OnValue.ensures.value (c.in_err-steps-in-OnValue.ensures.refused may other) in
+    (argument_steps old n ch may, value_means old c.args.command.now n ch c.in-OnValue.ensures may, unmeant e why))

@@ -48,7 +48,7 @@ invariant_of-self c =
     let before = c.performed-ended.new.kept.items in
     let after = c.forget_changed.new.kept.items in
     let stay = subst (StayKept before after w.files) c.as_slice.ensures.value c.forget_changed.ensures in
-    (c.in-Ok.ensures.done.project, kept_done (so_far c.start-work.result) _ w c.start-work.ensures.fresh.project c.in-Ok.ensures.done before after c.performed-ended.ensures.kept stay)
+    (c.in-Ok.ensures.done.2.project, kept_done (so_far c.start-work.result) c.in-Ok.ensures.done.0 w c.start-work.ensures.fresh.project c.in-Ok.ensures.done.2 before after c.performed-ended.ensures.kept stay)
 
 pub invariant_of-self-in-Err-1 : goal.invariant_of-self-in-Err-1
 invariant_of-self-in-Err-1 c =

@@ -1,0 +1,23 @@
+use Rattle.std.proofs.Common.{◌≡◌, Ok, codes, refl, sym, ap₂, ◌∙◌}
+use Rattle.std.specs.Prelude.{ok_or}
+use Rattle.std.proofs.lemmas.Result.{err_from_is_err_and}
+use Rattle.meson_json.specs.Arguments.{place_named}
+use Rattle.meson_json.specs.Scripts.{value_name}
+use Rattle.meson_json.specs.declared.fault.ScriptFault.TheVariants.{BadField}
+use Rattle.meson_json.proofs.entry.value_name.Goals as goal
+
+pub returns-in_err-keys-clause-refused : goal.returns-in_err-keys-clause-refused
+unfolding value_name
+returns-in_err-keys-clause-refused c =
+    let p = err_from_is_err_and c.from_residual-in_err-keys.result c.from_residual-in_err-keys.ensures.1 in
+    let placed : ok_or (place_named c.in_ok-function.function c.in_ok-id.id) (BadField c.args.index (codes "id")) ≡ Ok c.in_ok-name.name =
+    ap₂ (λ f j. ok_or (place_named f j) (BadField c.args.index (codes "id"))) (sym c.get.ensures) (sym c.get-2.ensures) ∙ c.in_ok-name.ensures.ok in
+    rw (p.1, p.2) (λ n. rw (c.in_ok-function.ensures.ok, c.in_ok-id.ensures.ok, placed, c.in_err-keys.ensures.refused n) refl)
+
+pub returns-in_err-folder-clause-refused : goal.returns-in_err-folder-clause-refused
+unfolding value_name
+returns-in_err-folder-clause-refused c =
+    let p = err_from_is_err_and c.from_residual-in_err-folder.result c.from_residual-in_err-folder.ensures.1 in
+    let placed : ok_or (place_named c.in_ok-function.function c.in_ok-id.id) (BadField c.args.index (codes "id")) ≡ Ok c.in_ok-name.name =
+    ap₂ (λ f j. ok_or (place_named f j) (BadField c.args.index (codes "id"))) (sym c.get.ensures) (sym c.get-2.ensures) ∙ c.in_ok-name.ensures.ok in
+    rw (p.1, p.2) (λ n. rw (c.in_ok-function.ensures.ok, c.in_ok-id.ensures.ok, placed, c.in_ok-keys.ensures.ok, c.in_err-folder.ensures.refused n) refl)

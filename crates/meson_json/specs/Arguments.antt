@@ -1,0 +1,54 @@
+-- What names a value, and the changes of a value, as words and scripts give them.
+use Rattle.std.specs.Prelude.{ℕ, ◌==◌, nat_lt, Bool, List, [], ◌∷◌, length, bytes_eq, codes, if◌then◌else◌, Option, Some, None, option_map}
+use Rattle.std.specs.List.{after_first, before_first, position_or_len}
+use Rattle.meson_steps.specs.declared.argument.Callee.{Callee}
+use Rattle.meson_steps.specs.declared.argument.Callee.TheVariants as callee
+use Rattle.meson_steps.specs.declared.argument.PlaceName.{PlaceName}
+use Rattle.meson_steps.specs.declared.argument.PlaceName.TheVariants as name
+use Rattle.meson_steps.specs.declared.argument.ValueChange.{ValueChange}
+use Rattle.meson_steps.specs.declared.argument.ValueChange.TheVariants as change
+use Rattle.meson_steps.specs.declared.given.Given.{Given}
+use Rattle.meson_json.specs.Counts.{count_of}
+
+-- `target` stands for all functions that make targets
+abbrev pub callee_of : List ℕ → Callee
+callee_of function = if bytes_eq function (codes "target") then callee.Target else callee.Function function
+
+-- FILE:LINE, of which the first colon (58) ends the name of the file
+abbrev pub is_colon : ℕ → Bool
+is_colon b = b == 58
+
+abbrev pub line_named : List ℕ → Option PlaceName
+line_named id =
+    if nat_lt (position_or_len is_colon id) (length id) then option_map (name.Line (before_first is_colon id)) (count_of (after_first is_colon id))
+    else None
+
+-- the place that a function's name and an id name
+abbrev pub place_named : (function id : List ℕ) → Option PlaceName
+place_named function id =
+    if bytes_eq function (codes "project") then Some (name.Project id)
+    else (if bytes_eq function (codes "variable") then Some (name.Variable id)
+    else (if bytes_eq function (codes "at") then line_named id
+    else Some (name.Call (callee_of function) id)))
+
+-- the texts between the dots (46) of a text
+abbrev pub is_dot : ℕ → Bool
+is_dot b = b == 46
+
+abbrev pub begun_by : ℕ → List (List ℕ) → List (List ℕ)
+begun_by b [] = (b ∷ []) ∷ []
+begun_by b (part ∷ parts) = (b ∷ part) ∷ parts
+
+abbrev pub between_dots : List ℕ → List (List ℕ)
+between_dots [] = [] ∷ []
+between_dots (b ∷ bs) = if is_dot b then [] ∷ between_dots bs else begun_by b (between_dots bs)
+
+-- one key after another; `.` names the thing itself
+abbrev pub keys_in : List ℕ → List (List ℕ)
+keys_in word = if bytes_eq word (codes ".") then [] else between_dots word
+
+-- to one value, or to several
+abbrev pub set_to : List Given → Option ValueChange
+set_to [] = None
+set_to (g ∷ []) = Some (change.Set g)
+set_to (g ∷ h ∷ gs) = Some (change.SetAll (g ∷ h ∷ gs))

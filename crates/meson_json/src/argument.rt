@@ -1,0 +1,93 @@
+//! What names a value, and the changes of a value, by a script or on the command line.
+
+ghost use Rattle.std.specs.Prelude.{◌≡◌, IfOk};
+ghost use Rattle.meson_json.specs.Arguments.{callee_of, keys_in, line_named, place_named, set_to};
+
+use crate::count::count_of;
+use crate::members::owned;
+use meson_splice::{Many, Text};
+use meson_steps::argument::{Callee, PlaceName, ValueChange};
+use meson_steps::given::Given;
+use std::alloc::{AllocError, Global};
+
+/// The function of a call. `target` stands for all functions that make targets.
+fn callee_of(alloc: Global, function: &str) -> Result<Callee, AllocError>
+    ensures { IfOk result (λ c. c ≡ callee_of function.now) }
+{
+    if function == "target" {
+        Ok(Callee::Target)
+    } else {
+        Ok(Callee::Function(owned(alloc, function)?))
+    }
+}
+
+/// What begins on a line, by `FILE:LINE`.
+fn line_named(alloc: Global, id: &str) -> Result<Option<PlaceName>, AllocError>
+    ensures { IfOk result (λ n. n ≡ line_named id.now) }
+{
+    let Some((file, line)) = id.split_once(':') else {
+        return Ok(None);
+    };
+    match count_of(line) {
+        Some(line) => {
+            let file = owned(alloc, file)?;
+            Ok(Some(PlaceName::Line { file, line }))
+        }
+        None => Ok(None),
+    }
+}
+
+/// The place that a function's name and an id name: `project`, `variable`, `at`, or the name of another function.
+///
+/// # Errors
+/// Out of memory.
+pub fn place_named(alloc: Global, function: &str, id: &str) -> Result<Option<PlaceName>, AllocError>
+    ensures { IfOk result (λ n. n ≡ place_named function.now id.now) }
+{
+    if function == "project" {
+        Ok(Some(PlaceName::Project(owned(alloc, id)?)))
+    } else if function == "variable" {
+        Ok(Some(PlaceName::Variable(owned(alloc, id)?)))
+    } else if function == "at" {
+        line_named(alloc, id)
+    } else {
+        let callee = callee_of(alloc, function)?;
+        let id = owned(alloc, id)?;
+        Ok(Some(PlaceName::Call { callee, id }))
+    }
+}
+
+/// The keys of a word, which are joined by dots. `.` names the thing itself.
+///
+/// # Errors
+/// Out of memory.
+pub fn keys_in(alloc: Global, word: &str) -> Result<Many<Text>, AllocError>
+    ensures { IfOk result (λ keys. keys ≡ keys_in word.now) }
+{
+    let mut keys = Vec::new(alloc);
+    if word == "." {
+        return Ok(Many::of(keys));
+    }
+    let mut rest = word;
+    while let Some((key, more)) = rest.split_once('.') {
+        keys.push(owned(alloc, key)?)?;
+        rest = more;
+    }
+    keys.push(owned(alloc, rest)?)?;
+    Ok(Many::of(keys))
+}
+
+/// The change that sets a value to some given ones, if there are any.
+pub fn set_to(values: Vec<Given>) -> Option<ValueChange>
+    ensures { result ≡ set_to values.items }
+{
+    let mut values = values;
+    if values.len() != 1 {
+        return if values.is_empty() {
+            None
+        } else {
+            Some(ValueChange::SetAll(Many::of(values)))
+        };
+    }
+    values.pop().map(ValueChange::Set)
+}

@@ -1,0 +1,175 @@
+-- A change of a value means one thing: the tree of code is that of its text, and what is read of a project are its files and trees.
+use Rattle.std.proofs.Common.{◌≡◌, ℕ, List, [], ◌∷◌, ◌++◌, map, Option, Some, None, Result, Ok, Err, refl, sym, ap, ap₂, ◌∙◌}
+use Rattle.std.specs.Prelude.{length, not, ◌&&◌, if◌then◌else◌}
+use Rattle.std.specs.List.{list_all}
+use Rattle.meson_lex.specs.declared.kinds.Span.{Span}
+use Rattle.meson_lex.specs.Located.{located}
+use Rattle.meson_splice.specs.declared.file_set.File as files
+use Rattle.meson_splice.specs.Files.{bytes_at}
+use Rattle.meson_splice.specs.Patch.{then_ok}
+use Rattle.meson_syntax.specs.declared.operator.Bracket.TheVariants as bracket
+use Rattle.meson_syntax.specs.ReadsList.{ReadsListWithin, list_items}
+use Rattle.meson_syntax.specs.Tree.{plain, no_arguments, argument, Expression, File, Listing, listing, Nowhere, erase, erase_listing}
+use Rattle.meson_syntax.proofs.lists.Complete.{whole_list-complete}
+use Rattle.meson_syntax.proofs.parsing.Steps.{some-injective}
+use Rattle.meson_edit.specs.Edits.{Replace, Written}
+use Rattle.meson_calls.specs.declared.call.CallRef.{CallRef}
+use Rattle.meson_calls.specs.declared.refusal.Refusal.{Refusal}
+use Rattle.meson_calls.specs.declared.refusal.Refusal.TheVariants.{OtherKind, TooDeep}
+use Rattle.meson_calls.specs.Finding.{only_one}
+use Rattle.meson_calls.specs.Loading.{Loaded, named_trees, project, trees}
+use Rattle.meson_calls.specs.Notes.{notes}
+use Rattle.meson_calls.specs.Project.{child, expression_at}
+use Rattle.meson_steps.specs.declared.argument.PlaceName.{PlaceName}
+use Rattle.meson_steps.specs.declared.argument.PlaceName.TheVariants as name
+use Rattle.meson_steps.specs.declared.argument.ValueChange.{ValueChange}
+use Rattle.meson_steps.specs.declared.argument.ValueChange.TheVariants as change
+use Rattle.meson_steps.specs.declared.argument.ValueName.{ValueName}
+use Rattle.meson_steps.specs.declared.given.Given.{Given}
+use Rattle.meson_steps.specs.declared.given.Given.TheVariants as given
+use Rattle.meson_steps.specs.Code.{IsExpression}
+use Rattle.meson_steps.specs.GivenWords.{MayBeGiven}
+use Rattle.meson_steps.specs.ResultLimits.{plain_trees}
+use Rattle.meson_steps.specs.Steps.{Step, step_in}
+use Rattle.meson_steps.specs.WrittenTexts.{array_of_values}
+use Rattle.meson_steps.proofs.Bracketed.{complete}
+use Rattle.meson_places.specs.declared.slots.Slot.{Slot}
+use Rattle.meson_places.specs.declared.slots.Slot.TheVariants as slot
+use Rattle.meson_places.specs.Arguments.{MayBeMade, argument_steps, last_key, set_within, slot_steps}
+use Rattle.meson_places.specs.Changes.{added_to, element_child, set_there}
+use Rattle.meson_places.specs.Names.{found_by_id, found_within, numbered_file, places_by_id, places_on, first_around, project_there, searched, searched_file, the_place}
+use Rattle.meson_places.specs.Room.{has_room, list_in_trees}
+use Rattle.meson_places.specs.Several.{AllMayBeGiven, add_array, all_written, array_bytes, becomes_array, if_room_for, is_text_given, put_all, set_all, set_all_there}
+use Rattle.meson_places.specs.Slots.{Child, elements_in, the_slot}
+use Rattle.meson_places.specs.Values.{are_texts, is_array, written_given}
+
+-- ---- the tree of code
+
+-- a text is one list
+one_listing : (source : List ℕ) (l m : Listing Nowhere) → ReadsListWithin 65 bracket.Square source l → ReadsListWithin 65 bracket.Square source m → l ≡ m
+one_listing source l m p q =
+    let items = list_items p.text in
+    let f = whole_list-complete source items p.text.are_items 65 bracket.Square l p in
+    let g = whole_list-complete source items p.text.are_items 65 bracket.Square m q in
+    sym f.1 ∙ ap erase_listing (some-injective _ _ (sym f.2 ∙ g.2)) ∙ g.1
+
+abbrev inside : Listing Nowhere → Option (Expression Nowhere)
+inside (listing s b (argument (plain e) more)) = Some e
+inside _ = None
+
+one_node : (text : List ℕ) (x y : IsExpression text) → x.node ≡ y.node
+one_node text x y = some-injective _ _ (ap inside (one_listing (91 ∷ (text ++ 93 ∷ [])) _ _ (complete text x) (complete text y)))
+
+one_written : (g : Given) (m k : MayBeGiven g) → written_given g m ≡ written_given g k
+one_written (given.Text text) m k = refl
+one_written (given.Switch b) m k = refl
+one_written (given.Code code) m k = ap (λ e. record { bytes = code; node = e }) (one_node code m k)
+
+all_one : (gs : List Given) (m k : AllMayBeGiven gs) → all_written gs m ≡ all_written gs k
+all_one [] m k = refl
+all_one (g ∷ gs) m k = ap₂ (λ w ws. w ∷ ws) (one_written g m.0 k.0) (all_one gs m.1 k.1)
+
+-- ---- the steps, by the tree of the code
+
+then_alike : {X Y : Type 0} (r : Result X Refusal) (f g : X → Result Y Refusal) → ((x : X) → f x ≡ g x) → then_ok r f ≡ then_ok r g
+then_alike (Ok x) f g same = same x
+then_alike (Err e) f g same = refl
+
+abbrev Values : Type 0
+Values = List (Written (Expression Nowhere))
+
+abbrev array_node : Values → Expression Nowhere
+array_node ws = array_of_values (map (λ w. w.node) ws)
+
+module _ (l : Loaded) (gs : List Given) (m k : AllMayBeGiven gs) (key : List ℕ) (list : CallRef) where
+  there_one : (n : ℕ) (o : Option (Child Span)) → set_all_there l gs m key list n o ≡ set_all_there l gs k key list n o
+  there_one n None = refl
+  there_one n (Some c) =
+      ap (λ (ws : Values).
+          if is_array c.value then (if list_all is_text_given gs && not (are_texts c.value) then Err (OtherKind key)
+            else if_room_for l (child list c.number) ws (put_all (child list c.number) (length (elements_in c.value)) ws))
+          else (if becomes_array gs c.value then (if has_room (array_node ws) (list_in_trees (plain_trees l) list)
+              then Ok (step_in list (Replace list.path.steps n (record { bytes = array_bytes gs; node = array_node ws })) ∷ []) else Err TooDeep)
+            else Err (OtherKind key)))
+      (all_one gs m k)
+
+  added_one : add_array l gs m key list ≡ add_array l gs k key list
+  added_one =
+      ap (λ (ws : Values). then_ok (added_to (bytes_at list.file l.files) (record { bytes = array_bytes gs; node = array_node ws }) key list (expression_at (project l) list))
+          (λ steps. if has_room (array_node ws) (list_in_trees (plain_trees l) list) then Ok steps else Err TooDeep))
+      (all_one gs m k)
+
+set_all_one : (l : Loaded) (gs : List Given) (m k : AllMayBeGiven gs) (key : List ℕ) (s : Slot) → set_all l gs m key s ≡ set_all l gs k key s
+set_all_one l gs m k key (slot.Element list n) = there_one l gs m k key list n (element_child (project l) list n)
+set_all_one l gs m k key (slot.Absent list absent) = added_one l gs m k absent list
+set_all_one l gs m k key (slot.Whole c) = refl
+
+steps_one : (l : Loaded) (key : List ℕ) (c : ValueChange) (m k : MayBeMade c) (s : Slot) → slot_steps l key c m s ≡ slot_steps l key c k s
+steps_one l key (change.Set g) m k s = ap (λ w. set_within l g w key s) (one_written g m k)
+steps_one l key (change.SetAll gs) m k s = set_all_one l gs m k key s
+steps_one l key change.Delete m k s = refl
+
+pub arguments_one : (l : Loaded) (n : ValueName) (c : ValueChange) (m k : MayBeMade c) → argument_steps l n c m ≡ argument_steps l n c k
+arguments_one l n c m k =
+    then_alike (the_place l n.place) _ _ (λ p. then_alike (the_slot (project l) p n.keys) _ _ (λ s. steps_one l (last_key n.keys) c m k s))
+
+-- ---- the steps, by the files and trees of a project
+
+abbrev Tree : Type 0
+Tree = File Span
+
+module _ (p q : Loaded) (same_files : p.files ≡ q.files) (same_trees : trees p ≡ trees q) where
+  alike : {X : Type 0} (f : List files.File → List Tree → X) → f p.files (trees p) ≡ f q.files (trees q)
+  alike f = ap₂ f same_files same_trees
+
+  by_id : (n : PlaceName) (folder : Option (List ℕ)) → then_ok (searched_file p.files folder) (λ within. found_by_id p within n) ≡ then_ok (searched_file q.files folder) (λ within. found_by_id q within n)
+  by_id n folder =
+      alike (λ fs ts. then_ok (searched_file fs folder) (λ within. then_ok (project_there n (notes (named_trees fs ts))) (λ _. only_one (searched within (places_by_id n (notes (named_trees fs ts)))))))
+
+  found_same : (n : PlaceName) (folder : Option (List ℕ)) → then_ok (searched_file p.files folder) (λ within. found_within p within n) ≡ then_ok (searched_file q.files folder) (λ within. found_within q within n)
+  found_same (name.Line file line) folder =
+      alike (λ fs ts. then_ok (searched_file fs folder) (λ within. then_ok (numbered_file fs file) (λ m. first_around (searched within (places_on fs m line (notes (named_trees fs ts)))))))
+  found_same (name.Project id) folder = by_id (name.Project id) folder
+  found_same (name.Call f id) folder = by_id (name.Call f id) folder
+  found_same (name.Variable id) folder = by_id (name.Variable id) folder
+
+  set_same : (g : Given) (w : Written (Expression Nowhere)) (key : List ℕ) (s : Slot) → set_within p g w key s ≡ set_within q g w key s
+  set_same g w key (slot.Element list n) =
+      alike (λ fs ts. then_ok (set_there g w key list n (element_child (named_trees fs ts) list n)) (λ steps. if has_room w.node (list_in_trees (map erase ts) list) then Ok steps else Err TooDeep))
+  set_same g w key (slot.Absent list k) =
+      alike (λ fs ts. then_ok (added_to (bytes_at list.file fs) w k list (expression_at (named_trees fs ts) list)) (λ steps. if has_room w.node (list_in_trees (map erase ts) list) then Ok steps else Err TooDeep))
+  set_same g w key (slot.Whole c) = refl
+
+  all_there_same : (gs : List Given) (may : AllMayBeGiven gs) (key : List ℕ) (list : CallRef) (n : ℕ) (o : Option (Child Span)) → set_all_there p gs may key list n o ≡ set_all_there q gs may key list n o
+  all_there_same gs may key list n None = refl
+  all_there_same gs may key list n (Some c) =
+      let ws = all_written gs may in
+      let inner = child list c.number in
+      let node = array_node ws in
+      alike (λ fs ts.
+          if is_array c.value then (if list_all is_text_given gs && not (are_texts c.value) then Err (OtherKind key)
+            else (if list_all (λ w. has_room w.node (list_in_trees (map erase ts) inner)) ws then Ok (put_all inner (length (elements_in c.value)) ws) else Err TooDeep))
+          else (if becomes_array gs c.value then (if has_room node (list_in_trees (map erase ts) list)
+              then Ok (step_in list (Replace list.path.steps n (record { bytes = array_bytes gs; node = node })) ∷ []) else Err TooDeep)
+            else Err (OtherKind key)))
+
+  all_same : (gs : List Given) (may : AllMayBeGiven gs) (key : List ℕ) (s : Slot) → set_all p gs may key s ≡ set_all q gs may key s
+  all_same gs may key (slot.Element list n) =
+      ap (set_all_there p gs may key list n) (alike (λ fs ts. element_child (named_trees fs ts) list n)) ∙ all_there_same gs may key list n (element_child (project q) list n)
+  all_same gs may key (slot.Absent list k) =
+      let node = array_node (all_written gs may) in
+      alike (λ fs ts. then_ok (added_to (bytes_at list.file fs) (record { bytes = array_bytes gs; node = node }) k list (expression_at (named_trees fs ts) list))
+          (λ steps. if has_room node (list_in_trees (map erase ts) list) then Ok steps else Err TooDeep))
+  all_same gs may key (slot.Whole c) = refl
+
+  slot_same : (key : List ℕ) (c : ValueChange) (may : MayBeMade c) (s : Slot) → slot_steps p key c may s ≡ slot_steps q key c may s
+  slot_same key (change.Set g) may s = set_same g (written_given g may) key s
+  slot_same key (change.SetAll gs) may s = all_same gs may key s
+  slot_same key change.Delete may s = refl
+
+  pub arguments_same : (n : ValueName) (c : ValueChange) (may : MayBeMade c) → argument_steps p n c may ≡ argument_steps q n c may
+  arguments_same n c may =
+      ap (λ r. then_ok r (λ x. then_ok (the_slot (project p) x n.keys) (λ s. slot_steps p (last_key n.keys) c may s))) (found_same n.place.name n.place.folder)
+      ∙ then_alike (the_place q n.place) _ _ (λ x.
+          ap (λ r. then_ok r (λ s. slot_steps p (last_key n.keys) c may s)) (alike (λ fs ts. the_slot (named_trees fs ts) x n.keys))
+          ∙ then_alike (the_slot (project q) x n.keys) _ _ (λ s. slot_same (last_key n.keys) c may s))

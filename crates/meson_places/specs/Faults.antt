@@ -1,8 +1,0 @@
--- What is printed of a word that stands for no value.
-use Rattle.std.specs.Prelude.{ℕ, List, codes}
-use Rattle.meson_places.specs.declared.fault.ValueFault.{ValueFault}
-use Rattle.meson_places.specs.declared.fault.ValueFault.TheVariants as fault
-
-abbrev pub value_fault_text : ValueFault → List ℕ
-value_fault_text fault.NotCode = codes "U7 not code"
-value_fault_text fault.OutOfMemory = codes "out of memory"
