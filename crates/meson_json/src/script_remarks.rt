@@ -68,17 +68,7 @@ fn members_of(entry_type: &str, operation: &str) -> Choice {
         ("kwargs", "info") => &["type", "operation", "function", "id"],
         ("kwargs", _) => &["type", "operation", "function", "id", "kwargs"],
         ("arg", "delete") => &["type", "operation", "function", "id", "key", "in"],
-        ("arg", _) => {
-            &[
-                "type",
-                "operation",
-                "function",
-                "id",
-                "key",
-                "values",
-                "in",
-            ]
-        }
+        ("arg", _) => { &["type", "operation", "function", "id", "key", "values", "in"] }
         _ => &["type", "operation", "options"],
     };
     Choice {
