@@ -151,6 +151,7 @@ operation; man meson_rewrite lists their other members:
                    target_add, target_rm, info
   kwargs           set, add, remove, delete, info
   default_options  set, delete
+  arg              set, delete
 
 All commands are done, or none.
 The script is kept as a run even if it only lists (info). --dry-run leaves the

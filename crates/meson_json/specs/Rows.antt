@@ -1,11 +1,18 @@
 -- Texts of scripts, each with its commands or its first fault; and logs.
-use Rattle.std.specs.Prelude.{◌≡◌, ℕ, ◌==◌, List, [], ◌∷◌, map, codes, if◌then◌else◌, true, Option, Some, None, Result, Ok, Err}
+use Rattle.std.specs.Prelude.{◌≡◌, ℕ, ◌==◌, List, [], ◌∷◌, map, codes, if◌then◌else◌, false, true, Option, Some, None, Result, Ok, Err}
 use Rattle.serde_json.specs.Data.{Data, Items, array}
 use Rattle.serde_json.specs.Events.{items_len}
 use Rattle.serde_json.specs.Read.{read}
 use Rattle.meson_splice.specs.declared.history.History.{History}
 use Rattle.meson_splice.specs.declared.splice.Splice.{Splice}
 use Rattle.meson_calls.specs.declared.call.Role.TheVariants as role
+use Rattle.meson_steps.specs.declared.argument.Callee.{Callee}
+use Rattle.meson_steps.specs.declared.argument.Callee.TheVariants as callee
+use Rattle.meson_steps.specs.declared.argument.PlaceName.{PlaceName}
+use Rattle.meson_steps.specs.declared.argument.PlaceName.TheVariants as name
+use Rattle.meson_steps.specs.declared.argument.ValueChange.TheVariants as change
+use Rattle.meson_steps.specs.declared.argument.ValueName.{ValueName}
+use Rattle.meson_steps.specs.declared.given.Given.TheVariants as given
 use Rattle.meson_steps.specs.declared.command.Command.{Command}
 use Rattle.meson_steps.specs.declared.command.Command.TheVariants as command
 use Rattle.meson_steps.specs.declared.command.Setting.TheVariants as setting
@@ -62,6 +69,36 @@ ArgumentEntries =
     × stands_for (codes "[{'type':'default_options','operation':'set','options':{'warning_level':2,'b_lto':true}}]")
     (command.OptionsSet ((codes "b_lto", codes "true") ∷ (codes "warning_level", codes "2") ∷ []))
     × stands_for (codes "[{'type':'default_options','operation':'delete','options':{'cpp_std':0}}]") (command.OptionsDelete (codes "cpp_std" ∷ []))
+
+-- a call of a function, by its first text or its variable
+abbrev called : Callee → List ℕ → PlaceName
+called f id = name.Call f id
+
+-- the value of a place that is searched for in all files
+abbrev at_keys : PlaceName → List (List ℕ) → ValueName
+at_keys n keys = record { place = record { name = n; folder = None }; keys = keys }
+
+-- one value, several, and none; keys with dots and one by one; a folder
+abbrev pub ValueEntries : Type 0
+ValueEntries =
+    stands_for (codes "[{'type':'arg','operation':'set','function':'dependency','id':'z','key':'version','values':['>=2']}]")
+    (command.Argument (at_keys (called (callee.Function (codes "dependency")) (codes "z")) (codes "version" ∷ [])) (change.Set (given.Text (codes ">=2"))))
+    × stands_for (codes "[{'type':'arg','operation':'set','function':'target','id':'e','key':'c_args','values':['-DX',true]}]")
+    (command.Argument (at_keys (called callee.Target (codes "e")) (codes "c_args" ∷ [])) (change.SetAll (given.Text (codes "-DX") ∷ given.Switch true ∷ [])))
+    × stands_for (codes "[{'type':'arg','operation':'delete','function':'variable','id':'x','key':'a.b'}]")
+    (command.Argument (at_keys (name.Variable (codes "x")) (codes "a" ∷ codes "b" ∷ [])) change.Delete)
+    × stands_for (codes "[{'type':'arg','operation':'delete','function':'at','id':'s/meson.build:12','key':['a.b'],'in':'s'}]")
+    (command.Argument (record { place = record { name = name.Line (codes "s/meson.build") 12; folder = Some (codes "s") }; keys = codes "a.b" ∷ [] }) change.Delete)
+    × stands_for (codes "[{'type':'arg','operation':'set','function':'project','id':'/','key':'.','values':[false]}]")
+    (command.Argument (at_keys (name.Project (codes "/")) []) (change.Set (given.Switch false)))
+    × gives (codes "[{'type':'arg','operation':'add','function':'target','id':'e','key':'c_args','values':['-DX']}]") (Err (UnknownOperation 0))
+    × gives (codes "[{'type':'arg','operation':'set','id':'e'}]") (Err (BadField 0 (codes "function")))
+    × gives (codes "[{'type':'arg','operation':'set','function':'at','id':'meson.build','key':'.'}]") (Err (BadField 0 (codes "id")))
+    × gives (codes "[{'type':'arg','operation':'set','function':'target','id':'e','key':1}]") (Err (BadField 0 (codes "key")))
+    × gives (codes "[{'type':'arg','operation':'set','function':'target','id':'e','key':'k','in':1}]") (Err (BadField 0 (codes "in")))
+    × gives (codes "[{'type':'arg','operation':'set','function':'target','id':'e','key':'k'}]") (Err (BadField 0 (codes "values")))
+    × gives (codes "[{'type':'arg','operation':'set','function':'target','id':'e','key':'k','values':[1]}]") (Err (BadField 0 (codes "values")))
+    × gives_known (codes "[{'type':'arg','operation':'delete','function':'target','id':'e','key':'k','values':[]}]") (Err (UnknownMember 0 (codes "values")))
 
 -- entry by entry, and each in a fixed order
 abbrev pub Faults : Type 0

@@ -1,11 +1,12 @@
 //! Laws of scripts and logs. The functions do nothing: what they ensure is the law.
 
-ghost use Rattle.meson_json.specs.Rows.{ArgumentEntries, Faults, KnownMembers, Logs, RefusingChangesNothing, TargetEntries};
+ghost use Rattle.meson_json.specs.Rows.{ArgumentEntries, Faults, KnownMembers, Logs, RefusingChangesNothing, TargetEntries, ValueEntries};
 
 /// Which commands some texts are, and why some are not valid.
 pub fn script_rows()
     ensures targets { TargetEntries }
     ensures arguments { ArgumentEntries }
+    ensures values { ValueEntries }
     ensures faults { Faults }
     ensures known { KnownMembers }
 {}

@@ -15,7 +15,7 @@ const MOST_SHOWN: usize = 60;
 const TYPES: Choice = Choice {
     of: "a script",
     what: "types",
-    words: &["target", "kwargs", "default_options"],
+    words: &["target", "kwargs", "default_options", "arg"],
 };
 
 const TARGET_OPERATIONS: Choice = Choice {
@@ -44,6 +44,12 @@ const OPTIONS_OPERATIONS: Choice = Choice {
     words: &["set", "delete"],
 };
 
+const VALUE_OPERATIONS: Choice = Choice {
+    of: "arg",
+    what: "operations",
+    words: &["set", "delete"],
+};
+
 /// The members that an operation uses, by the names of its type and of itself.
 fn members_of(entry_type: &str, operation: &str) -> Choice {
     let words: &'static [&'static str] = match (entry_type, operation) {
@@ -61,6 +67,8 @@ fn members_of(entry_type: &str, operation: &str) -> Choice {
         ("target", _) => &["type", "operation", "target", "sources"],
         ("kwargs", "info") => &["type", "operation", "function", "id"],
         ("kwargs", _) => &["type", "operation", "function", "id", "kwargs"],
+        ("arg", "delete") => &["type", "operation", "function", "id", "key", "in"],
+        ("arg", _) => { &["type", "operation", "function", "id", "key", "values", "in"] }
         _ => &["type", "operation", "options"],
     };
     Choice {
@@ -83,8 +91,21 @@ fn meant_for_target(word: &str) -> Option<&'static str> {
     }
 }
 
+/// What a member of a change of a value takes.
+fn argument_of(member: &str) -> &'static str {
+    match member {
+        "id" => "a text; of at it is the name of a file, a colon and a line",
+        "key" => "texts joined by dots, or an array of texts",
+        "values" => "an array of texts, true, false and objects whose code is one expression",
+        _ => "a text",
+    }
+}
+
 /// What a member takes.
-fn value_of(member: &str) -> &'static str {
+fn value_of(entry_type: &str, member: &str) -> &'static str {
+    if entry_type == "arg" {
+        return argument_of(member);
+    }
     match member {
         "sources" => "an array of texts",
         "function" => "one of project, target, dependency",
@@ -133,6 +154,7 @@ fn explain_operation(
             TARGET_OPERATIONS.refuse(alloc, remarks, operation, meant)
         }
         "kwargs" => KWARGS_OPERATIONS.refuse(alloc, remarks, operation, None),
+        "arg" => VALUE_OPERATIONS.refuse(alloc, remarks, operation, None),
         _ => {
             let meant = if operation == "unset" {
                 Some("delete")
@@ -158,7 +180,7 @@ fn explain_member(
         }
         None => remarks.note(format!(in alloc; "{member} is missing")?)?,
     }
-    let value = value_of(member);
+    let value = value_of(text_at(entry, "type").unwrap_or(""), member);
     remarks.help(format!(in alloc; "{member} takes {value}")?)
 }
 

@@ -2,8 +2,9 @@ use Rattle.std.proofs.Common.{Err, if◌then◌else◌, ap, refl}
 use Rattle.std.specs.Prelude.{nat_lt}
 use Rattle.std.specs.Fmt.{digits}
 use Rattle.serde_json.proofs.OnLiterals.{serde_json_on_literals}
+use Rattle.meson_json.specs.Counts.{count_of}
 use Rattle.meson_json.specs.Each.{each_of, each_member, names_of_members}
-use Rattle.meson_json.specs.Scripts.{target_members, target_entry, kwargs_command, kwargs_entry, options_command, options_entry, entry_of, entry_by, entries_of, max_commands, script_of}
+use Rattle.meson_json.specs.Scripts.{argument_entry, value_name, target_members, target_entry, kwargs_command, kwargs_entry, options_command, options_entry, entry_of, entry_by, entries_of, max_commands, script_of}
 use Rattle.meson_json.specs.declared.member_check.UnknownMembers.TheVariants.{Ignored}
 use Rattle.meson_json.specs.declared.fault.ScriptFault.TheVariants.{TooMany}
 use Rattle.meson_json.proofs.laws.script_rows.Goals as goal
@@ -15,6 +16,10 @@ returns-clause-targets c = (refl, refl, refl, refl, refl, refl, refl, refl)
 pub returns-clause-arguments : goal.returns-clause-arguments
 unfolding serde_json_on_literals digits each_of each_member names_of_members target_members target_entry kwargs_command kwargs_entry options_command options_entry entry_of entry_by entries_of script_of
 returns-clause-arguments c = (refl, refl, refl, refl, refl, refl, refl, refl)
+
+pub returns-clause-values : goal.returns-clause-values
+unfolding serde_json_on_literals digits each_of each_member names_of_members count_of value_name argument_entry entry_of entry_by entries_of script_of
+returns-clause-values c = (refl, refl, refl, refl, refl, refl, refl, refl, refl, refl, refl, refl, refl)
 
 pub returns-clause-faults : goal.returns-clause-faults
 unfolding serde_json_on_literals digits each_of each_member names_of_members target_members target_entry kwargs_command kwargs_entry options_command options_entry entry_of entry_by entries_of script_of
