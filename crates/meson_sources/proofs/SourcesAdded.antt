@@ -1,6 +1,7 @@
 -- The list that gets sources has its elements in their order, and the new ones behind those without a name.
 use Rattle.meson_sources.specs.SourceEdits as edits
-use Rattle.meson_sources.proofs.Words.{filter, option_and_then, option_map, [], ap, append_assoc, ap₂, arith, Bool, drop, false, length, length-append, List, refl, Some, suc, sym, take, true, ℕ, ◌++◌, ◌∙◌, ◌∷◌, ◌≡◌, LevelArguments, LevelFile, holds_pairs, holds_values, list_at, ListAt, nth, Argument, arguments_of, erase, named, Nowhere, pair, Plain, plain, Bracket, some-injective, and-then-some, list-fits, map-some, After, Edit, edited, edited_elements, edited_list, element_added, elements, First, first_element, with_elements, keyword, IsProject, Loaded, project, once, sources_key, CallRef, values_no_pairs, home, source_marks, MayStandBetween, checked_names, plain_trees, all_stepped, step_in, stepped, elements_with, there_again, plain_place, tree_is, once_was, then_was, all_nth, change_made, elements_found, ListGets, not_plain, SourcesAreAdded, strings, elements_there, inserted_in, is_plain, new_names, plain_len, written_source}
+use Rattle.std.proofs.Math.Seq.{drop-append_seam, take-append_seam}
+use Rattle.meson_sources.proofs.Words.{filter, option_and_then, option_map, [], ap, append_assoc, ap₂, arith, Bool, false, length, length-append, List, refl, Some, suc, sym, true, ℕ, ◌++◌, ◌∙◌, ◌∷◌, ◌≡◌, LevelArguments, LevelFile, holds_pairs, holds_values, list_at, ListAt, nth, Argument, arguments_of, erase, named, Nowhere, pair, Plain, plain, Bracket, some-injective, and-then-some, list-fits, map-some, After, Edit, edited, edited_elements, edited_list, element_added, elements, First, first_element, with_elements, keyword, IsProject, Loaded, project, once, sources_key, CallRef, values_no_pairs, home, source_marks, MayStandBetween, checked_names, plain_trees, all_stepped, step_in, stepped, elements_with, there_again, plain_place, tree_is, once_was, then_was, all_nth, change_made, elements_found, ListGets, not_plain, SourcesAreAdded, strings, elements_there, inserted_in, is_plain, new_names, plain_len, written_source}
 use Rattle.meson_sources.proofs.added.Counts.{count_erased, elements_are, plain_count, plain_count_is}
 use Rattle.meson_sources.proofs.added.Homes.{Home, all_stand, list_levels, sources_home}
 use Rattle.meson_sources.proofs.added.Lists.{inserted_only, unchanged}
@@ -39,14 +40,6 @@ nth_last : {A : Type 0} (x : A) (front back : List A) → (it : A) × (nth (x �
 nth_last x [] back = (x, refl)
 nth_last x (y ∷ front) back = nth_last y front back
 
-take_front : {A : Type 0} (front back : List A) → take (length front) (front ++ back) ≡ front
-take_front [] back = refl
-take_front (x ∷ front) back = ap (λ l. x ∷ l) (take_front front back)
-
-drop_front : {A : Type 0} (front back : List A) → drop (length front) (front ++ back) ≡ back
-drop_front [] back = refl
-drop_front (x ∷ front) back = drop_front front back
-
 none_before : (a : Argument Nowhere) (xs ys : List (Argument Nowhere)) → first_element a xs ≡ Some ys → (xs ≡ []) × (a ∷ [] ≡ ys)
 none_before a [] ys is = (refl, some-injective _ _ is)
 none_before a (x ∷ xs) ys is = absurd cc
@@ -72,7 +65,7 @@ module _ (list : CallRef) where
       let e = one_edit list (After path n new) (λ t. refl) trees s.0 s.1 (x ∷ (front ++ back)) had in
       let last = nth_last x front back in
       let put : element_added n new.node (x ∷ (front ++ back)) last.0 ≡ (x ∷ front ++ new.node ∷ []) ++ back =
-      ap₂ (λ l m. x ∷ (l ++ new.node ∷ m)) (take_front front back) (drop_front front back) ∙ ap (λ l. x ∷ l) (sym (append_assoc front (new.node ∷ []) back)) in
+      ap₂ (λ l m. x ∷ (l ++ new.node ∷ m)) (take-append_seam front back) (drop-append_seam front back) ∙ ap (λ l. x ∷ l) (sym (append_assoc front (new.node ∷ []) back)) in
       let are : e.ys ≡ (x ∷ front ++ new.node ∷ []) ++ back = some-injective _ _ (sym e.are ∙ ap (option_map (element_added n new.node (x ∷ (front ++ back)))) last.1) ∙ put in
       let longer : length (x ∷ front ++ new.node ∷ []) ≡ suc (suc n) = omega (arith, length-append front (new.node ∷ [])) in
       puts more (x ∷ front ++ new.node ∷ []) back s.0 after (e.has ∙ ap Some are) (ap (λ m. all_stepped (edits.insertion_steps list m more) s.0) longer ∙ s.2)

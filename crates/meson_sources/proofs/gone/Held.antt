@@ -6,7 +6,7 @@ use Rattle.meson_sources.proofs.gone.Marks.{slot_gone, head_by, item_left, left_
 use Rattle.meson_sources.proofs.gone.Named.{alike, distinct_named, named_distinct, some_of, every_weaker}
 use Rattle.meson_sources.proofs.gone.Spots.{both_true, same_one}
 use Rattle.meson_sources.proofs.gone.Twice.{spot_left}
-use Rattle.meson_sources.proofs.met.Arguments.{keyed, list_with, plains, whole}
+use Rattle.meson_sources.proofs.met.Arguments.{no_pair, keyed, list_with, plains, whole}
 use Rattle.meson_sources.proofs.met.Files.{NamedGoes, unknown_left}
 use Rattle.meson_sources.proofs.met.Marks.{Values, expand_with, lists_by, bare_mark}
 use Rattle.meson_sources.proofs.trees.Elements.{root, Node, element_any}
@@ -196,18 +196,12 @@ module _ (trees : List Plain) (Fine : CallRef → ℕ → Node → Type 0) (fine
       plains_hold (argument (named t x e) more) n nb i later f =
           plains_hold more (n + 1) true (further (named t x e) (an_expression e) more n nb refl i) (λ k. let s : n + suc k ≡ (n + 1) + k = omega arith in subst (λ k. is_first k → ⊥) s (later (suc k))) f
       plains_hold (argument (pair t e d) more) n nb i later f = let level = i.level in absurd (no_pair level.0.0)
-        where
-          no_pair : holds_pairs bracket.Round ≡ true → ⊥
-          no_pair is = cc
 
       rest_hold : (xs : Arguments Nowhere) (n : ℕ) (nb : Bool) → CallFrom xs n nb → FirstOf is_first n xs → (f : List (List ℕ)) → AllHold (list_with one c (in_list c) (rest (plains n xs)) f).marks
       rest_hold no_arguments n nb i first f = tt
       rest_hold (argument (plain e) more) n nb i first f = plains_hold more (n + 1) false (further (plain e) (an_expression e) more n nb refl i) first f
       rest_hold (argument (named t x e) more) n nb i first f = rest_hold more (n + 1) true (further (named t x e) (an_expression e) more n nb refl i) first f
       rest_hold (argument (pair t e d) more) n nb i first f = let level = i.level in absurd (no_pair level.0.0)
-        where
-          no_pair : holds_pairs bracket.Round ≡ true → ⊥
-          no_pair is = cc
 
       key_holds : (z : Bool) (e : Expression Nowhere) (n : ℕ) (us : List (Numbered (Expression Nowhere))) → LevelExpression e → NodeIn trees (child c n) (an_expression e) → ((f : List (List ℕ)) → AllHold (list_with one c (λ n. fixed) us f).marks)
           → (f : List (List ℕ)) → AllHold (list_with one c (λ n. fixed) (cons_option (option_map (λ v. record { number = n; value = v }) (if z then Some e else None)) us) f).marks
@@ -222,9 +216,6 @@ module _ (trees : List Plain) (Fine : CallRef → ℕ → Node → Type 0) (fine
       keyed_hold key (argument (named t x e) more) n nb i f =
           key_holds (bytes_eq x.text key) e n (keyed key (n + 1) more) i.level.0.1 (here e more (named t x e) n nb refl i) (keyed_hold key more (n + 1) true (further (named t x e) (an_expression e) more n nb refl i)) f
       keyed_hold key (argument (pair t e d) more) n nb i f = let level = i.level in absurd (no_pair level.0.0)
-        where
-          no_pair : holds_pairs bracket.Round ≡ true → ⊥
-          no_pair is = cc
 
       pub whole_holds : (xs : Arguments Nowhere) → CallFrom xs 0 false → FirstOf is_first 0 xs → (f : List (List ℕ)) → AllHold (whole one c xs f).marks
       whole_holds xs i first f =

@@ -1,6 +1,6 @@
 -- What is met in the arguments of a call.
 use Rattle.meson_syntax.specs.declared.operator.Bracket.TheVariants as bracket
-use Rattle.meson_sources.proofs.Words.{cons_option, filter_map, bytes_eq, if◌then◌else◌, Ok, option_map, ◌⊎◌, [], ap, ap₂, arith, Bool, false, inl, inr, length, List, map, None, refl, Some, subst, suc, sym, true, zero, ℕ, ◌++◌, ◌+◌, ◌∙◌, ◌∷◌, ◌≡◌, ◌≤◌, an_expression, Any, arguments_parts, LevelArguments, LevelExpression, holds_pairs, Argument, argument, Arguments, arguments_of, bare_name, erase_arguments, Expression, Name, named, no_arguments, Nowhere, pair, plain, Bracket, kept_number, Numbered, numbered, value_with_name, value_without_name, once, rest, sources_key, child, CallRef, both_expanded, Expansion, fixed, in_list, nothing_met, Slot, Stand, list_of_slot, Differ, strings, extra_key}
+use Rattle.meson_sources.proofs.Words.{cons_option, filter_map, bytes_eq, if◌then◌else◌, Ok, option_map, ◌⊎◌, [], ap, arith, Bool, false, inl, inr, length, List, map, None, refl, Some, subst, suc, sym, true, zero, ℕ, ◌++◌, ◌+◌, ◌∙◌, ◌∷◌, ◌≡◌, ◌≤◌, an_expression, Any, arguments_parts, LevelArguments, LevelExpression, holds_pairs, Argument, argument, Arguments, arguments_of, bare_name, erase_arguments, Expression, Name, named, no_arguments, Nowhere, pair, plain, Bracket, kept_number, Numbered, numbered, value_with_name, value_without_name, once, rest, sources_key, child, CallRef, both_expanded, Expansion, fixed, in_list, nothing_met, Slot, Stand, list_of_slot, Differ, strings, extra_key}
 use Rattle.meson_sources.proofs.met.Outcomes.{Outcome, Along, joined, nothing_both, still, along_same, along_first, along_behind}
 use Rattle.meson_sources.proofs.trees.Places.{below, below_child}
 use Rattle.meson_sources.proofs.trees.Shapes.{Becomes, differ_none, differ_here, differ_there}
@@ -237,19 +237,14 @@ key_bare key (argument (plain e) more) = key_bare key more
 key_bare key (argument (named s x e) more) = ap (λ n. if bytes_eq x.text key then suc n else n) (key_bare key more)
 key_bare key (argument (pair s e f) more) = key_bare key more
 
+key_of_blanks : (key : List ℕ) (xs : Arguments Nowhere) → key_count key (arguments_of (blanks xs)) ≡ key_count key xs
+key_of_blanks key no_arguments = refl
+key_of_blanks key (argument (plain e) more) = key_of_blanks key more
+key_of_blanks key (argument (named s x e) more) = ap (λ n. if bytes_eq x.text key then suc n else n) (key_of_blanks key more)
+key_of_blanks key (argument (pair s e f) more) = key_of_blanks key more
+
 pub key_blanks : (key : List ℕ) (xs ys : Arguments Nowhere) → blanks ys ≡ blanks xs → key_count key ys ≡ key_count key xs
-key_blanks key no_arguments no_arguments is = refl
-key_blanks key no_arguments (argument a ys) is = absurd cc
-key_blanks key (argument a xs) no_arguments is = absurd cc
-key_blanks key (argument (plain e) xs) (argument (plain f) ys) is = let tails : blanks ys ≡ blanks xs = cc in key_blanks key xs ys tails
-key_blanks key (argument (named s x e) xs) (argument (named r y f) ys) is =
-    let tails : blanks ys ≡ blanks xs = cc in
-    let name : y ≡ x = cc in
-    ap₂ (λ (z : Name Nowhere) n. if bytes_eq z.text key then suc n else n) name (key_blanks key xs ys tails)
-key_blanks key (argument (pair s e g) xs) (argument (pair r f h) ys) is = let tails : blanks ys ≡ blanks xs = cc in key_blanks key xs ys tails
-key_blanks key (argument (plain e) xs) (argument _ ys) is = absurd cc
-key_blanks key (argument (named s x e) xs) (argument _ ys) is = absurd cc
-key_blanks key (argument (pair s e g) xs) (argument _ ys) is = absurd cc
+key_blanks key xs ys is = sym (key_of_blanks key ys) ∙ ap (λ bs. key_count key (arguments_of bs)) is ∙ key_of_blanks key xs
 
 pub key_strings : (key : List ℕ) (new : List (List ℕ)) (front back : List (Argument Nowhere)) → key_count key (arguments_of (front ++ (strings new ++ back))) ≡ key_count key (arguments_of (front ++ back))
 key_strings key [] [] back = refl
@@ -321,11 +316,11 @@ blanks_are (argument (pair s e f) more) = ap (λ l. blank (pair s e f) ∷ l) (b
 pub same_blanks : (xs ys : Arguments Nowhere) → blanks ys ≡ blanks xs → blanks (as_sources ys) ≡ blanks (as_sources xs)
 same_blanks xs ys is = blanks_are ys ∙ ap (map as_source) is ∙ sym (blanks_are xs)
 
+pub no_pair : holds_pairs bracket.Round ≡ true → ⊥
+no_pair is = cc
+
 pub still_level : (xs : Arguments Nowhere) (nb nb2 : Bool) → LevelArguments xs bracket.Round nb → LevelArguments (as_sources xs) bracket.Round nb2
 still_level no_arguments nb nb2 level = tt
 still_level (argument (plain e) more) nb nb2 level = ((refl, level.0.2), still_level more false true level.1)
 still_level (argument (named s x e) more) nb nb2 level = ((refl, level.0.1), still_level more true true level.1)
 still_level (argument (pair s e f) more) nb nb2 level = absurd (no_pair level.0.0)
-  where
-    no_pair : holds_pairs bracket.Round ≡ true → ⊥
-    no_pair is = cc

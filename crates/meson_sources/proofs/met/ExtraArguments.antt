@@ -1,10 +1,10 @@
 -- The extra files of a target whose call has got an argument for them.
-use Rattle.meson_sources.proofs.Words.{cons_option, bytes_eq, if◌then◌else◌, option_and_then, option_map, [], ap, append-nil, arith, false, inr, IsUtf8, length, List, map, None, refl, Some, subst, sym, ℕ, ◌++◌, ◌+◌, ◌∙◌, ◌∷◌, ◌≡◌, ◌≤◌, Span, an_expression, argument_parts, arguments_parts, list_at, list_in, ListAt, ListIn, value_of, Argument, Arguments, arguments_of, array, call, dictionary, erase_expression, Expression, Listing, listing, named, Nowhere, pair, Plain, plain, string, list-of-arguments, some-injective, Every, elements, with_value, lists-stay, Call, literal_of, Numbered, Loaded, project, Placed, Project, CallRef, Expansion, fixed, max_followed, plain_trees, ArgumentComes, ArgumentGrows, array_holding, elements_found, extra_argument, OnlyList, strings, extra_files, extra_key, is_plain, file_names}
+use Rattle.meson_sources.proofs.Words.{option_and_then, option_map, [], ap, append-nil, arith, false, inr, IsUtf8, length, List, map, None, refl, Some, subst, sym, ℕ, ◌++◌, ◌+◌, ◌∙◌, ◌∷◌, ◌≡◌, ◌≤◌, Span, an_expression, argument_parts, arguments_parts, list_at, list_in, ListAt, ListIn, value_of, Argument, Arguments, arguments_of, array, call, dictionary, erase_expression, Expression, Listing, listing, named, Nowhere, pair, Plain, plain, string, list-of-arguments, some-injective, Every, elements, with_value, lists-stay, Call, literal_of, Numbered, Loaded, project, Placed, Project, CallRef, Expansion, fixed, max_followed, plain_trees, ArgumentComes, ArgumentGrows, array_holding, elements_found, extra_argument, OnlyList, strings, extra_files, extra_key, is_plain, file_names}
 use Rattle.meson_sources.proofs.added.Turns.{listing_form}
 use Rattle.meson_sources.proofs.gone.Held.{same_there}
 use Rattle.meson_sources.proofs.met.Arguments.{keyed, list_with, as_whole, key_count, key_length}
 use Rattle.meson_sources.proofs.met.Files.{met_in, of_extras, FilesGrown, answered, bare_number, keyed_bare}
-use Rattle.meson_sources.proofs.met.GrownLists.{same_value, keyed_value, lone_array, lone_literal, lone_wrapped, new_keyed, other_keyed}
+use Rattle.meson_sources.proofs.met.GrownLists.{keyed_append, same_value, keyed_value, lone_array, lone_literal, lone_wrapped, new_keyed, other_keyed}
 use Rattle.meson_sources.proofs.met.Marks.{expand_with, values_of}
 use Rattle.meson_sources.proofs.met.Outcomes.{all_known, gist}
 use Rattle.meson_sources.proofs.told.NamedAgain.{KeepsNames, named_stays}
@@ -110,10 +110,7 @@ first_by (pair s e f ∷ front) a b back one other = first_by front a b back one
 
 -- no argument of a key is one without a name
 no_key : (key : List ℕ) (front : List (Argument Nowhere)) (e f : Expression Nowhere) (back : List (Argument Nowhere)) (k : ℕ) → keyed key k (arguments_of (front ++ plain e ∷ back)) ≡ keyed key k (arguments_of (front ++ plain f ∷ back))
-no_key key [] e f back k = refl
-no_key key (plain d ∷ front) e f back k = no_key key front e f back (k + 1)
-no_key key (named s x d ∷ front) e f back k = ap (λ l. cons_option (option_map (λ (y : Expression Nowhere). record { number = k; value = y }) (if bytes_eq x.text key then Some d else None)) l) (no_key key front e f back (k + 1))
-no_key key (pair s d g ∷ front) e f back k = no_key key front e f back (k + 1)
+no_key key front e f back k = keyed_append key front (plain e ∷ back) k ∙ sym (keyed_append key front (plain f ∷ back) k)
 
 pub grown_argument_first : (key : List ℕ) (front : List (Argument Nowhere)) (it : Argument Nowhere) (back : List (Argument Nowhere)) (n : ℕ) (w w2 : Expression Nowhere)
     → keyed key 0 (arguments_of (front ++ it ∷ back)) ≡ record { number = n; value = w } ∷ [] → keyed key 0 (arguments_of (front ++ with_value w2 it ∷ back)) ≡ record { number = n; value = w2 } ∷ []
@@ -204,7 +201,7 @@ module _ (old new : Loaded) (same_names : file_names new ≡ file_names old) (c 
         let number : v.number ≡ 0 + length g.front = (let n = g.is_number in omega (arith, n)) in
         let same : g.value ≡ w = some-injective _ _ (sym g.is_value ∙ keyed_value g.front g.it g.back 0 v.number w number here) in
         let w2 = array_holding (plain g.value ∷ strings names) in
-        let k = other_keyed g.front g.it g.back 0 v.number w w2 number here in
+        let k = other_keyed g.front g.it g.back 0 v.number w number here w2 in
         let list = arguments_of (g.front ++ with_value w2 g.it ∷ g.back) in
         let is_literal : literal_of w ≡ Some text = bare_literal v.value ∙ literal in
         let no_array : w ≡ w2 → ⊥ = (λ both. let none : Some text ≡ None = sym is_literal ∙ ap literal_of both in cc) in

@@ -1,7 +1,7 @@
 -- What is met in a list that gets strings.
 use Rattle.meson_syntax.specs.declared.operator.StringKind.TheVariants as quotes
 use Rattle.meson_lex.proofs.Written.{literal_value}
-use Rattle.meson_sources.proofs.Words.{cons_option, All, bytes_eq, codes, if◌then◌else◌, not, option_map, ◌&&◌, [], ap, append-nil, ap₂, arith, Bool, false, IsUtf8, length, List, None, refl, Some, subst, suc, sym, true, zero, ℕ, ◌++◌, ◌+◌, ◌∙◌, ◌∷◌, ◌≡◌, ◌≤◌, All-head, All-tail, literal, value, Any, string_kind, value_of, Argument, arguments_of, array, call, Expression, listing, Name, named, Nowhere, pair, plain, string, Every, with_value, literal_of, Numbered, rest, child, one_of, CallRef, both_expanded, element, expand_by, expand_each, Expansion, fixed, has_names, in_list, is_files, known, literal_item, Mark, max_followed, met, nothing_met, opaque, Stand, within, list_of_slot, string_of, array_holding, extra_argument, strings, extra_key, is_plain}
+use Rattle.meson_sources.proofs.Words.{cons_option, filter_map, All, bytes_eq, codes, if◌then◌else◌, not, option_map, ◌&&◌, [], ap, append-nil, ap₂, arith, Bool, false, IsUtf8, length, List, None, Option, refl, Some, subst, suc, sym, true, zero, ℕ, ◌++◌, ◌+◌, ◌<◌, ◌∙◌, ◌∷◌, ◌≡◌, ◌≤◌, All-head, All-tail, filter_map-append, literal, value, Any, string_kind, value_of, Argument, arguments_of, array, call, Expression, listing, Name, named, Nowhere, pair, plain, string, Every, with_value, kept_number, literal_of, Numbered, numbered, value_with_name, rest, child, one_of, CallRef, both_expanded, element, expand_by, expand_each, Expansion, fixed, has_names, in_list, is_files, known, literal_item, Mark, max_followed, met, nothing_met, opaque, Stand, within, list_of_slot, string_of, array_holding, extra_argument, strings, extra_key, is_plain}
 use Rattle.meson_sources.proofs.met.Arguments.{Expand, list_with, plains, keys, keys_same, keyed}
 use Rattle.meson_sources.proofs.met.Expressions.{argument_same, each_same}
 use Rattle.meson_sources.proofs.met.Marks.{Values, expand_with}
@@ -252,80 +252,80 @@ module _ (values : Values) where
 
 -- ---- arguments of a key
 
-abbrev numbered_with : ℕ → Bool → Expression Nowhere → List (Numbered (Expression Nowhere)) → List (Numbered (Expression Nowhere))
-numbered_with k b e more = cons_option (option_map (λ y. record { number = k; value = y }) (if b then Some e else None)) more
+numbered_append : (xs ys : List (Argument Nowhere)) (k : ℕ) → numbered k (arguments_of (xs ++ ys)) ≡ numbered k (arguments_of xs) ++ numbered (k + length xs) (arguments_of ys)
+numbered_append [] ys k = let same : k ≡ k + 0 = omega arith in ap (λ i. numbered i (arguments_of ys)) same
+numbered_append (x ∷ xs) ys k =
+    let same : (k + 1) + length xs ≡ k + suc (length xs) = omega arith in
+    ap (λ l. record { number = k; value = x } ∷ l) (numbered_append xs ys (k + 1) ∙ ap (λ i. numbered (k + 1) (arguments_of xs) ++ numbered i (arguments_of ys)) same)
+
+pub keyed_append : (key : List ℕ) (xs ys : List (Argument Nowhere)) (k : ℕ) → keyed key k (arguments_of (xs ++ ys)) ≡ keyed key k (arguments_of xs) ++ keyed key (k + length xs) (arguments_of ys)
+keyed_append key xs ys k =
+    ap (filter_map (kept_number (value_with_name key))) (numbered_append xs ys k) ∙ filter_map-append (kept_number (value_with_name key)) (numbered k (arguments_of xs)) (numbered (k + length xs) (arguments_of ys))
 
 -- a further argument behind others without the key
 pub new_keyed : (us : List (Argument Nowhere)) (k : ℕ) (names : List (List ℕ)) → keyed extra_key k (arguments_of us) ≡ []
     → (n : ℕ) × (keyed extra_key k (arguments_of (us ++ extra_argument names ∷ [])) ≡ record { number = n; value = array_holding (strings names) } ∷ [])
-new_keyed [] k names none = (k, refl)
-new_keyed (plain e ∷ us) k names none = new_keyed us (k + 1) names none
-new_keyed (named s x e ∷ us) k names none = go (bytes_eq x.text extra_key) none (new_keyed us (k + 1) names)
-  where
-    go : (b : Bool) → numbered_with k b e (keyed extra_key (k + 1) (arguments_of us)) ≡ []
-        → (keyed extra_key (k + 1) (arguments_of us) ≡ [] → (n : ℕ) × (keyed extra_key (k + 1) (arguments_of (us ++ extra_argument names ∷ [])) ≡ record { number = n; value = array_holding (strings names) } ∷ []))
-        → (n : ℕ) × (numbered_with k b e (keyed extra_key (k + 1) (arguments_of (us ++ extra_argument names ∷ []))) ≡ record { number = n; value = array_holding (strings names) } ∷ [])
-    go true is others = absurd cc
-    go false is others = others is
-new_keyed (pair s e f ∷ us) k names none = new_keyed us (k + 1) names none
-
-same_number : (v w : Numbered (Expression Nowhere)) (us vs : List (Numbered (Expression Nowhere))) → v ∷ us ≡ w ∷ vs → v.number ≡ w.number
-same_number v w us vs is = let same : v ≡ w = cc in ap (λ (z : Numbered (Expression Nowhere)). z.number) same
+new_keyed us k names none = (k + length us, keyed_append extra_key us (extra_argument names ∷ []) k ∙ ap (λ l. l ++ record { number = k + length us; value = array_holding (strings names) } ∷ []) none)
 
 pub same_value : (v w : Numbered (Expression Nowhere)) (us vs : List (Numbered (Expression Nowhere))) → v ∷ us ≡ w ∷ vs → v.value ≡ w.value
 same_value v w us vs is = let same : v ≡ w = cc in ap (λ (z : Numbered (Expression Nowhere)). z.value) same
 
-same_tail : (v w : Numbered (Expression Nowhere)) (us vs : List (Numbered (Expression Nowhere))) → v ∷ us ≡ w ∷ vs → us ≡ vs
-same_tail v w us vs is = cc
+-- those of a key have the numbers of their arguments
+abbrev Within : ℕ → ℕ → List (Numbered (Expression Nowhere)) → Type 0
+Within m n vs = Every (λ (v : Numbered (Expression Nowhere)). (m ≤ v.number) × (v.number < n)) vs
 
--- the first of a key has no number before the first of all
-first_number : (us : List (Argument Nowhere)) (k : ℕ) (v : Numbered (Expression Nowhere)) (more : List (Numbered (Expression Nowhere))) → keyed extra_key k (arguments_of us) ≡ v ∷ more → k ≤ v.number
-first_number [] k v more is = absurd cc
-first_number (plain e ∷ us) k v more is = let later = first_number us (k + 1) v more is in omega (arith, later)
-first_number (named s x e ∷ us) k v more is = go (bytes_eq x.text extra_key) is (first_number us (k + 1) v more)
-  where
-    go : (b : Bool) → numbered_with k b e (keyed extra_key (k + 1) (arguments_of us)) ≡ v ∷ more → (keyed extra_key (k + 1) (arguments_of us) ≡ v ∷ more → k + 1 ≤ v.number) → k ≤ v.number
-    go true here others = let same : k ≡ v.number = same_number _ _ _ _ here in omega (arith, same)
-    go false here others = let later = others here in omega (arith, later)
-first_number (pair s e f ∷ us) k v more is = let later = first_number us (k + 1) v more is in omega (arith, later)
+abbrev at_number : ℕ → Option (Expression Nowhere) → Option (Numbered (Expression Nowhere))
+at_number k o = option_map (λ y. record { number = k; value = y }) o
 
--- another value in the one argument of the key
-pub other_keyed : (front : List (Argument Nowhere)) (it : Argument Nowhere) (back : List (Argument Nowhere)) (k n : ℕ) (w w2 : Expression Nowhere) → n ≡ k + length front
-    → keyed extra_key k (arguments_of (front ++ it ∷ back)) ≡ record { number = n; value = w } ∷ [] → keyed extra_key k (arguments_of (front ++ with_value w2 it ∷ back)) ≡ record { number = n; value = w2 } ∷ []
-other_keyed [] (plain e) back k n w w2 number is = let later = first_number back (k + 1) _ [] is in absurd (omega (arith, number, later))
-other_keyed [] (named s x e) back k n w w2 number is = go (bytes_eq x.text extra_key) is
+keyed_within : (xs : List (Argument Nowhere)) (k m n : ℕ) → m ≤ k → k + length xs ≤ n → Within m n (keyed extra_key k (arguments_of xs))
+keyed_within [] k m n low high = tt
+keyed_within (x ∷ xs) k m n low high = go (value_with_name extra_key x) (keyed_within xs (k + 1) m n (omega (arith, low)) (omega (arith, high)))
   where
-    go : (b : Bool) → numbered_with k b e (keyed extra_key (k + 1) (arguments_of back)) ≡ record { number = n; value = w } ∷ [] → numbered_with k b w2 (keyed extra_key (k + 1) (arguments_of back)) ≡ record { number = n; value = w2 } ∷ []
-    go true here =
-        let none = same_tail _ _ _ _ here in
-        let at : k ≡ n = same_number _ _ _ _ here in
-        ap₂ (λ i l. record { number = i; value = w2 } ∷ l) at none
-    go false here = let later = first_number back (k + 1) _ [] here in absurd (omega (arith, number, later))
-other_keyed [] (pair s e f) back k n w w2 number is = let later = first_number back (k + 1) _ [] is in absurd (omega (arith, number, later))
-other_keyed (plain e ∷ front) it back k n w w2 number is = other_keyed front it back (k + 1) n w w2 (omega (arith, number)) is
-other_keyed (named s x e ∷ front) it back k n w w2 number is = go (bytes_eq x.text extra_key) is (other_keyed front it back (k + 1) n w w2 (omega (arith, number)))
-  where
-    go : (b : Bool) → numbered_with k b e (keyed extra_key (k + 1) (arguments_of (front ++ it ∷ back))) ≡ record { number = n; value = w } ∷ []
-        → (keyed extra_key (k + 1) (arguments_of (front ++ it ∷ back)) ≡ record { number = n; value = w } ∷ [] → keyed extra_key (k + 1) (arguments_of (front ++ with_value w2 it ∷ back)) ≡ record { number = n; value = w2 } ∷ [])
-        → numbered_with k b e (keyed extra_key (k + 1) (arguments_of (front ++ with_value w2 it ∷ back))) ≡ record { number = n; value = w2 } ∷ []
-    go true here others = let at : k ≡ n = same_number _ _ _ _ here in absurd (omega (arith, number, at))
-    go false here others = others here
-other_keyed (pair s e f ∷ front) it back k n w w2 number is = other_keyed front it back (k + 1) n w w2 (omega (arith, number)) is
+    go : (o : Option (Expression Nowhere)) → Within m n (keyed extra_key (k + 1) (arguments_of xs)) → Within m n (cons_option (at_number k o) (keyed extra_key (k + 1) (arguments_of xs)))
+    go None all = all
+    go (Some e) all = ((low, omega (arith, high)), all)
 
-pub keyed_value : (front : List (Argument Nowhere)) (it : Argument Nowhere) (back : List (Argument Nowhere)) (k n : ℕ) (w : Expression Nowhere) → n ≡ k + length front
-    → keyed extra_key k (arguments_of (front ++ it ∷ back)) ≡ record { number = n; value = w } ∷ [] → value_of it ≡ Some w
-keyed_value [] (plain e) back k n w number is = let later = first_number back (k + 1) _ [] is in absurd (omega (arith, number, later))
-keyed_value [] (named s x e) back k n w number is = go (bytes_eq x.text extra_key) is
-  where
-    go : (b : Bool) → numbered_with k b e (keyed extra_key (k + 1) (arguments_of back)) ≡ record { number = n; value = w } ∷ [] → Some e ≡ Some w
-    go true here = ap Some (same_value _ _ _ _ here)
-    go false here = let later = first_number back (k + 1) _ [] here in absurd (omega (arith, number, later))
-keyed_value [] (pair s e f) back k n w number is = let later = first_number back (k + 1) _ [] is in absurd (omega (arith, number, later))
-keyed_value (plain e ∷ front) it back k n w number is = keyed_value front it back (k + 1) n w (omega (arith, number)) is
-keyed_value (named s x e ∷ front) it back k n w number is = go (bytes_eq x.text extra_key) is (keyed_value front it back (k + 1) n w (omega (arith, number)))
-  where
-    go : (b : Bool) → numbered_with k b e (keyed extra_key (k + 1) (arguments_of (front ++ it ∷ back))) ≡ record { number = n; value = w } ∷ []
-        → (keyed extra_key (k + 1) (arguments_of (front ++ it ∷ back)) ≡ record { number = n; value = w } ∷ [] → value_of it ≡ Some w) → value_of it ≡ Some w
-    go true here others = let at : k ≡ n = same_number _ _ _ _ here in absurd (omega (arith, number, at))
-    go false here others = others here
-keyed_value (pair s e f ∷ front) it back k n w number is = keyed_value front it back (k + 1) n w (omega (arith, number)) is
+-- one alone, which has the number n
+lone_middle : (before behind : List (Numbered (Expression Nowhere))) (o : Option (Expression Nowhere)) (m n k : ℕ) (w : Expression Nowhere) → Within m n before → Within (n + 1) k behind
+    → before ++ cons_option (at_number n o) behind ≡ record { number = n; value = w } ∷ [] → (before ≡ []) × (o ≡ Some w) × (behind ≡ [])
+lone_middle [] [] None m n k w low high is = absurd cc
+lone_middle [] (v ∷ behind) None m n k w low high is =
+    let same : v ≡ record { number = n; value = w } = cc in
+    let number = ap (λ (z : Numbered (Expression Nowhere)). z.number) same in
+    let above = high.0.0 in
+    absurd (omega (arith, number, above))
+lone_middle [] behind (Some e) m n k w low high is = let none : behind ≡ [] = cc in (refl, ap Some (same_value _ _ _ _ is), none)
+lone_middle (v ∷ before) behind o m n k w low high is =
+    let same : v ≡ record { number = n; value = w } = cc in
+    let number = ap (λ (z : Numbered (Expression Nowhere)). z.number) same in
+    let below = low.0.1 in
+    absurd (omega (arith, number, below))
+
+module _ (front : List (Argument Nowhere)) (it : Argument Nowhere) (back : List (Argument Nowhere)) (k n : ℕ) (w : Expression Nowhere) (number : n ≡ k + length front)
+    (is : keyed extra_key k (arguments_of (front ++ it ∷ back)) ≡ record { number = n; value = w } ∷ []) where
+  parted : (a : Argument Nowhere) → keyed extra_key k (arguments_of (front ++ a ∷ back))
+      ≡ keyed extra_key k (arguments_of front) ++ cons_option (at_number n (value_with_name extra_key a)) (keyed extra_key (n + 1) (arguments_of back))
+  parted a = keyed_append extra_key front (a ∷ back) k ∙ ap (λ i. keyed extra_key k (arguments_of front) ++ keyed extra_key i (arguments_of (a ∷ back))) (sym number)
+
+  alone : (keyed extra_key k (arguments_of front) ≡ []) × (value_with_name extra_key it ≡ Some w) × (keyed extra_key (n + 1) (arguments_of back) ≡ [])
+  alone =
+      lone_middle _ _ (value_with_name extra_key it) k n ((n + 1) + length back) w (keyed_within front k k n (omega arith) (omega (arith, number))) (keyed_within back (n + 1) (n + 1) ((n + 1) + length back) (omega arith) (omega arith))
+      (sym (parted it) ∙ is)
+
+  has_value : (a : Argument Nowhere) → value_with_name extra_key a ≡ Some w → (value_of a ≡ Some w) × ((w2 : Expression Nowhere) → value_with_name extra_key (with_value w2 a) ≡ Some w2)
+  has_value (plain e) here = absurd cc
+  has_value (named s x e) here = go (bytes_eq x.text extra_key) here
+    where
+      go : (b : Bool) → (if b then Some e else None) ≡ Some w → (Some e ≡ Some w) × ((w2 : Expression Nowhere) → (if b then Some w2 else None) ≡ Some w2)
+      go true same = (same, λ w2. refl)
+      go false same = absurd cc
+  has_value (pair s e f) here = absurd cc
+
+  pub keyed_value : value_of it ≡ Some w
+  keyed_value = (has_value it alone.1).0
+
+  -- another value in the one argument of the key
+  pub other_keyed : (w2 : Expression Nowhere) → keyed extra_key k (arguments_of (front ++ with_value w2 it ∷ back)) ≡ record { number = n; value = w2 } ∷ []
+  other_keyed w2 =
+      parted (with_value w2 it) ∙ ap₂ (λ l o. l ++ cons_option (at_number n o) (keyed extra_key (n + 1) (arguments_of back))) alone.0 ((has_value it alone.1).1 w2)
+      ∙ ap (λ l. record { number = n; value = w2 } ∷ l) alone.2

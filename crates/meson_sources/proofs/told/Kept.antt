@@ -3,13 +3,13 @@ use Rattle.meson_syntax.specs.declared.operator.Assignment.TheVariants as assign
 use Rattle.meson_calls.specs.declared.call.Role.TheVariants as role
 use Rattle.meson_sources.proofs.told.Variables as tells
 use Rattle.meson_sources.proofs.Words.{cons_option, All, if◌then◌else◌, is_some, option_and_then, option_map, ◌&&◌, [], ap, append-nil, ap₂, arith, Bool, false, inl, inr, List, None, Option, refl, Some, subst, suc, sym, true, ℕ, ◌++◌, ◌+◌, ◌∙◌, ◌∷◌, ◌≡◌, a_block, a_statement, an_expression, nth, argument, Arguments, arguments_of, array, assign, call, Expression, identifier, iteration, Listing, listing, Name, named, no_arguments, Nowhere, pair, Plain, plain, row, Statement, string, child_nodes, is_empty, call_of, first_literal, literal_of, parts_of_file, child, place, has_role, is_target_call, one_of, target_functions, CallRef, by_each_child, MayStandBetween, arguments_without, but, each_without, expression_without, from_child, Gone, statement_without, tree_without}
-use Rattle.meson_sources.proofs.gone.Losses.{EachLoses, Loses, holds_none, IsExpression, children_are, fits, gone_string, nth_without, root_without, Lost, at_child, at_itself, child_in, call_lost, gone_at, strings_lost}
+use Rattle.meson_sources.proofs.gone.Losses.{no_true, EachLoses, Loses, holds_none, IsExpression, children_are, fits, gone_string, nth_without, root_without, Lost, at_child, at_itself, child_in, call_lost, gone_at, strings_lost}
 use Rattle.meson_sources.proofs.gone.Marks.{FirstStays}
 use Rattle.meson_sources.proofs.gone.Places.{Fits, any_without, children_left, each_child}
 use Rattle.meson_sources.proofs.gone.Spots.{but_none}
 use Rattle.meson_sources.proofs.met.Ways.{node_level}
 use Rattle.meson_sources.proofs.told.Targets.{a_target, call_by, first_plain, SameNames, a_variable, call_tells, first_is, in_all, in_any, node_tells, own, tell_call}
-use Rattle.meson_sources.proofs.told.Variables.{Told, children_alike, matters, told, node_told, of_any, of_children}
+use Rattle.meson_sources.proofs.told.Variables.{children_alike, matters, told, node_told, of_any, of_children}
 use Rattle.meson_sources.proofs.trees.Elements.{root, Node}
 use Rattle.meson_sources.proofs.trees.Scenes.{NodeIn, SameTells, file_tells}
 
@@ -81,13 +81,6 @@ module _ (trees : List Plain) (stand : All MayStandBetween trees) (gone : CallRe
   abbrev at : CallRef → Gone
   at = gone_at gone
 
-  by_gone : (c : CallRef) (n : ℕ) → (gone c n ≡ true → ⊥) → gone c n ≡ false
-  by_gone c n other = go (gone c n) refl
-    where
-      go : (b : Bool) → gone c n ≡ b → b ≡ false
-      go true is = absurd (other is)
-      go false is = refl
-
   module _ (s : Nowhere) (f : Name Nowhere) (r : Nowhere) (z : Bool) (list : Arguments Nowhere) (c : CallRef) (h : NodeIn trees c (an_expression (call s f (listing r z list)))) where
     abbrev left : Arguments Nowhere
     left = arguments_of (but (at c []) (arguments_without (at c) 0 list))
@@ -99,7 +92,7 @@ module _ (trees : List Plain) (stand : All MayStandBetween trees) (gone : CallRe
     call_names = go (one_of target_functions f.text) refl
       where
         go : (b : Bool) → one_of target_functions f.text ≡ b → call_by f.text (first_plain left) ≡ call_by f.text (first_plain list)
-        go true yea = own_left gone c 0 f.text list left (first_stays gone c list 0 (λ n first. by_gone c n (λ is. (may c n is _ h).1 yea first))) each
+        go true yea = own_left gone c 0 f.text list left (first_stays gone c list 0 (λ n first. no_true (gone c n) (λ is. (may c n is _ h).1 yea first))) each
         go false nay =
             ap (λ b. if b && is_some (first_plain left) then Some (a_target f.text (option_and_then literal_of (first_plain left))) else None) nay
             ∙ sym (ap (λ b. if b && is_some (first_plain list) then Some (a_target f.text (option_and_then literal_of (first_plain list))) else None) nay)
@@ -109,7 +102,7 @@ module _ (trees : List Plain) (stand : All MayStandBetween trees) (gone : CallRe
       where
         go : (b : Bool) → matters f.text ≡ b → tells.tell_call c.file (call_of (expression_without (at c) (call s f (listing r z list)))) ≡ tells.tell_call c.file (call_of (call s f (listing r z list)))
         go true yea =
-            let stays : FirstStays gone c 0 list = first_stays gone c list 0 (λ n first. by_gone c n (λ is. let none = sym yea ∙ (may c n is _ h).0 in cc)) in
+            let stays : FirstStays gone c 0 list = first_stays gone c list 0 (λ n first. no_true (gone c n) (λ is. let none = sym yea ∙ (may c n is _ h).0 in cc)) in
             ap (λ l. if matters f.text then Some (tells.a_call c.file f.text l) else None)
             (ap (option_and_then literal_of) (first_is 0 left) ∙ first_literal_left gone c 0 list left stays each ∙ sym (ap (option_and_then literal_of) (first_is 0 list)))
         go false nay =

@@ -1,6 +1,7 @@
 -- A call by its parts: where it stands, and with spans again where it stands without them.
 use Rattle.meson_calls.specs.declared.call.Role.TheVariants as role
-use Rattle.meson_sources.proofs.Words.{is_some, Ok, option_and_then, ◌&&◌, [], ap, Bool, false, List, map, refl, Some, subst, suc, sym, true, zero, ℕ, ◌∙◌, ◌∷◌, ◌≡◌, Span, File, a_block, an_expression, block_of, expression_on_path, nth, Arguments, call, erase, erase_arguments, erase_expression, erase_name, Expression, listing, Name, Nowhere, Plain, view, Parsed, node_at, some-injective, Call, call_of, first_argument, the_call, Loaded, named_trees, project, views, BuildFile, expression_at, nth_file, Placed, placed, Project, has_role, one_of, target_functions, CallRef, role_found, plain_trees}
+use Rattle.meson_sources.proofs.Words.{is_some, Ok, option_and_then, [], ap, Bool, List, map, refl, Some, subst, suc, sym, true, zero, ℕ, ◌∙◌, ◌∷◌, ◌≡◌, Span, File, a_block, an_expression, block_of, expression_on_path, nth, Arguments, call, erase, erase_arguments, erase_expression, erase_name, Expression, listing, Name, Nowhere, Plain, view, Parsed, node_at, some-injective, Call, call_of, first_argument, the_call, Loaded, named_trees, project, views, BuildFile, expression_at, nth_file, Placed, placed, Project, has_role, one_of, target_functions, CallRef, role_found, plain_trees}
+use Rattle.meson_sources.proofs.gone.Spots.{both_true}
 use Rattle.meson_sources.proofs.trees.Places.{node_with_spans}
 use Rattle.meson_sources.proofs.trees.Scenes.{NodeIn, bare_in}
 
@@ -69,10 +70,6 @@ pub record TargetAt (p : Project Span) (c : Placed (Call Span)) : Type 0 where
 pub target_at : (p : Project Span) (id : List ℕ) (c : Placed (Call Span)) → the_call p role.Target id ≡ Ok c → TargetAt p c
 target_at p id c found = let r = role_found p role.Target id c found in go r.at.value r.at.is_at r.at.is_call r.is_one
   where
-    both_true : (a b : Bool) → (a && b) ≡ true → (a ≡ true) × (b ≡ true)
-    both_true true b is = (refl, is)
-    both_true false b is = absurd cc
-
     go : (e : Expression Span) → expression_at p c.place ≡ Some e → call_of e ≡ Some c.it → has_role role.Target c.it ≡ true → TargetAt p c
     go (call s f (listing r trailing xs)) at is_call is_one =
         let it : CallIn p c.place = record { span = s; name = f; brackets = r; trailing = trailing; arguments = xs; at = at } in
