@@ -2,6 +2,7 @@ mod Nearby
 mod NearestKeys
 mod NearCalls
 mod Printed
+mod Excerpted
 mod ArgumentNotes
 mod CallValues
 mod Identifiers

@@ -1,14 +1,15 @@
 -- Why a file does not parse: its line, with a mark below the place.
-use Rattle.std.specs.Prelude.{ℕ, ◌==◌, not, ◌&&◌, if◌then◌else◌, List, [], ◌++◌, map, reverse, take, drop, take_while, chars, codes}
-use Rattle.std.specs.Prelude.{encode_utf8_all, Option, Some, None}
+use Rattle.std.specs.Prelude.{ℕ, ◌==◌, not, ◌&&◌, if◌then◌else◌, List, [], ◌∷◌, ◌++◌, map, reverse, take, drop, take_while, chars, codes}
+use Rattle.std.specs.Prelude.{encode_utf8_all, option_to_list, Option, Some, None}
 use Rattle.std.specs.Char.{is_control}
 use Rattle.std.specs.Str.Lossy.{utf8_lossy}
-use Rattle.meson_lex.specs.declared.fault.LexFault.{LexFault}
 use Rattle.meson_lex.specs.declared.fault.LexFault.TheVariants as lex
 use Rattle.meson_syntax.specs.declared.fault.ParseFault.{ParseFault}
 use Rattle.meson_syntax.specs.declared.fault.ParseFault.TheVariants as parse
 use Rattle.meson_inventory.specs.Inventory.{line_number}
 use Rattle.meson_explaining.specs.Lines.{column, help_line, place_words, printable}
+use Rattle.meson_explaining.specs.declared.explanation.Explanation.{Explanation}
+use Rattle.meson_explaining.specs.declared.explanation.Note.{Note}
 
 -- ---- the line of an offset, cut
 
@@ -17,15 +18,21 @@ abbrev pub plain_char : ℕ → ℕ
 plain_char c = if is_control c then 32 else c
 
 -- the last 60 characters before the offset, up to a line feed (10), the last one first
+abbrev pub chars_before : List ℕ → ℕ → List ℕ
+chars_before bytes at_ = take 60 (take_while (λ c. not (c == 10)) (reverse (chars (utf8_lossy (take at_ bytes)))))
+
 abbrev pub last_before : List ℕ → ℕ → List ℕ
-last_before bytes at_ = map plain_char (take 60 (take_while (λ c. not (c == 10)) (reverse (chars (utf8_lossy (take at_ bytes))))))
+last_before bytes at_ = map plain_char (chars_before bytes at_)
 
 abbrev pub shown_before : List ℕ → ℕ → List ℕ
 shown_before bytes at_ = reverse (last_before bytes at_)
 
 -- the first 40 from it on, up to a line feed or a carriage return (13)
+abbrev pub chars_after : List ℕ → ℕ → List ℕ
+chars_after bytes at_ = take 40 (take_while (λ c. not (c == 10) && not (c == 13)) (chars (utf8_lossy (drop at_ bytes))))
+
 abbrev pub shown_after : List ℕ → ℕ → List ℕ
-shown_after bytes at_ = map plain_char (take 40 (take_while (λ c. not (c == 10) && not (c == 13)) (chars (utf8_lossy (drop at_ bytes)))))
+shown_after bytes at_ = map plain_char (chars_after bytes at_)
 
 -- the line, and below it a mark
 abbrev pub excerpt : List ℕ → ℕ → List ℕ
@@ -74,3 +81,12 @@ helped_lines (Some text) = help_line text
 -- of the file of that name with these bytes
 abbrev pub fault_lines : List ℕ → List ℕ → ParseFault → List ℕ
 fault_lines name bytes fault = noted_lines name bytes (fault_note fault) ++ helped_lines (fault_help fault)
+
+-- ---- as an explanation, of a set that has this file alone; the place has no bytes
+
+abbrev pub fault_notes : Option (ℕ × List ℕ) → List Note
+fault_notes None = []
+fault_notes (Some note) = record { spot = Some (record { file = 0; at = note.0; end = note.0 }); text = note.1 } ∷ []
+
+abbrev pub fault_explanation : ParseFault → Explanation
+fault_explanation fault = record { notes = fault_notes (fault_note fault); help = option_to_list (fault_help fault) }

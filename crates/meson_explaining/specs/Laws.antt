@@ -1,8 +1,10 @@
 -- What is promised of an explanation, in the words of a reader.
-use Rattle.std.specs.Prelude.{◌≡◌, ℕ, ◌/◌, ◌≤◌, false, List, length, Some, encode_utf8_all}
+use Rattle.std.specs.Prelude.{◌≡◌, ℕ, ◌/◌, ◌≤◌, false, List, ◌++◌, codes, flat_map, length, Some, encode_utf8_all}
 use Rattle.std.specs.List.{All, Contains, list_any}
 use Rattle.std.specs.Char.{is_control}
 use Rattle.meson_inventory.specs.declared.holdings.HeldCall.{HeldCall}
+use Rattle.meson_syntax.specs.declared.fault.ParseFault.{ParseFault}
+use Rattle.meson_explaining.specs.Excerpts.{fault_lines}
 use Rattle.meson_explaining.specs.Lines.{printable}
 use Rattle.meson_explaining.specs.Nearest.{edits, nearest}
 
@@ -31,3 +33,13 @@ pub record HasNoControl (text : List ℕ) : Type 0 where
 
 abbrev pub PrintableHasNoControl : Type 0
 PrintableHasNoControl = (text : List ℕ) → HasNoControl (printable text)
+
+-- ---- Nor have the lines that are said of a file that does not parse, beside their ends.
+
+pub record AreShown (text : List ℕ) : Type 0 where
+  pub lines : List (List ℕ)
+  pub are_lines : text ≡ flat_map (λ l. l ++ codes "\n") lines
+  pub each : All HasNoControl lines
+
+abbrev pub FaultLinesHaveNoControl : Type 0
+FaultLinesHaveNoControl = (name bytes : List ℕ) (fault : ParseFault) → AreShown (fault_lines name bytes fault)

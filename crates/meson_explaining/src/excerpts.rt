@@ -1,11 +1,13 @@
 //! Why a file does not parse: its line, with a mark below the place.
 
-ghost use Rattle.std.specs.Prelude.{◌≡◌, ◌++◌, IfOk, OnOk, drop, encode_utf8_all, map, option_map, reverse, string_bytes};
-ghost use Rattle.meson_explaining.specs.Excerpts.{excerpt, fault_help, fault_lines, fault_note, place_lines, plain_char, last_before, shown_after, shown_before};
+ghost use Rattle.std.specs.Prelude.{◌≡◌, ◌++◌, IfOk, OnOk, drop, encode_utf8_all, map, option_map, option_to_list, reverse, string_bytes};
+ghost use Rattle.meson_explaining.specs.Excerpts.{excerpt, fault_explanation, fault_help, fault_lines, fault_note, fault_notes, place_lines, plain_char, last_before, shown_after, shown_before};
 
+use crate::explanation::{Explanation, Note, Spot};
 use crate::lines::{add_line, before, last_line_len, line_feeds, place_words};
 use crate::printable::chars_of;
 use meson_lex::LexFault;
+use meson_splice::{Many, Text};
 use meson_syntax::ParseFault;
 use std::alloc::{AllocError, Global};
 
@@ -92,7 +94,7 @@ fn excerpt(alloc: Global, bytes: &[u8], at: usize) -> Result<String, AllocError>
 }
 
 /// Where a file does not parse, and what is there. Some faults are of the file as a whole.
-pub fn fault_note(fault: ParseFault) -> Option<(usize, &'static str)>
+fn fault_note(fault: ParseFault) -> Option<(usize, &'static str)>
     ensures { option_map (λ note. (note.0, note.1.now)) result ≡ fault_note fault }
 {
     match fault {
@@ -114,7 +116,7 @@ pub fn fault_note(fault: ParseFault) -> Option<(usize, &'static str)>
 }
 
 /// What may be done about a file that does not parse.
-pub fn fault_help(fault: ParseFault) -> Option<&'static str>
+fn fault_help(fault: ParseFault) -> Option<&'static str>
     ensures { option_map (λ help. help.now) result ≡ fault_help fault }
 {
     match fault {
@@ -188,4 +190,46 @@ pub fn fault_lines(
         add_line(alloc, &mut lines, line.as_str())?;
     }
     Ok(lines)
+}
+
+/// Where a file does not parse, as notes of a set that has this file alone.
+fn fault_notes(alloc: Global, fault: ParseFault) -> Result<Many<Note>, AllocError>
+    ensures { IfOk result (λ notes. notes ≡ fault_notes (fault_note fault)) }
+{
+    let mut notes = Vec::new(alloc);
+    if let Some((at, words)) = fault_note(fault) {
+        notes.push(Note {
+            spot: Some(Spot {
+                file: 0,
+                at,
+                end: at,
+            }),
+            text: Text::of(String::from_str(alloc, words)?),
+        })?;
+    }
+    Ok(Many::of(notes))
+}
+
+/// What may be done about a file that does not parse, as lines of help.
+fn fault_helps(alloc: Global, fault: ParseFault) -> Result<Many<Text>, AllocError>
+    ensures { IfOk result (λ help. help ≡ option_to_list (fault_help fault)) }
+{
+    let mut texts = Vec::new(alloc);
+    if let Some(help) = fault_help(fault) {
+        texts.push(Text::of(String::from_str(alloc, help)?))?;
+    }
+    Ok(Many::of(texts))
+}
+
+/// The same as an explanation, of a set that has this file alone. The place in the note has no bytes.
+///
+/// # Errors
+/// Out of memory.
+pub fn explain_fault(alloc: Global, fault: ParseFault) -> Result<Explanation, AllocError>
+    ensures { IfOk result (λ e. e ≡ fault_explanation fault) }
+{
+    Ok(Explanation {
+        notes: fault_notes(alloc, fault)?,
+        help: fault_helps(alloc, fault)?,
+    })
 }

@@ -21,7 +21,7 @@ mod targets;
 mod unknown;
 mod values;
 
-pub use excerpts::{fault_help, fault_lines, fault_note};
+pub use excerpts::{explain_fault, fault_lines};
 pub use explaining::explain;
 pub use explanation::{Explanation, Note, Spot};
 pub use lines::explanation_lines;

@@ -17,12 +17,12 @@ pub asks_and_reads : (name : List ℕ) (reads reads' : ℕ) (unread : Option (Li
 asks_and_reads name reads reads' unread once none = (once, subst (λ u. IfSome u (λ n. n ≡ name)) (sym none) tt)
 
 pub unadded_reads : (files : List File) (f : File) (stop : GatherFault) → IsNotAdded files f stop → unread_file stop ≡ None
-unadded_reads files f (Parse name fault) h = refl
+unadded_reads files f (Parse name bytes fault) h = refl
 unadded_reads files f TooManyFiles h = refl
 unadded_reads files f (Store fault) h = ap unread_name h
 
 pub looking_reads : (name bytes : List ℕ) (stop : GatherFault) → StopsLooking name bytes stop → unread_file stop ≡ None
-looking_reads name bytes (Parse n fault) h = refl
+looking_reads name bytes (Parse n b fault) h = refl
 looking_reads name bytes TooManyFiles h = refl
 looking_reads name bytes (Store fault) h = ap unread_name h
 

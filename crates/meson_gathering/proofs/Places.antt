@@ -86,11 +86,11 @@ module _ (content : Content) (folder : Option (List ℕ)) (old : List File) (pla
       let s = split_at old place within in
       carried s _ (is_unread s.looked s.todo s.f names name (entered_here s names h) (subst (λ fs. IsNextFile content folder names fs name) s.whole next))
 
-  pub not_parsed : (fault : ParseFault) → MayNotRead (bytes_at place old) fault → fault ≢ parse.OutOfMemory → Around (unparsed (name_of_file place old) fault)
+  pub not_parsed : (fault : ParseFault) → MayNotRead (bytes_at place old) fault → fault ≢ parse.OutOfMemory → Around (unparsed (name_of_file place old) (bytes_at place old) fault)
   not_parsed fault why told =
       let s = split_at old place within in
-      let here : Around (unparsed s.f.name fault) = carried s (unparsed s.f.name fault) (is_unparsed s.looked s.todo s.f fault (subst (λ f. MayNotRead f.bytes fault) s.is_file why) told) in
-      subst (λ f. Around (unparsed f.name fault)) (sym s.is_file) here
+      let here : Around (unparsed s.f.name s.f.bytes fault) = carried s (unparsed s.f.name s.f.bytes fault) (is_unparsed s.looked s.todo s.f fault (subst (λ f. MayNotRead f.bytes fault) s.is_file why) told) in
+      subst (λ f. Around (unparsed f.name f.bytes fault)) (sym s.is_file) here
 
 -- all files were looked at
 pub ended_all : (content : Content) (folder : Option (List ℕ)) (files : List File) (place : ℕ) → length files ≤ place → Gathers content folder (take place files) (drop place files) (whole files)

@@ -33,7 +33,7 @@ module _ (P Q : Ending → Type 0) (carry : (end : Ending) → P end → Q end) 
   store_stops store.OutOfMemory p = p
 
   pub stops_within : (stop : GatherFault) → StopsAt old new P stop → StopsAt first new Q stop
-  stops_within (Parse name fault) p = carry (unparsed name fault) p
+  stops_within (Parse name bytes fault) p = carry (unparsed name bytes fault) p
   stops_within TooManyFiles p = carry too_many p
   stops_within (Store fault) p = store_stops fault p
 
@@ -55,14 +55,15 @@ memory_stops P old new fault e = subst (StoreStopsAt old new P) (sym e) tt
 
 -- a file that was not put behind the others
 pub unadded_stops : (P : Ending → Type 0) (old new : ℕ) (files : List File) (f : File) → (with_more files f ≡ None → P too_many) → (stop : GatherFault) → IsNotAdded files f stop → StopsAt old new P stop
-unadded_stops P old new files f many (Parse name fault) h = absurd h
+unadded_stops P old new files f many (Parse name bytes fault) h = absurd h
 unadded_stops P old new files f many TooManyFiles h = many h
 unadded_stops P old new files f many (Store fault) h = memory_stops P old new fault h
 
 -- a file that was not parsed
 pub looking_stops : (P : Ending → Type 0) (old new : ℕ) (name bytes : List ℕ)
-    → ((fault : ParseFault) → MayNotRead bytes fault → fault ≢ parse.OutOfMemory → P (unparsed name fault))
+    → ((fault : ParseFault) → MayNotRead bytes fault → fault ≢ parse.OutOfMemory → P (unparsed name bytes fault))
     → (stop : GatherFault) → StopsLooking name bytes stop → StopsAt old new P stop
-looking_stops P old new name bytes many (Parse n fault) h = subst (λ m. P (unparsed m fault)) (sym h.0) (many fault h.1 h.2)
+looking_stops P old new name bytes many (Parse n b fault) h =
+    subst (λ m. P (unparsed m b fault)) (sym h.0) (subst (λ bs. P (unparsed name bs fault)) (sym h.1) (many fault h.2 h.3))
 looking_stops P old new name bytes many TooManyFiles h = absurd h
 looking_stops P old new name bytes many (Store fault) h = memory_stops P old new fault h

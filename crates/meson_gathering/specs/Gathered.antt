@@ -22,6 +22,6 @@ StoreStopsAt failed failed' P store.OutOfMemory = ⊤
 StoreStopsAt failed failed' P _ = ⊥
 
 abbrev pub StopsAt : ℕ → ℕ → (Ending → Type 0) → GatherFault → Type 0
-StopsAt failed failed' P (Parse name fault) = P (unparsed name fault)
+StopsAt failed failed' P (Parse name bytes fault) = P (unparsed name bytes fault)
 StopsAt failed failed' P TooManyFiles = P too_many
 StopsAt failed failed' P (Store fault) = StoreStopsAt failed failed' P fault

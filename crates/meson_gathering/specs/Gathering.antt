@@ -49,8 +49,8 @@ pub data Ending : Type 0 where
   whole : List File → Ending
   -- the store has no root file
   rootless : Ending
-  -- the file of this name is not a valid build file
-  unparsed : List ℕ → ParseFault → Ending
+  -- the file of this name, with these bytes, is not a valid build file
+  unparsed : List ℕ → List ℕ → ParseFault → Ending
   -- the file of this name could not be read; no statement on a store's content says when
   unread : List ℕ → Ending
   too_many : Ending
@@ -71,7 +71,7 @@ pub data Gathers (content : Content) (folder : Option (List ℕ)) : List File �
       → files_entered content folder names (looked ++ f ∷ todo) ≡ Some ((looked ++ f ∷ []) ++ more)
       → Gathers content folder (looked ++ f ∷ []) more end → Gathers content folder looked (f ∷ todo) end
   is_unparsed : (looked todo : List File) (f : File) (fault : ParseFault) → MayNotRead f.bytes fault → fault ≢ parse.OutOfMemory
-      → Gathers content folder looked (f ∷ todo) (unparsed f.name fault)
+      → Gathers content folder looked (f ∷ todo) (unparsed f.name f.bytes fault)
   is_unread : (looked todo : List File) (f : File) (names : List (List ℕ)) (name : List ℕ) → Enters f.name f.bytes names
       → IsNextFile content folder names (looked ++ f ∷ todo) name → Gathers content folder looked (f ∷ todo) (unread name)
   are_too_many : (looked todo : List File) (f : File) (names : List (List ℕ)) → Enters f.name f.bytes names

@@ -1,6 +1,6 @@
 //! Why the files of a project cannot be gathered.
 
-use meson_splice::Text;
+use meson_splice::{Bytes, Text};
 use meson_store::StoreFault;
 use meson_syntax::ParseFault;
 use std::alloc::{AllocError, AllocFailed};
@@ -8,8 +8,12 @@ use std::alloc::{AllocError, AllocFailed};
 /// Why a store's files are not a project.
 #[derive(Debug, Drop)]
 pub enum GatherFault {
-    /// The file of this name is not a valid build file.
-    Parse { name: Text, fault: ParseFault },
+    /// The file of this name, which has these bytes, is not a valid build file.
+    Parse {
+        name: Text,
+        bytes: Bytes,
+        fault: ParseFault,
+    },
     /// The project has more files than it may have.
     TooManyFiles,
     /// The store failed or has no root file, or memory ran out.

@@ -17,10 +17,10 @@ use crate::fault::GatherFault;
 use crate::named_files::NamedFiles;
 use meson_calls::{MAX_FILES, entered_by};
 use meson_plan::Project;
-use meson_splice::Text;
+use meson_splice::{Bytes, Text};
 use meson_store::{Store, StoreError, StoreFault, path_in};
 use meson_syntax::{ParseFault, Parsed, parse};
-use std::alloc::Global;
+use std::alloc::{AllocError, Global};
 
 /// The root build file's name.
 const ROOT: &str = "meson.build";
@@ -138,19 +138,22 @@ struct ParsedFile {
     names: Vec<String>,
 }
 
-/// The fault of a file that is not valid, by its name.
-fn unparsed(alloc: Global, name: &str, fault: ParseFault) -> GatherFault
-    ensures { (bytes : List ℕ) → MayNotRead bytes fault → StopsLooking name.now bytes result }
+/// The fault of a file that is not valid, with its name and bytes.
+fn unparsed(
+    alloc: Global,
+    name: &str,
+    bytes: &[u8],
+    fault: ParseFault,
+) -> Result<GatherFault, AllocError>
+    ensures { IfOk result (λ stop. MayNotRead bytes.now fault → StopsLooking name.now bytes.now stop) }
 {
     match fault {
-        ParseFault::OutOfMemory => GatherFault::Store(StoreFault::OutOfMemory),
-        fault => match String::from_str(alloc, name) {
-            Ok(name) => GatherFault::Parse {
-                name: Text::of(name),
-                fault,
-            },
-            Err(refused) => GatherFault::from(refused),
-        },
+        ParseFault::OutOfMemory => Err(AllocError),
+        fault => Ok(GatherFault::Parse {
+            name: Text::of(String::from_str(alloc, name)?),
+            bytes: Bytes::of(Vec::from_slice(alloc, bytes)?),
+            fault,
+        }),
     }
 }
 
@@ -167,7 +170,7 @@ fn entry_at(alloc: Global, files: &NamedFiles, place: usize) -> Result<ParsedFil
     let bytes = files.bytes(place);
     let tree = match parse(alloc, bytes) {
         Ok(tree) => tree,
-        Err(fault) => return Err(unparsed(alloc, name, fault)),
+        Err(fault) => return Err(unparsed(alloc, name, bytes, fault)?),
     };
     let names = entered_by(alloc, name, bytes, &tree)?;
     Ok(ParsedFile { tree, names })

@@ -53,20 +53,20 @@ of_usage usage.OutOfMemory advice = inl (refl, refl)
 in_file : (name meaning : List ℕ) → name ++ (codes ": " ++ meaning) ≡ (name ++ codes ": ") ++ meaning
 in_file name meaning = sym (append_assoc name (codes ": ") meaning)
 
-of_lex : (name : List ℕ) (fault : LexFault) → Known (Parse name (parse.Lex fault))
-of_lex name (lex.StrayByte at) = inr (record { meaning = codes "stray byte at " ++ decimal at; words = in_file name _; one_word = refl })
-of_lex name (lex.OpenString at) = inr (record { meaning = codes "open string at " ++ decimal at; words = in_file name _; one_word = refl })
-of_lex name (lex.BadNumber at) = inr (record { meaning = codes "bad number at " ++ decimal at; words = in_file name _; one_word = refl })
-of_lex name (lex.BareCarriageReturn at) = inr (record { meaning = codes "bare carriage return at " ++ decimal at; words = in_file name _; one_word = refl })
+of_lex : (name : List ℕ) (text : Option (List ℕ)) (fault : LexFault) (advice : Advice) → Known (Parse name text (parse.Lex fault) advice)
+of_lex name text (lex.StrayByte at) advice = inr (record { meaning = codes "stray byte at " ++ decimal at; words = in_file name _; one_word = refl })
+of_lex name text (lex.OpenString at) advice = inr (record { meaning = codes "open string at " ++ decimal at; words = in_file name _; one_word = refl })
+of_lex name text (lex.BadNumber at) advice = inr (record { meaning = codes "bad number at " ++ decimal at; words = in_file name _; one_word = refl })
+of_lex name text (lex.BareCarriageReturn at) advice = inr (record { meaning = codes "bare carriage return at " ++ decimal at; words = in_file name _; one_word = refl })
 
-of_parse : (name : List ℕ) (fault : ParseFault) → Known (Parse name fault)
-of_parse name parse.TooLarge = inr (record { meaning = codes "too large"; words = in_file name _; one_word = refl })
-of_parse name parse.NotUtf8 = inr (record { meaning = codes "not utf-8"; words = in_file name _; one_word = refl })
-of_parse name parse.ByteOrderMark = inr (record { meaning = codes "byte order mark"; words = in_file name _; one_word = refl })
-of_parse name (parse.Lex fault) = of_lex name fault
-of_parse name (parse.Unexpected at) = inr (record { meaning = codes "unexpected at " ++ decimal at; words = in_file name _; one_word = refl })
-of_parse name (parse.TooDeep at) = inr (record { meaning = codes "too deep at " ++ decimal at; words = in_file name _; one_word = refl })
-of_parse name parse.OutOfMemory = inl (refl, refl)
+of_parse : (name : List ℕ) (text : Option (List ℕ)) (fault : ParseFault) (advice : Advice) → Known (Parse name text fault advice)
+of_parse name text parse.TooLarge advice = inr (record { meaning = codes "too large"; words = in_file name _; one_word = refl })
+of_parse name text parse.NotUtf8 advice = inr (record { meaning = codes "not utf-8"; words = in_file name _; one_word = refl })
+of_parse name text parse.ByteOrderMark advice = inr (record { meaning = codes "byte order mark"; words = in_file name _; one_word = refl })
+of_parse name text (parse.Lex fault) advice = of_lex name text fault advice
+of_parse name text (parse.Unexpected at) advice = inr (record { meaning = codes "unexpected at " ++ decimal at; words = in_file name _; one_word = refl })
+of_parse name text (parse.TooDeep at) advice = inr (record { meaning = codes "too deep at " ++ decimal at; words = in_file name _; one_word = refl })
+of_parse name text parse.OutOfMemory advice = inl (refl, refl)
 
 -- of a command
 in_command : (n : ℕ) (meaning : List ℕ) → codes "command " ++ (decimal n ++ (codes ": " ++ meaning)) ≡ (numbered_place (codes "command ") (Some n) ++ []) ++ meaning
@@ -100,29 +100,29 @@ of_refusal n refusal.TooDeep subject advice = inr (record { meaning = codes "too
 of_refusal n refusal.TooLarge subject advice = inr (record { meaning = codes "too large"; words = bare n _; one_word = refl })
 of_refusal n refusal.OutOfMemory subject advice = inl (refl, refl)
 
-of_splice : (fault : SpliceFault) → Known (Splice fault)
-of_splice (splice.NoFile file) = inr (record { meaning = codes "no file " ++ file; words = refl; one_word = refl })
-of_splice (splice.OutOfRange file at) = inr (record { meaning = codes "out of range in " ++ (file ++ (codes " at " ++ decimal at)); words = refl; one_word = refl })
-of_splice (splice.Stale file at) = inr (record { meaning = codes "stale " ++ (file ++ (codes " at " ++ decimal at)); words = refl; one_word = refl })
-of_splice splice.NothingToUndo = inr (record { meaning = codes "nothing to undo"; words = refl; one_word = refl })
-of_splice splice.NothingToRedo = inr (record { meaning = codes "nothing to redo"; words = refl; one_word = refl })
-of_splice splice.OutOfMemory = inl (refl, refl)
+of_splice : (fault : SpliceFault) (advice : Advice) → Known (Splice fault advice)
+of_splice (splice.NoFile file) advice = inr (record { meaning = codes "no file " ++ file; words = refl; one_word = refl })
+of_splice (splice.OutOfRange file at) advice = inr (record { meaning = codes "out of range in " ++ (file ++ (codes " at " ++ decimal at)); words = refl; one_word = refl })
+of_splice (splice.Stale file at) advice = inr (record { meaning = codes "stale " ++ (file ++ (codes " at " ++ decimal at)); words = refl; one_word = refl })
+of_splice splice.NothingToUndo advice = inr (record { meaning = codes "nothing to undo"; words = refl; one_word = refl })
+of_splice splice.NothingToRedo advice = inr (record { meaning = codes "nothing to redo"; words = refl; one_word = refl })
+of_splice splice.OutOfMemory advice = inl (refl, refl)
 
-of_store : (fault : StoreFault) → Known (Store fault)
-of_store (store.ReadFailed name) = inr (record { meaning = codes "cannot read " ++ name; words = refl; one_word = refl })
-of_store (store.WriteFailed name still_new) = inr (record { meaning = codes "cannot write " ++ name; words = refl; one_word = refl })
-of_store (store.NoFile name) = inr (record { meaning = codes "no file " ++ name; words = refl; one_word = refl })
-of_store store.OutputFailed = inr (record { meaning = codes "output failed"; words = refl; one_word = refl })
-of_store store.OutOfMemory = inl (refl, refl)
+of_store : (fault : StoreFault) (advice : Advice) → Known (Store fault advice)
+of_store (store.ReadFailed name) advice = inr (record { meaning = codes "cannot read " ++ name; words = refl; one_word = refl })
+of_store (store.WriteFailed name still_new) advice = inr (record { meaning = codes "cannot write " ++ name; words = refl; one_word = refl })
+of_store (store.NoFile name) advice = inr (record { meaning = codes "no file " ++ name; words = refl; one_word = refl })
+of_store store.OutputFailed advice = inr (record { meaning = codes "output failed"; words = refl; one_word = refl })
+of_store store.OutOfMemory advice = inl (refl, refl)
 
 pub codes_are_words : CodesAreWords
 codes_are_words (Usage fault advice) = of_usage fault advice
 codes_are_words (Script fault advice) = of_script fault advice
-codes_are_words (Parse name fault) = of_parse name fault
-codes_are_words TooManyFiles = inr (record { meaning = codes "too many files"; words = refl; one_word = refl })
+codes_are_words (Parse name text fault advice) = of_parse name text fault advice
+codes_are_words (TooManyFiles advice) = inr (record { meaning = codes "too many files"; words = refl; one_word = refl })
 codes_are_words (BadFileName place) = inr (record { meaning = codes "bad file name " ++ decimal place; words = refl; one_word = refl })
 codes_are_words (Refused fault subject advice) = of_refusal fault.index fault.refusal subject advice
-codes_are_words (Splice fault) = of_splice fault
-codes_are_words (OtherFiles name) = inr (record { meaning = codes "files are not as " ++ (name ++ codes " has them"); words = refl; one_word = refl })
+codes_are_words (Splice fault advice) = of_splice fault advice
+codes_are_words (OtherFiles name advice) = inr (record { meaning = codes "files are not as " ++ (name ++ codes " has them"); words = refl; one_word = refl })
 codes_are_words BadTexts = inr (record { meaning = codes "bad texts"; words = refl; one_word = refl })
-codes_are_words (Store fault) = of_store fault
+codes_are_words (Store fault advice) = of_store fault advice

@@ -18,6 +18,7 @@ use Rattle.meson_store.specs.declared.store_fault.StoreFault.{StoreFault}
 use Rattle.meson_store.specs.declared.store_fault.StoreFault.TheVariants as store
 use Rattle.meson_gathering.proofs.Stopping.{rose_before, stops_within}
 use Rattle.meson_gathering.specs.Gathering.{Finds, file_of}
+use Rattle.meson_rewrite.specs.declared.advice.Advice.TheVariants.{Nothing}
 use Rattle.meson_rewrite.specs.inside.Edited.{IsEdited, IsShown, OnlyTells}
 use Rattle.meson_rewrite.specs.Lines.{done_status, shown_text, status, stop_status, store_fault_status, usage_status, version_line}
 use Rattle.meson_rewrite.proofs.Holding.{IsHeld, held-collected}
@@ -154,8 +155,8 @@ module _ (dir : Option (List ℕ)) (step : Step) (flags : Flags) where
     done-ends are =
         done edits edit.said writes wet (replaced-then b m a u (written edits) (subst (λ fs. AreReplaced fs m a) are-written are)) e.says
 
-    pub failed-ends : (fault : StoreFault) → CommitFails (puts dir edit.before edit.after) m a fault → StepEnds dir step flags b a (Err (Store fault))
-    failed-ends fault (inl (is, untouched)) = no_memory (Store fault) (untouched-then b m a u untouched) is
+    pub failed-ends : (fault : StoreFault) → CommitFails (puts dir edit.before edit.after) m a fault → StepEnds dir step flags b a (Err (Store fault Nothing))
+    failed-ends fault (inl (is, untouched)) = no_memory (Store fault Nothing) (untouched-then b m a u untouched) (is, refl)
     failed-ends fault (inr taken) = unwritten edits fault writes wet (taken-then b m a u (written edits) fault (subst (λ fs. TakenBack fs m a fault) are-written taken))
 
 -- ---- a listing

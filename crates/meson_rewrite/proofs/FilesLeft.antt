@@ -12,6 +12,7 @@ use Rattle.meson_store.proofs.Leaving.{some-is}
 use Rattle.meson_store.proofs.Restoring.{IsNoneOf, elsewhere, put_all-told, writes}
 use Rattle.meson_store.specs.Commit.{AreReplaced, path_in, put_all, put_at, puts}
 use Rattle.meson_store.specs.Seen.{Seen}
+use Rattle.meson_rewrite.specs.declared.advice.Advice.TheVariants.{Nothing}
 use Rattle.meson_rewrite.proofs.ChangesTold.{Tells, by-step, says-changed}
 use Rattle.meson_rewrite.proofs.Endings.{listing-untouched}
 use Rattle.meson_rewrite.proofs.Reading.{stop-not-done}
@@ -76,7 +77,7 @@ module _ (dir : Option (List ℕ)) (step : Step) (flags : Flags) (before after :
   step-leaves _ (told session next log report said u opens does only says) is_0 = same-leaves dir before after u.kept
   step-leaves _ (shown session next log report said u opens does writes_ dry shows) is_0 = same-leaves dir before after u.kept
   step-leaves _ (done e said writes_ wet are says) is_0 = done-leaves e said writes_ are says is_0
-  step-leaves _ (unwritten e fault writes_ wet taken) is_0 = absurd (stop-not-done (Store fault) (inl is_0))
+  step-leaves _ (unwritten e fault writes_ wet taken) is_0 = absurd (stop-not-done (Store fault Nothing) (inl is_0))
   step-leaves _ (no_memory stop u wants) is_0 = same-leaves dir before after u.kept
 
 -- ---- a run

@@ -31,6 +31,7 @@ pub mod RefusalObjects
 pub mod NoteTexts
 pub mod CodeWords
 pub mod RefusalMembers
+pub mod Shown
 pub mod PlainEnds
 pub mod ObjectEdits
 pub mod PlacedTexts

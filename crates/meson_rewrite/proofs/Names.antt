@@ -1,5 +1,5 @@
 -- A step keeps the names of a project's files.
-use Rattle.std.proofs.Common.{◌≡◌, ℕ, Bool, zero, suc, List, [], ◌∷◌, ◌++◌, length, Result, Ok, Err, ◌⊎◌, inl, inr, refl, sym, ap, ◌∙◌, arith}
+use Rattle.std.proofs.Common.{◌≡◌, ℕ, Bool, zero, suc, List, [], ◌∷◌, ◌++◌, length, None, Result, Ok, Err, ◌⊎◌, inl, inr, refl, sym, ap, ◌∙◌, arith}
 use Rattle.std.specs.Prelude.{reverse}
 use Rattle.std.proofs.lemmas.List.{length-map, map-append}
 use Rattle.meson_splice.specs.declared.change.Change.{Change}
@@ -20,6 +20,7 @@ use Rattle.meson_script.proofs.Undos.{times-names}
 use Rattle.meson_script.specs.declared.session.Report.{Report}
 use Rattle.meson_script.specs.declared.session.Session.{Session}
 use Rattle.meson_gathering.specs.Gathering.{file_of}
+use Rattle.meson_rewrite.specs.declared.advice.Advice.TheVariants.{Nothing}
 use Rattle.meson_rewrite.specs.Logs.{log_name, with_log}
 use Rattle.meson_rewrite.specs.inside.Edited.{IsWithin}
 use Rattle.meson_rewrite.specs.Steps.{Does, StopsStep, StopsStepsBack}
@@ -103,7 +104,7 @@ pub redo-within : (h : History) (files : List File) (fault : UndoFault) → MayN
 redo-within h files = place-within (redone h files) files (λ k after is. redone-names (reverse h.future) h.past files k after is)
 
 pub stops-step : (old : Session) (step : Stepped) (files : List File) → files ≡ old.project.files → (fault : UndoFault) (why : Stop) → MayNotStep step fault
-    → (why ≡ undo_stop files fault) ⊎ (why ≡ stop.Splice OutOfMemory) → StopsStep old step why
+    → (why ≡ undo_stop files fault) ⊎ (why ≡ stop.Splice OutOfMemory Nothing) → StopsStep old step why
 stops-step old step files same fault why may (inl e) = (fault, may, e ∙ ap (λ fs. undo_stop fs fault) same)
 stops-step old step files same fault why may (inr e) = (undo.Splice OutOfMemory, (λ n. absurd (n refl)), e)
 
@@ -123,11 +124,11 @@ stop-alike : (files after : List File) → names files ≡ names after → (faul
 stop-alike files after same (undo.Splice e) = refl
 stop-alike files after same (undo.Load load.TooManyFiles) = refl
 stop-alike files after same (undo.Load (load.BadFileName place)) = refl
-stop-alike files after same (undo.Load (load.Parse place why)) = ap (λ n. stop.Parse n why) (name-nth place after ∙ ap (nth place) (sym same) ∙ sym (name-nth place files))
+stop-alike files after same (undo.Load (load.Parse place why)) = ap (λ n. stop.Parse n None why Nothing) (name-nth place after ∙ ap (nth place) (sym same) ∙ sym (name-nth place files))
 stop-alike files after same (undo.Load load.OutOfMemory) = refl
 
 pub stops-steps : (count : ℕ) (old between : Session) (files : List File) → files ≡ between.project.files → (fault : UndoFault) (why : Stop) → StopsBack count old fault between
-    → (why ≡ undo_stop files fault) ⊎ (why ≡ stop.Splice OutOfMemory) → StopsStepsBack count old why
+    → (why ≡ undo_stop files fault) ⊎ (why ≡ stop.Splice OutOfMemory Nothing) → StopsStepsBack count old why
 stops-steps count old between files same fault why stops (inl e) =
     let names_stay = times-names stops.done old.history between.history old.project.files between.project.files stops.are_done in
     (fault, between, stops, e ∙ ap (λ fs. undo_stop fs fault) same ∙ stop-alike old.project.files between.project.files names_stay fault)

@@ -32,13 +32,13 @@ bad-read before dir failed failed' bytes why told (inr b) =
     inr (subst (IsNoLog Kept before dir failed failed') (sym b.0) (bad_log refl (λ content is. subst IsBadLog (told content is) b.1)))
 
 pub unread-log : (before : Option Content) (dir : Option (List ℕ)) (failed failed' : ℕ) (fault : StoreFault) → IsUnread failed failed' log_name fault
-    → WantsMemory (Store fault) ⊎ IsNoLog Kept before dir failed failed' (Store fault)
+    → WantsMemory (Store fault Nothing) ⊎ IsNoLog Kept before dir failed failed' (Store fault Nothing)
 unread-log before dir failed failed' (store.ReadFailed n) (e, rose) =
-    inr (subst (λ m. IsNoLog Kept before dir failed failed' (Store (store.ReadFailed m))) (sym e) (log_unread refl rose))
+    inr (subst (λ m. IsNoLog Kept before dir failed failed' (Store (store.ReadFailed m) Nothing)) (sym e) (log_unread refl rose))
 unread-log before dir failed failed' (store.WriteFailed n still_new) h = absurd h
 unread-log before dir failed failed' (store.NoFile n) h = absurd h
 unread-log before dir failed failed' store.OutputFailed h = absurd h
-unread-log before dir failed failed' store.OutOfMemory h = inl refl
+unread-log before dir failed failed' store.OutOfMemory h = inl (refl, refl)
 
 -- the files were read before
 pub no-log-opens : (how : LogUse) (before middle : Option Content) (dir : Option (List ℕ)) (first old new : ℕ) → middle ≡ before → first ≤ old → old ≤ new → (files : List File) → Finds before dir (whole files)

@@ -1,6 +1,6 @@
 -- What explains a refusal changes nothing else.
 use Rattle.std.proofs.Common.{Ordering, Less, Equal, Greater, bytes_eq, false, is_eq, true, ◌≡◌, ◌≢◌, ◌⊎◌, ◌∙◌, ℕ, Bool, List, [], ◌∷◌, ◌++◌, codes, Option, None, Some, Result, Ok, Err, inl, inr, map, refl, sym, ap, subst}
-use Rattle.std.proofs.lemmas.List.{append-nil}
+use Rattle.std.proofs.lemmas.List.{append-nil, append_assoc}
 use Rattle.std.proofs.lemmas.Map.Text.{is_eq-slice_cmp}
 use Rattle.std.proofs.lemmas.Slice.Eq.{bytes_eq-Decides}
 use Rattle.std.specs.Cmp.Lexicographic.{slice_cmp}
@@ -16,7 +16,11 @@ use Rattle.meson_command.specs.declared.asked.Flags.{Flags}
 use Rattle.meson_command.specs.declared.fault.UsageFault.{UsageFault}
 use Rattle.meson_gathering.specs.declared.fault.GatherFault.{GatherFault}
 use Rattle.meson_gathering.specs.declared.fault.GatherFault.TheVariants as gather
+use Rattle.meson_calls.specs.Messages.{load_fault_text}
 use Rattle.meson_calls.specs.declared.load_fault.LoadFault.TheVariants as load
+use Rattle.meson_store.specs.Commit.{still_new}
+use Rattle.meson_splice.specs.Messages.{splice_fault_text}
+use Rattle.meson_store.specs.Messages.{store_fault_text}
 use Rattle.meson_script.specs.declared.fault.UndoFault.{UndoFault}
 use Rattle.meson_script.specs.declared.fault.UndoFault.TheVariants as undo
 use Rattle.meson_script.specs.declared.session.Session.{Session}
@@ -28,19 +32,20 @@ use Rattle.meson_steps.specs.declared.command.Command.{Command}
 use Rattle.meson_json.specs.declared.fault.ScriptFault.{ScriptFault}
 use Rattle.meson_store.specs.Content.{Content}
 use Rattle.meson_store.specs.Seen.{Seen}
+use Rattle.meson_rewrite.proofs.Shown.{reported-plain}
 use Rattle.meson_rewrite.proofs.ToldPlain.{told-plain}
-use Rattle.meson_rewrite.specs.Remarks.{no_more_of_it}
+use Rattle.meson_rewrite.specs.Remarks.{not_asked_of_it}
 use Rattle.meson_rewrite.specs.Requests.{AsksForNone, IsBad, IsNoFile, absent, unread}
 use Rattle.meson_rewrite.specs.Texts.{plain, texts_of}
-use Rattle.meson_rewrite.specs.AdviceLaws.{ExplainedEndsAsPlain, ExplainedRunsAsPlain, LinesArePlain, MembersArePlain, StatusIsPlain, end_unexplained, plain_asked, plain_flags, plain_request, unexplained}
-use Rattle.meson_rewrite.specs.Codes.{refusal_code, script_code, usage_code}
-use Rattle.meson_rewrite.specs.Lines.{line, stop_lines, stop_text}
+use Rattle.meson_rewrite.specs.AdviceLaws.{ExplainedEndsAsPlain, ExplainedRunsAsPlain, LinesArePlain, MembersArePlain, end_unexplained, plain_asked, plain_flags, plain_request, unexplained}
+use Rattle.meson_rewrite.specs.Codes.{file_fault_code, refusal_code, script_code, splice_code, store_code, usage_code}
+use Rattle.meson_rewrite.specs.Lines.{advice_lines, file_text, left_lines, line, lines_below, stop_lines, stop_text}
 use Rattle.meson_rewrite.specs.Notes.{note_data}
 use Rattle.meson_json.specs.Messages.{script_fault_text}
 use Rattle.meson_script.specs.Messages.{refused_text}
 use Rattle.meson_rewrite.specs.Logs.{log_use}
 use Rattle.meson_rewrite.specs.Opening.{OpensNone, bad_log, log_unread, no_log, no_project}
-use Rattle.meson_rewrite.specs.Refused.{refusal_subject, refused_command, script_entry, script_subject, with_notes, with_number, with_text, with_texts}
+use Rattle.meson_rewrite.specs.Refused.{advice_help, advice_notes, file_fault_offset, parsed_file, refusal_subject, refused_command, script_entry, script_subject, splice_file, splice_offset, store_file, store_left, with_notes, with_number, with_text, with_texts}
 use Rattle.meson_rewrite.specs.Runs.{Ends, ListingEnds, RunEnds, StepEnds, TextsEnd, as_with_files, asks_for_none, done, has_no_file, has_no_memory, has_no_texts, has_none, helped, listed, lists, memory_ran_out, misused, no_memory, not_opened, refused, shown, steps, told, told_version, unwritten, wants_memory, with_texts as asked_with_texts, without_texts}
 use Rattle.meson_rewrite.specs.Steps.{MayRefuseStep, StopsRun, StopsStep, StopsStepsBack}
 use Rattle.meson_rewrite.specs.Stops.{WantsMemory, gathering_stop, undo_stop}
@@ -52,12 +57,12 @@ use Rattle.meson_rewrite.specs.declared.request.Step.{Step}
 use Rattle.meson_rewrite.specs.declared.request.Step.TheVariants.{Run, Tell, Undo, UndoTo, UndoChecked, Redo, ForgetOldest, ForgetAll}
 use Rattle.meson_rewrite.specs.declared.said.Said.{Said}
 use Rattle.meson_rewrite.specs.declared.stop.Stop.{Stop}
-use Rattle.meson_rewrite.specs.declared.stop.Stop.TheVariants.{Refused, Script, Usage}
+use Rattle.meson_rewrite.specs.declared.stop.Stop.TheVariants.{OtherFiles, Parse, Refused, Script, Splice, Store, TooManyFiles, Usage}
 
 -- ---- stops that nothing explains
 
 gathering-plain : (fault : GatherFault) → unexplained (gathering_stop fault) ≡ gathering_stop fault
-gathering-plain (gather.Parse name fault) = refl
+gathering-plain (gather.Parse name bytes fault) = refl
 gathering-plain gather.TooManyFiles = refl
 gathering-plain (gather.Store fault) = refl
 
@@ -78,6 +83,11 @@ memory-plain : (stop : Stop) → WantsMemory stop → WantsMemory (unexplained s
 memory-plain (Usage fault advice_) (wants, none) = (wants, refl)
 memory-plain (Script fault advice_) (wants, none) = (wants, refl)
 memory-plain (Refused fault subject advice_) (wants, none) = (wants, refl)
+memory-plain (Splice fault advice_) (wants, none) = (wants, refl)
+memory-plain (Store fault advice_) (wants, none) = (wants, refl)
+memory-plain (Parse name text fault advice_) m = absurd m
+memory-plain (TooManyFiles advice_) m = absurd m
+memory-plain (OtherFiles name advice_) m = absurd m
 memory-plain _ m = m
 
 -- ---- a step that is refused
@@ -129,7 +139,7 @@ no-file-plain held failed failed' name _ (unread rose) = unread rose
 no-file-plain held failed failed' name _ (absent none) = absent none
 
 bad-plain : (flags : Flags) (script : Result (List Command) ScriptFault) (stop : Stop) → IsBad flags script stop → IsBad (plain_flags flags) script (unexplained stop)
-bad-plain flags script stop (fault, (advice_, (bad, (is, advised)))) = (fault, (advice.Nothing, (bad, (ap unexplained is, no_more_of_it))))
+bad-plain flags script stop (fault, (advice_, (bad, (is, advised)))) = (fault, (advice.Nothing, (bad, (ap unexplained is, not_asked_of_it refl))))
 
 none-plain : (flags : Flags) (a : Action) (held : Option Content) (failed failed' : ℕ) (stop : Stop) → AsksForNone flags a held failed failed' stop
     → AsksForNone (plain_flags flags) a held failed failed' (unexplained stop)
@@ -163,32 +173,49 @@ same-texts : (asked : Result Asked UsageFault) → texts_of (plain_asked asked) 
 same-texts (Err fault) = refl
 same-texts (Ok a) = refl
 
-pub explained_runs_as_plain : ExplainedRunsAsPlain
-explained_runs_as_plain asked before after _ (without_texts end none ends) =
+run-ends-plain : (asked : Result Asked UsageFault) (before after : Seen) (end : Result Said Stop) → RunEnds asked before after end → RunEnds (plain_asked asked) before after (end_unexplained end)
+run-ends-plain asked before after _ (without_texts end none ends) =
     without_texts (end_unexplained end) (same-texts asked ∙ none) (ends-plain asked before after end ends)
-explained_runs_as_plain asked before after _ (asked_with_texts a name end is named ends) =
+run-ends-plain asked before after _ (asked_with_texts a name end is named ends) =
     asked_with_texts (plain_request a) name (end_unexplained end) (ap plain_asked is) named (texts-plain (plain a) name before after end ends)
+
+pub explained_runs_as_plain : ExplainedRunsAsPlain
+explained_runs_as_plain asked before after end reported ends reports =
+    subst (RunEnds (plain_asked asked) before after) (sym (reported-plain asked end reported reports)) (run-ends-plain asked before after end ends)
 
 -- ---- what is written
 
-pub status_is_plain : StatusIsPlain
-status_is_plain exit_code (Ok said) = refl
-status_is_plain exit_code (Err (Usage fault advice_)) = refl
-status_is_plain exit_code (Err (Script fault advice_)) = refl
-status_is_plain exit_code (Err (Refused fault subject advice_)) = refl
-status_is_plain exit_code (Err _) = refl
+text-plain : (stop : Stop) → stop_text (unexplained stop) ≡ stop_text stop
+text-plain (Usage fault advice_) = refl
+text-plain (Script fault advice_) = refl
+text-plain (Parse name text fault advice_) = refl
+text-plain (TooManyFiles advice_) = refl
+text-plain (Refused fault subject advice_) = refl
+text-plain (Splice fault advice_) = refl
+text-plain (OtherFiles name advice_) = refl
+text-plain (Store fault advice_) = refl
+text-plain _ = refl
+
+below-plain : (stop : Stop) → (more : List ℕ) × (lines_below stop ≡ lines_below (unexplained stop) ++ more)
+below-plain (Usage fault advice_) = (advice_lines advice_, refl)
+below-plain (Script fault advice_) = (advice_lines advice_, refl)
+below-plain (Parse name text fault advice_) = (advice_lines advice_, refl)
+below-plain (TooManyFiles advice_) = (advice_lines advice_, refl)
+below-plain (Refused fault subject advice_) = (advice_lines advice_, refl)
+below-plain (Splice fault advice_) = (advice_lines advice_, refl)
+below-plain (OtherFiles name advice_) = (advice_lines advice_, refl)
+below-plain (Store fault advice_) = (advice_lines advice_, ap (λ (l : List ℕ). l ++ advice_lines advice_) (sym (append-nil (left_lines (still_new fault)))))
+below-plain _ = ([], refl)
 
 pub lines_are_plain : LinesArePlain
-lines_are_plain (Usage fault (advice.Lines text)) =
-    (text, ap (λ (l : List ℕ). l ++ text) (sym (append-nil (line (codes "error: " ++ stop_text (Usage fault (advice.Lines text)))))))
-lines_are_plain (Usage fault advice_) = ([], sym (append-nil _))
-lines_are_plain (Script fault (advice.Lines text)) =
-    (text, ap (λ (l : List ℕ). l ++ text) (sym (append-nil (line (codes "error: " ++ stop_text (Script fault (advice.Lines text)))))))
-lines_are_plain (Script fault advice_) = ([], sym (append-nil _))
-lines_are_plain (Refused fault subject (advice.Lines text)) =
-    (text, ap (λ (l : List ℕ). l ++ text) (sym (append-nil (line (codes "error: " ++ stop_text (Refused fault subject (advice.Lines text)))))))
-lines_are_plain (Refused fault subject advice_) = ([], sym (append-nil _))
-lines_are_plain _ = ([], sym (append-nil _))
+lines_are_plain stop =
+    let told = below-plain stop in
+    let below = lines_below (unexplained stop) in
+    let head = line (codes "error: " ++ stop_text stop) in (
+      told.0,
+      ap (λ (l : List ℕ). head ++ l) told.1 ∙ sym (append_assoc head below told.0)
+          ∙ ap (λ (t : List ℕ). (line (codes "error: " ++ t) ++ below) ++ told.0) (sym (text-plain stop)),
+    )
 
 either : (o : Ordering) (found other : Option Data) → is_eq o ≡ false → match_ordering o found other found ≡ found
 either Less found other e = refl
@@ -220,38 +247,51 @@ module _ (key : List ℕ) where
   after-text k None more others same = same
   after-text k (Some text) more others same = after k _ more others same
 
+  after-texts : (k : List ℕ) (o : Option (List (List ℕ))) (more others : Members) → get_member key more ≡ get_member key others
+      → get_member key (with_texts k o more) ≡ get_member key (with_texts k o others)
+  after-texts k None more others same = same
+  after-texts k (Some texts) more others same = after k _ more others same
+
+  pass-texts : (k : List ℕ) (o : Option (List (List ℕ))) (more : Members) → key ≢ k → get_member key (with_texts k o more) ≡ get_member key more
+  pass-texts k None more differ = refl
+  pass-texts k (Some texts) more differ = passes k _ more differ
+
+  pass-notes : (o : Option (List PlacedNote)) (more : Members) → key ≢ codes "notes" → get_member key (with_notes o more) ≡ get_member key more
+  pass-notes None more differ = refl
+  pass-notes (Some notes) more differ = passes (codes "notes") _ more differ
+
+  -- the members of a refusal, with `help` and `notes` or without
+  module _ (at_ : Option ℕ) (code : List ℕ) (command entry : Option ℕ) (file : Option (List ℕ)) (left : Option (List (List ℕ))) (message : List ℕ) (name : Option (List ℕ)) where
+    abbrev all-members : Option (List (List ℕ)) → Option (List PlacedNote) → Members
+    all-members help notes =
+        with_number (codes "at") at_ (member (codes "code") (string code)
+        (with_number (codes "command") command (with_number (codes "entry") entry
+        (with_text (codes "file") file (with_texts (codes "help") help (with_texts (codes "left") left
+        (member (codes "message") (string message) (with_text (codes "name") name (with_notes notes no_members)))))))))
+
+    plain-members : key ≢ codes "help" → key ≢ codes "notes" → (help : Option (List (List ℕ))) (notes : Option (List PlacedNote))
+        → get_member key (all-members help notes) ≡ get_member key (all-members None None)
+    plain-members h n help notes =
+        after-number (codes "at") at_ _ _ (after (codes "code") (string code) _ _
+        (after-number (codes "command") command _ _ (after-number (codes "entry") entry _ _
+        (after-text (codes "file") file _ _ (pass-texts (codes "help") help _ h ∙ after-texts (codes "left") left _ _
+        (after (codes "message") (string message) _ _ (after-text (codes "name") name _ _ (pass-notes notes no_members n))))))))
+
 pub members_are_plain : MembersArePlain
-members_are_plain (Usage fault (advice.Members notes help)) key h n =
-    let told = array (items_of (map note_data notes)) in
-    let helps = array (items_of (map string help)) in
-    let message = string (usage_fault_text fault) in
-    let rest = member (codes "message") message (member (codes "notes") told no_members) in
-    let plain = member (codes "message") message no_members in
-    let same = after key (codes "message") message (member (codes "notes") told no_members) no_members (passes key (codes "notes") told no_members n) in
-    after key (codes "code") (string (usage_code fault)) (member (codes "help") helps rest) plain (passes key (codes "help") helps rest h ∙ same)
-members_are_plain (Usage fault advice_) key h n = refl
-members_are_plain (Script fault (advice.Members notes help)) key h n =
-    let told = array (items_of (map note_data notes)) in
-    let helps = array (items_of (map string help)) in
-    let message = string (script_fault_text fault) in
-    let name = script_subject fault in
-    let named = after-text key (codes "name") name (member (codes "notes") told no_members) no_members (passes key (codes "notes") told no_members n) in
-    let rest = member (codes "message") message (with_text (codes "name") name (member (codes "notes") told no_members)) in
-    let plain = member (codes "message") message (with_text (codes "name") name no_members) in
-    let same = after key (codes "message") message _ _ named in
-    after key (codes "code") (string (script_code fault)) _ _
-    (after-number key (codes "entry") (script_entry fault) (member (codes "help") helps rest) plain (passes key (codes "help") helps rest h ∙ same))
-members_are_plain (Script fault advice_) key h n = refl
-members_are_plain (Refused fault subject (advice.Members notes help)) key h n =
-    let told = array (items_of (map note_data notes)) in
-    let helps = array (items_of (map string help)) in
-    let message = string (refused_text fault.index fault.refusal) in
-    let name = refusal_subject fault.refusal subject in
-    let named = after-text key (codes "name") name (member (codes "notes") told no_members) no_members (passes key (codes "notes") told no_members n) in
-    let rest = member (codes "message") message (with_text (codes "name") name (member (codes "notes") told no_members)) in
-    let plain = member (codes "message") message (with_text (codes "name") name no_members) in
-    let same = after key (codes "message") message _ _ named in
-    after key (codes "code") (string (refusal_code fault.refusal)) _ _
-    (after-number key (codes "command") (refused_command fault.index fault.refusal) (member (codes "help") helps rest) plain (passes key (codes "help") helps rest h ∙ same))
-members_are_plain (Refused fault subject advice_) key h n = refl
+members_are_plain (Usage fault advice_) key h n = plain-members key None (usage_code fault) None None None None (usage_fault_text fault) None h n (advice_help advice_) (advice_notes advice_)
+members_are_plain (Script fault advice_) key h n =
+    plain-members key None (script_code fault) None (script_entry fault) None None (script_fault_text fault) (script_subject fault) h n (advice_help advice_) (advice_notes advice_)
+members_are_plain (Parse name text fault advice_) key h n =
+    plain-members key (file_fault_offset fault) (file_fault_code fault) None None (parsed_file name fault) None (file_text name fault) None h n (advice_help advice_) (advice_notes advice_)
+members_are_plain (TooManyFiles advice_) key h n =
+    plain-members key None (codes "M1") None None None None (load_fault_text load.TooManyFiles) None h n (advice_help advice_) (advice_notes advice_)
+members_are_plain (Refused fault subject advice_) key h n =
+    plain-members key None (refusal_code fault.refusal) (refused_command fault.index fault.refusal) None None None (refused_text fault.index fault.refusal)
+    (refusal_subject fault.refusal subject) h n (advice_help advice_) (advice_notes advice_)
+members_are_plain (Splice fault advice_) key h n =
+    plain-members key (splice_offset fault) (splice_code fault) None None (splice_file fault) None (splice_fault_text fault) None h n (advice_help advice_) (advice_notes advice_)
+members_are_plain (OtherFiles name advice_) key h n =
+    plain-members key None (codes "P6") None None (Some name) None (codes "P6 files are not as " ++ (name ++ codes " has them")) None h n (advice_help advice_) (advice_notes advice_)
+members_are_plain (Store fault advice_) key h n =
+    plain-members key None (store_code fault) None None (store_file fault) (store_left fault) (store_fault_text fault) None h n (advice_help advice_) (advice_notes advice_)
 members_are_plain _ key h n = refl

@@ -216,7 +216,7 @@ store-not-done _ is = not-3 is
 
 pub stop-not-done : (stop : Stop) → IsDone (stop_status stop) → ⊥
 stop-not-done (Usage fault advice) is = usage-not-done fault is
-stop-not-done (Store fault) is = store-not-done fault is
+stop-not-done (Store fault advice) is = store-not-done fault is
 stop-not-done _ is = not-1 is
 
 pub done-by-status : (P : Type 0) (exit_code : Bool) (end : Result Said Stop) → OnOk end P → IsDone (status exit_code end) → P

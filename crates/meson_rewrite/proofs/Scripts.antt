@@ -13,6 +13,7 @@ use Rattle.meson_store.specs.Content.{Content}
 use Rattle.meson_store.specs.declared.store_fault.StoreFault.{StoreFault}
 use Rattle.meson_store.specs.declared.store_fault.StoreFault.TheVariants as store
 use Rattle.meson_gathering.specs.Gathered.{IsUnread}
+use Rattle.meson_rewrite.specs.declared.advice.Advice.TheVariants.{Nothing}
 use Rattle.meson_rewrite.specs.Requests.{HasBytes, IsBad, IsNoFile, IsNoScript, script_in, unread}
 use Rattle.meson_rewrite.specs.Stops.{WantsMemory}
 use Rattle.meson_rewrite.specs.declared.stop.Stop.{Stop}
@@ -53,10 +54,10 @@ no-script flags held failed failed' name unknown why (inr none) = inr (inl none)
 
 -- a file that is not read
 pub unread-file : (held : Option Content) (failed failed' : ℕ) (name : List ℕ) (fault : StoreFault) → IsUnread failed failed' name fault
-    → WantsMemory (Store fault) ⊎ IsNoFile held failed failed' name (Store fault)
+    → WantsMemory (Store fault Nothing) ⊎ IsNoFile held failed failed' name (Store fault Nothing)
 unread-file held failed failed' name (store.ReadFailed n) (e, rose) =
-    inr (subst (λ m. IsNoFile held failed failed' name (Store (store.ReadFailed m))) (sym e) (unread rose))
+    inr (subst (λ m. IsNoFile held failed failed' name (Store (store.ReadFailed m) Nothing)) (sym e) (unread rose))
 unread-file held failed failed' name (store.WriteFailed n still_new) h = absurd h
 unread-file held failed failed' name (store.NoFile n) h = absurd h
 unread-file held failed failed' name store.OutputFailed h = absurd h
-unread-file held failed failed' name store.OutOfMemory h = inl refl
+unread-file held failed failed' name store.OutOfMemory h = inl (refl, refl)

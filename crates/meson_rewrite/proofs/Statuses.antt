@@ -6,10 +6,11 @@ use Rattle.meson_command.specs.declared.fault.UsageFault.{UsageFault}
 use Rattle.meson_command.specs.declared.fault.UsageFault.TheVariants.{OutOfMemory}
 use Rattle.meson_store.specs.Output.{Heard}
 use Rattle.meson_store.specs.Seen.{Seen}
+use Rattle.meson_rewrite.proofs.Shown.{status-shown}
 use Rattle.meson_rewrite.proofs.TextEnds.{run-status-keeps}
 use Rattle.meson_rewrite.proofs.Reading.{IsDone, done-by-status, stop-not-done}
 use Rattle.meson_rewrite.specs.Lines.{status}
-use Rattle.meson_rewrite.specs.Runs.{KeepsFiles, RunEnds, Tells}
+use Rattle.meson_rewrite.specs.Runs.{KeepsFiles, RunReports, Tells}
 use Rattle.meson_rewrite.specs.declared.advice.Advice.TheVariants.{Nothing}
 use Rattle.meson_rewrite.specs.declared.said.Said.{Said}
 use Rattle.meson_rewrite.specs.declared.stop.Stop.{Stop}
@@ -40,12 +41,12 @@ module _ (exit_code json : Bool) (code : ℕ) (out out' err err' : Heard) (end :
   told-changed (inl told) is = only-wanted exit_code end (sym told.0 ∙ is)
   told-changed (inr failed) is = absurd (omega (arith, failed.0, is))
 
-  pub told-keeps : (asked : Result Asked UsageFault) (before after : Seen) → RunEnds asked before after end → Tells exit_code json code out out' err err' end → (code ≡ 1) ⊎ (code ≡ 2)
-      → KeepsFiles asked before after code
-  told-keeps asked before after ends told s =
-      let is = told-refusing told s in
+  pub told-keeps : (asked : Result Asked UsageFault) (before after : Seen) → RunReports asked before after end → Tells exit_code json code out out' err err' end
+      → (code ≡ 1) ⊎ (code ≡ 2) → KeepsFiles asked before after code
+  told-keeps asked before after r told s =
+      let is : code ≡ status exit_code r.end = told-refusing told s ∙ status-shown exit_code asked r.end end r.reports in
       subst (KeepsFiles asked before after) (sym is)
-      (run-status-keeps asked before after end exit_code ends (subst (λ n. (n ≡ 1) ⊎ (n ≡ 2)) is s))
+      (run-status-keeps asked before after r.end exit_code r.ends (subst (λ n. (n ≡ 1) ⊎ (n ≡ 2)) is s))
 
   pub told-reads : (P : Type 0) → OnOk end P → Tells exit_code json code out out' err err' end → IsDone code → P
   told-reads P read told is = done-by-status P exit_code end read (told-done told is)

@@ -11,6 +11,7 @@ use Rattle.meson_store.specs.Content.{Content}
 use Rattle.meson_store.specs.Seen.{Seen}
 use Rattle.meson_store.specs.Texts.{with_texts}
 use Rattle.meson_store.specs.declared.store_fault.StoreFault.TheVariants.{ReadFailed}
+use Rattle.meson_rewrite.specs.declared.advice.Advice.TheVariants.{Nothing}
 use Rattle.meson_rewrite.proofs.PlacedTexts.{path-apart}
 use Rattle.meson_rewrite.proofs.TextEnds.{texts-untouched}
 use Rattle.meson_rewrite.specs.Requests.{absent, unread}
@@ -51,7 +52,7 @@ texts-are-files dir texts held are = (there dir held texts are.apart, elsewhere 
 module _ (a : Asked) (name bytes : List ℕ) (texts : List GivenText) (held : Content) (before after : Seen) (told : before.content ≡ Some held) (has : get held name ≡ Some bytes) (lists : HasTexts bytes texts) where
   abbrev Answered : Result Said Stop → Type 0
   Answered end = ((reached : Seen) × (reached.content ≡ before.content) × Ends (Ok (plain a)) (laid (placed a.dir texts) reached) (laid (placed a.dir texts) after) end)
-      ⊎ (end ≡ Err (Store (ReadFailed name))) ⊎ ((stop : Stop) × (end ≡ Err stop) × WantsMemory stop)
+      ⊎ (end ≡ Err (Store (ReadFailed name) Nothing)) ⊎ ((stop : Stop) × (end ≡ Err stop) × WantsMemory stop)
 
   same-bytes : (other : List ℕ) → get held name ≡ Some other → other ≡ bytes
   same-bytes other is = let both : Some other ≡ Some bytes = sym is ∙ has in cc

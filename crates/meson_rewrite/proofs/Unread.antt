@@ -37,12 +37,12 @@ use Rattle.meson_rewrite.specs.declared.stop.Stop.{Stop}
 use Rattle.meson_rewrite.specs.declared.stop.Stop.TheVariants.{Script, Refused, Store}
 
 pub memory-unread : (why : Stop) → WantsMemory why → unread_by why ≡ None
-memory-unread (Store fault) m = ap unread_name m
+memory-unread (Store fault advice) (m, none) = ap unread_name m
 memory-unread _ m = refl
 
 -- the files of the store
 pub gathered-unread : (fault : GatherFault) → unread_by (gathering_stop fault) ≡ unread_file fault
-gathered-unread (gather.Parse name fault) = refl
+gathered-unread (gather.Parse name bytes fault) = refl
 gathered-unread gather.TooManyFiles = refl
 gathered-unread (gather.Store fault) = refl
 

@@ -8,18 +8,23 @@ use Rattle.meson_command.specs.declared.fault.UsageFault.{UsageFault}
 use Rattle.meson_store.specs.Seen.{Seen}
 use Rattle.meson_rewrite.specs.Lines.{status, stop_lines}
 use Rattle.meson_rewrite.specs.Refused.{stop_members}
-use Rattle.meson_rewrite.specs.Runs.{RunEnds, StepEnds}
+use Rattle.meson_rewrite.specs.Runs.{Reports, RunEnds, StepEnds}
 use Rattle.meson_rewrite.specs.declared.advice.Advice.TheVariants.{Nothing}
 use Rattle.meson_rewrite.specs.declared.request.Step.{Step}
 use Rattle.meson_rewrite.specs.declared.said.Said.{Said}
 use Rattle.meson_rewrite.specs.declared.stop.Stop.{Stop}
-use Rattle.meson_rewrite.specs.declared.stop.Stop.TheVariants.{Refused, Script, Usage}
+use Rattle.meson_rewrite.specs.declared.stop.Stop.TheVariants.{OtherFiles, Parse, Refused, Script, Splice, Store, TooManyFiles, Usage}
 
 -- the stop without what explains it
 abbrev pub unexplained : Stop → Stop
 unexplained (Usage fault advice) = Usage fault Nothing
 unexplained (Script fault advice) = Script fault Nothing
+unexplained (Parse name text fault advice) = Parse name text fault Nothing
+unexplained (TooManyFiles advice) = TooManyFiles Nothing
 unexplained (Refused fault subject advice) = Refused fault subject Nothing
+unexplained (Splice fault advice) = Splice fault Nothing
+unexplained (OtherFiles name advice) = OtherFiles name Nothing
+unexplained (Store fault advice) = Store fault Nothing
 unexplained stop = stop
 
 abbrev pub end_unexplained : Result Said Stop → Result Said Stop
@@ -43,10 +48,10 @@ abbrev pub ExplainedEndsAsPlain : Type 0
 ExplainedEndsAsPlain = (dir : Option (List ℕ)) (step : Step) (flags : Flags) (before after : Seen) (end : Result Said Stop)
     → StepEnds dir step flags before after end → StepEnds dir step (plain_flags flags) before after (end_unexplained end)
 
--- The same of a whole run, also for words that are not a request and for a script that is not valid.
+-- The same of a whole run as it is reported, also for words that are not a request, for a script that is not valid, and for faults of files, of the log and of the store.
 abbrev pub ExplainedRunsAsPlain : Type 0
-ExplainedRunsAsPlain = (asked : Result Asked UsageFault) (before after : Seen) (end : Result Said Stop)
-    → RunEnds asked before after end → RunEnds (plain_asked asked) before after (end_unexplained end)
+ExplainedRunsAsPlain = (asked : Result Asked UsageFault) (before after : Seen) (end shown : Result Said Stop)
+    → RunEnds asked before after end → Reports asked end shown → RunEnds (plain_asked asked) before after (end_unexplained shown)
 
 -- The status is the same.
 abbrev pub StatusIsPlain : Type 0

@@ -100,11 +100,11 @@ store_code store.OutOfMemory = memory_code
 abbrev pub stop_code : Stop → List ℕ
 stop_code (Usage fault advice) = usage_code fault
 stop_code (Script fault advice) = script_code fault
-stop_code (Parse name fault) = file_fault_code fault
-stop_code TooManyFiles = codes "M1"
+stop_code (Parse name text fault advice) = file_fault_code fault
+stop_code (TooManyFiles advice) = codes "M1"
 stop_code (BadFileName place) = codes "M2"
 stop_code (Refused fault subject advice) = refusal_code fault.refusal
-stop_code (Splice fault) = splice_code fault
-stop_code (OtherFiles name) = codes "P6"
+stop_code (Splice fault advice) = splice_code fault
+stop_code (OtherFiles name advice) = codes "P6"
 stop_code BadTexts = codes "J11"
-stop_code (Store fault) = store_code fault
+stop_code (Store fault advice) = store_code fault

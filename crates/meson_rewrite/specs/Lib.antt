@@ -10,6 +10,7 @@ pub mod Notes
 pub mod Refused
 pub mod Advising
 pub mod Remarks
+pub mod Faults
 pub mod Steps
 pub mod Requests
 pub mod Opening

@@ -34,14 +34,14 @@ file_text name fault = name ++ (codes ": " ++ parse_fault_text fault)
 abbrev pub stop_text : Stop → List ℕ
 stop_text (Usage fault advice) = usage_fault_text fault
 stop_text (Script fault advice) = script_fault_text fault
-stop_text (Parse name fault) = file_text name fault
-stop_text TooManyFiles = load_fault_text load.TooManyFiles
+stop_text (Parse name text fault advice) = file_text name fault
+stop_text (TooManyFiles advice) = load_fault_text load.TooManyFiles
 stop_text (BadFileName place) = load_fault_text (load.BadFileName place)
 stop_text (Refused fault subject advice) = refused_text fault.index fault.refusal
-stop_text (Splice fault) = splice_fault_text fault
-stop_text (OtherFiles name) = codes "P6 files are not as " ++ (name ++ codes " has them")
+stop_text (Splice fault advice) = splice_fault_text fault
+stop_text (OtherFiles name advice) = codes "P6 files are not as " ++ (name ++ codes " has them")
 stop_text BadTexts = codes "J11 bad texts"
-stop_text (Store fault) = store_fault_text fault
+stop_text (Store fault advice) = store_fault_text fault
 
 -- one line for each file that may have its new bytes
 abbrev pub left_lines : List (List ℕ) → List ℕ
@@ -50,20 +50,24 @@ left_lines (name ∷ names) = line (codes "left new: " ++ name) ++ left_lines na
 
 -- the files that may have their new bytes
 abbrev pub left_by : Stop → List (List ℕ)
-left_by (Store fault) = still_new fault
+left_by (Store fault advice) = still_new fault
 left_by _ = []
 
--- the lines of what explains a refused command, a script, or words
+-- the lines of what explains a fault
 abbrev pub advice_lines : Advice → List ℕ
 advice_lines (advice.Lines text) = text
 advice_lines _ = []
 
--- what is below the line of a fault: the files that may have their new bytes, or what explains it
+-- what is below the line of a fault: the files that may have their new bytes, and what explains it
 abbrev pub lines_below : Stop → List ℕ
 lines_below (Usage fault advice) = advice_lines advice
 lines_below (Script fault advice) = advice_lines advice
+lines_below (Parse name text fault advice) = advice_lines advice
+lines_below (TooManyFiles advice) = advice_lines advice
 lines_below (Refused fault subject advice) = advice_lines advice
-lines_below (Store fault) = left_lines (still_new fault)
+lines_below (Splice fault advice) = advice_lines advice
+lines_below (OtherFiles name advice) = advice_lines advice
+lines_below (Store fault advice) = left_lines (still_new fault) ++ advice_lines advice
 lines_below _ = []
 
 -- what a run that was stopped writes as errors
@@ -103,7 +107,7 @@ usage_status _ = 2
 
 abbrev pub stop_status : Stop → ℕ
 stop_status (Usage fault advice) = usage_status fault
-stop_status (Store fault) = store_fault_status fault
+stop_status (Store fault advice) = store_fault_status fault
 stop_status _ = 1
 
 -- of a run that was done: 4 if the words have `--exit-code` and a build file has other bytes, or would have them

@@ -27,7 +27,7 @@ module _ (how : LogUse) (before : Option Content) (dir : Option (List ℕ)) wher
 
   -- why there is no log, except out of memory: one that is kept is not read, or is not valid
   pub data IsNoLog (failed failed' : ℕ) : Stop → Type 0 where
-    log_unread : how ≡ Kept → Rose failed failed' → IsNoLog failed failed' (Store (ReadFailed log_name))
+    log_unread : how ≡ Kept → Rose failed failed' → IsNoLog failed failed' (Store (ReadFailed log_name) Nothing)
     bad_log : how ≡ Kept → Told before (λ content. IsBadLog (held_bytes content dir log_name)) → IsNoLog failed failed' (Script BadLog Nothing)
 
   -- the files are not a project, or they are and have no log

@@ -21,7 +21,7 @@ numbered_place word (Some n) = word ++ (decimal n ++ codes ": ")
 
 -- what is before the code in the line of a refusal: the command, the entry of the script or the file that is not valid
 abbrev pub place_text : Stop → List ℕ
-place_text (Parse name fault) = name ++ codes ": "
+place_text (Parse name text fault advice) = name ++ codes ": "
 place_text stop = numbered_place (codes "command ") (stop_command stop) ++ numbered_place (codes "entry ") (stop_entry stop)
 
 -- The code is the word of the line after its place; or memory ran out.

@@ -1,5 +1,5 @@
 -- Why a run was stopped, as a JSON object.
-use Rattle.std.specs.Prelude.{ℕ, List, [], ◌∷◌, ◌++◌, map, codes, Option, Some, None, decimal}
+use Rattle.std.specs.Prelude.{ℕ, List, [], ◌∷◌, ◌++◌, map, codes, Option, Some, None, option_and_then, decimal}
 use Rattle.json.specs.Print.{quoted}
 use Rattle.serde_json.specs.Data.{Data, number, unsigned, string, array, object, Members, no_members, member}
 use Rattle.serde_json.specs.View.{items_of}
@@ -19,6 +19,7 @@ use Rattle.meson_store.specs.declared.store_fault.StoreFault.TheVariants as stor
 use Rattle.meson_rewrite.specs.Codes.{stop_code}
 use Rattle.meson_rewrite.specs.Lines.{stop_text}
 use Rattle.meson_rewrite.specs.Notes.{note_data}
+use Rattle.meson_rewrite.specs.Stops.{stop_advice}
 use Rattle.meson_rewrite.specs.declared.advice.Advice.{Advice}
 use Rattle.meson_rewrite.specs.declared.advice.Advice.TheVariants as advice
 use Rattle.meson_rewrite.specs.declared.notes.PlacedNote.{PlacedNote}
@@ -45,8 +46,8 @@ splice_offset (splice.Stale file at) = Some at
 splice_offset _ = None
 
 abbrev pub stop_offset : Stop → Option ℕ
-stop_offset (Parse name fault) = file_fault_offset fault
-stop_offset (Splice fault) = splice_offset fault
+stop_offset (Parse name text fault advice) = file_fault_offset fault
+stop_offset (Splice fault advice) = splice_offset fault
 stop_offset _ = None
 
 -- ---- the number of the command, and that of the entry of a script
@@ -91,10 +92,10 @@ store_file (store.NoFile name) = Some name
 store_file _ = None
 
 abbrev pub stop_file : Stop → Option (List ℕ)
-stop_file (Parse name fault) = parsed_file name fault
-stop_file (Splice fault) = splice_file fault
-stop_file (OtherFiles name) = Some name
-stop_file (Store fault) = store_file fault
+stop_file (Parse name text fault advice) = parsed_file name fault
+stop_file (Splice fault advice) = splice_file fault
+stop_file (OtherFiles name advice) = Some name
+stop_file (Store fault advice) = store_file fault
 stop_file _ = None
 
 -- ---- the files that may have their new bytes, last first
@@ -104,7 +105,7 @@ store_left (store.WriteFailed name still_new) = Some still_new
 store_left _ = None
 
 abbrev pub stop_left : Stop → Option (List (List ℕ))
-stop_left (Store fault) = store_left fault
+stop_left (Store fault advice) = store_left fault
 stop_left _ = None
 
 -- ---- the name that is meant
@@ -131,27 +132,21 @@ stop_name (Script fault advice) = script_subject fault
 stop_name (Refused fault subject advice) = refusal_subject fault.refusal subject
 stop_name _ = None
 
--- ---- what explains a refused command, a script, or words
+-- ---- what explains it
 
 abbrev pub advice_help : Advice → Option (List (List ℕ))
 advice_help (advice.Members notes help) = Some help
 advice_help _ = None
 
 abbrev pub stop_help : Stop → Option (List (List ℕ))
-stop_help (Usage fault advice_) = advice_help advice_
-stop_help (Script fault advice_) = advice_help advice_
-stop_help (Refused fault subject advice_) = advice_help advice_
-stop_help _ = None
+stop_help stop = option_and_then advice_help (stop_advice stop)
 
 abbrev pub advice_notes : Advice → Option (List PlacedNote)
 advice_notes (advice.Members notes help) = Some notes
 advice_notes _ = None
 
 abbrev pub stop_notes : Stop → Option (List PlacedNote)
-stop_notes (Usage fault advice_) = advice_notes advice_
-stop_notes (Script fault advice_) = advice_notes advice_
-stop_notes (Refused fault subject advice_) = advice_notes advice_
-stop_notes _ = None
+stop_notes stop = option_and_then advice_notes (stop_advice stop)
 
 -- ---- the object
 

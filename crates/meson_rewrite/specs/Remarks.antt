@@ -1,5 +1,5 @@
 -- What explains words that are not a request, and a script that is not valid, where the words ask for it.
-use Rattle.std.specs.Prelude.{◌≡◌, ◌≢◌, ⊤, ℕ, Bool, true, bytes_eq, codes, List, [], map, Result, Err, IfErr}
+use Rattle.std.specs.Prelude.{◌≡◌, ◌≢◌, ⊤, ℕ, Bool, true, false, bytes_eq, codes, List, [], map, Result, Err, IfErr}
 use Rattle.std.specs.List.{list_any}
 use Rattle.meson_command.specs.declared.asked.Asked.{Asked}
 use Rattle.meson_command.specs.declared.asked.Flags.{Flags}
@@ -10,7 +10,7 @@ use Rattle.meson_json.specs.declared.fault.ScriptFault.{ScriptFault}
 use Rattle.meson_json.specs.declared.fault.ScriptFault.TheVariants as script
 use Rattle.meson_rewrite.specs.Advising.{advice_of}
 use Rattle.meson_rewrite.specs.declared.advice.Advice.{Advice}
-use Rattle.meson_rewrite.specs.declared.advice.Advice.TheVariants.{Nothing}
+use Rattle.meson_rewrite.specs.declared.advice.Advice.TheVariants.{Nothing, OutOfMemory}
 use Rattle.meson_rewrite.specs.declared.said.Said.{Said}
 use Rattle.meson_rewrite.specs.declared.stop.Stop.{Stop}
 use Rattle.meson_rewrite.specs.declared.stop.Stop.TheVariants.{Usage}
@@ -26,9 +26,11 @@ TellsOfNoFile json advice =
 abbrev pub asks_to_explain : List (List ℕ) → Bool
 asks_to_explain words = list_any (λ word. bytes_eq word (codes "--explain")) words
 
--- Nothing is said of memory that ran out, nor where the words do not ask for it. If memory runs out in explaining, no more is said.
+-- Nothing is said of memory that ran out, nor where the words do not ask for it. If memory runs out in explaining, that is known, and no more is said.
 pub data IsMisuseAdvice (explains json : Bool) (fault : UsageFault) : Advice → Type 0 where
-  no_more : IsMisuseAdvice explains json fault Nothing
+  not_asked : explains ≡ false → IsMisuseAdvice explains json fault Nothing
+  no_memory : fault ≡ usage.OutOfMemory → IsMisuseAdvice explains json fault Nothing
+  ran_out : explains ≡ true → fault ≢ usage.OutOfMemory → IsMisuseAdvice explains json fault OutOfMemory
   told_more : (advice : Advice) → explains ≡ true → fault ≢ usage.OutOfMemory → TellsOfNoFile json advice → IsMisuseAdvice explains json fault advice
 
 -- what is said of words that stop a run
@@ -47,7 +49,9 @@ pub data IsMisused (explains json : Bool) (fault : UsageFault) : Result Said Sto
 
 -- ---- a script
 
--- Nothing is said of memory that ran out, nor where the words do not ask for it. If memory runs out in explaining, no more is said.
+-- Nothing is said of memory that ran out, nor where the words do not ask for it. If memory runs out in explaining, that is known, and no more is said.
 pub data IsScriptAdvice (flags : Flags) (fault : ScriptFault) : Advice → Type 0 where
-  no_more_of_it : IsScriptAdvice flags fault Nothing
+  not_asked_of_it : flags.explain ≡ false → IsScriptAdvice flags fault Nothing
+  no_memory_of_it : fault ≡ script.OutOfMemory → IsScriptAdvice flags fault Nothing
+  ran_out_of_it : flags.explain ≡ true → fault ≢ script.OutOfMemory → IsScriptAdvice flags fault OutOfMemory
   told_of_it : (advice : Advice) → flags.explain ≡ true → fault ≢ script.OutOfMemory → TellsOfNoFile flags.json advice → IsScriptAdvice flags fault advice

@@ -13,6 +13,7 @@ use Rattle.meson_command.specs.declared.asked.Action.{Action}
 use Rattle.meson_command.specs.declared.asked.Flags.{Flags}
 use Rattle.meson_rewrite.specs.Remarks.{IsScriptAdvice}
 use Rattle.meson_rewrite.specs.declared.advice.Advice.{Advice}
+use Rattle.meson_rewrite.specs.declared.advice.Advice.TheVariants.{Nothing}
 use Rattle.meson_command.specs.declared.asked.Action.TheVariants as action
 use Rattle.meson_store.specs.Content.{Content, Rose}
 use Rattle.meson_store.specs.declared.store_fault.StoreFault.TheVariants as store
@@ -37,8 +38,8 @@ IsFileOf held name file = (file.name ≡ name) × HasBytes held name file.bytes
 
 -- it is not read, or does not exist
 pub data IsNoFile (held : Option Content) (failed failed' : ℕ) (name : List ℕ) : Stop → Type 0 where
-  unread : Rose failed failed' → IsNoFile held failed failed' name (stop.Store (store.ReadFailed name))
-  absent : Told held (λ content. get content name ≡ None) → IsNoFile held failed failed' name (stop.Store (store.NoFile name))
+  unread : Rose failed failed' → IsNoFile held failed failed' name (stop.Store (store.ReadFailed name) Nothing)
+  absent : Told held (λ content. get content name ≡ None) → IsNoFile held failed failed' name (stop.Store (store.NoFile name) Nothing)
 
 -- ---- scripts
 

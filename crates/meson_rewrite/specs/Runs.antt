@@ -21,6 +21,8 @@ use Rattle.meson_store.specs.declared.store_fault.StoreFault.{StoreFault}
 use Rattle.meson_store.specs.declared.store_fault.StoreFault.TheVariants.{OutOfMemory}
 use Rattle.meson_rewrite.specs.Remarks.{Advises}
 use Rattle.meson_rewrite.specs.declared.advice.Advice.{Advice}
+use Rattle.meson_rewrite.specs.declared.advice.Advice.TheVariants.{Nothing}
+use Rattle.meson_rewrite.specs.Faults.{IsReported}
 use Rattle.meson_rewrite.specs.Lines.{left_by, line, shown_text, status, stop_lines, version_line}
 use Rattle.meson_rewrite.specs.Listed.{listing_text}
 use Rattle.meson_rewrite.specs.Logs.{empty_log, log_name, log_use, with_log}
@@ -83,7 +85,7 @@ module _ (dir : Option (List ℕ)) (step : Step) (flags : Flags) (before after :
     -- one could not be replaced, what was replaced got its old bytes again, and the fault reports it
     unwritten : (edits : Edits (log_use flags.no_log) before.content dir step flags.json) (fault : StoreFault) → only_tells step ≡ false → flags.dry_run ≡ false
         → TakenBack (written edits) before after fault
-        → StepEnds (Err (Store fault))
+        → StepEnds (Err (Store fault Nothing))
     no_memory : (stop : Stop) → Untouched before after → WantsMemory stop → StepEnds (Err stop)
 
 -- ---- what is listed of the project of a folder
@@ -230,14 +232,28 @@ abbrev pub Tells : Bool → Bool → ℕ → Heard → Heard → Heard → Heard
 Tells exit_code json code out out' err err' end =
     ((code ≡ status exit_code end) × Says json end out out' err err') ⊎ ((code ≡ 3) × CannotSay end out out' err err')
 
+-- the ending of a run as it is reported; words that are not a request are explained where they are read
+abbrev pub Reports : Result Asked UsageFault → Result Said Stop → Result Said Stop → Type 0
+Reports (Err fault) end reported = reported ≡ end
+Reports (Ok a) end reported = IsReported a.flags end reported
+
+-- for private clauses: a run ended in some way, and this is reported
+pub record RunReports (asked : Result Asked UsageFault) (before after : Seen) (reported : Result Said Stop) : Type 0 where
+  pub end : Result Said Stop
+  pub ends : RunEnds asked before after end
+  pub reports : Reports asked end reported
+
 -- for words that may want an answer in JSON, and what explains it
 pub record Run (asked : Result Asked UsageFault) (json explains : Bool) (before after : Seen) (reads reads' code : ℕ) (out out' err err' : Heard) : Type 0 where
   pub end : Result Said Stop
   pub ends : RunEnds asked before after end
-  pub tells : Tells (wants_exit_code asked) json code out out' err err' end
+  -- with what explains it
+  pub reported : Result Said Stop
+  pub reports : Reports asked end reported
+  pub tells : Tells (wants_exit_code asked) json code out out' err err' reported
   -- if it was stopped
   pub kept : IfErr end (KeepsUntold (log_use_of asked) (dir_of asked) before.content after.content)
   -- if the words are not a request
-  pub advised : Advises explains json asked end
+  pub advised : Advises explains json asked reported
   -- this is how often the store was read, the last time for the file that is reported as unreadable, if there is one
-  pub may_read : RunMayRead asked before.content reads reads' (unread_in end)
+  pub may_read : RunMayRead asked before.content reads reads' (unread_in reported)

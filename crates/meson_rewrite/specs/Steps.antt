@@ -22,6 +22,7 @@ use Rattle.meson_rewrite.specs.Advising.{IsTold}
 use Rattle.meson_rewrite.specs.Lines.{done_line, forgot_line, line, title_line}
 use Rattle.meson_rewrite.specs.Objects.{SaysObject, changes_files}
 use Rattle.meson_rewrite.specs.Stops.{undo_stop}
+use Rattle.meson_rewrite.specs.declared.advice.Advice.TheVariants.{Nothing}
 use Rattle.meson_rewrite.specs.declared.request.NamedFile.{NamedFile}
 use Rattle.meson_rewrite.specs.declared.request.Step.{Step}
 use Rattle.meson_rewrite.specs.declared.request.Step.TheVariants.{Run, Tell, Undo, UndoTo, UndoChecked, Redo, ForgetOldest, ForgetAll}
@@ -71,11 +72,11 @@ StopsStepsBack count old why = (fault : UndoFault) × (between : Session) × Sto
 
 -- the files have other digests; or they have these, and one of this number of changes is not taken back
 abbrev pub StopsChecked : ℕ → NamedFile → Session → Stop → Type 0
-StopsChecked count kept old why = ((HasSums old kept → ⊥) × (why ≡ OtherFiles kept.name)) ⊎ (HasSums old kept × StopsStepsBack count old why)
+StopsChecked count kept old why = ((HasSums old kept → ⊥) × (why ≡ OtherFiles kept.name Nothing)) ⊎ (HasSums old kept × StopsStepsBack count old why)
 
 -- fewer changes are there to drop
 abbrev pub StopsForgetting : ℕ → Session → Stop → Type 0
-StopsForgetting count old why = (length old.history.past < count) × (why ≡ Splice NothingToUndo)
+StopsForgetting count old why = (length old.history.past < count) × (why ≡ Splice NothingToUndo Nothing)
 
 abbrev pub MayRefuseStep : Flags → Step → Session → Stop → Type 0
 MayRefuseStep flags (Run script title) old why = StopsRun flags old script.commands why

@@ -13,6 +13,7 @@ use Rattle.meson_rewrite.specs.Stops.{WantsMemory}
 use Rattle.meson_rewrite.specs.Texts.{laid, placed, plain}
 use Rattle.meson_rewrite.specs.declared.said.Said.{Said}
 use Rattle.meson_rewrite.specs.declared.stop.Stop.{Stop}
+use Rattle.meson_rewrite.specs.declared.advice.Advice.TheVariants.{Nothing}
 use Rattle.meson_rewrite.specs.declared.stop.Stop.TheVariants.{Store}
 
 -- In a store with the texts each of them is the file of its name. Any other file is as it is without them.
@@ -31,5 +32,5 @@ AnswersAsFiles = (a : Asked) (name bytes : List ℕ) (texts : List GivenText) (h
     → IsUnchanged before after
     × (((reached : Seen) × (reached.content ≡ before.content)
     × Ends (Ok (plain a)) (laid (placed a.dir texts) reached) (laid (placed a.dir texts) after) end)
-    ⊎ (end ≡ Err (Store (ReadFailed name)))
+    ⊎ (end ≡ Err (Store (ReadFailed name) Nothing))
     ⊎ ((stop : Stop) × (end ≡ Err stop) × WantsMemory stop))

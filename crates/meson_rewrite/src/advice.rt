@@ -27,6 +27,8 @@ pub(crate) enum Advice {
         notes: Many<PlacedNote>,
         help: Many<Text>,
     },
+    /// No more, since memory ran out while it was made.
+    OutOfMemory,
 }
 
 /// What is said of an explanation of a project with these files: lines, or members of an object of JSON.

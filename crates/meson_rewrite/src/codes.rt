@@ -134,12 +134,12 @@ pub(crate) fn code_of(stop: &Stop) -> &'static str
         Stop::Usage { fault, .. } => usage_code(fault),
         Stop::Script { fault, .. } => script_code(fault),
         Stop::Parse { fault, .. } => file_fault_code(*fault),
-        Stop::TooManyFiles => "M1",
+        Stop::TooManyFiles(_) => "M1",
         Stop::BadFileName(_) => "M2",
         Stop::Refused { fault, .. } => refusal_code(&fault.refusal),
-        Stop::Splice(fault) => splice_code(fault),
-        Stop::OtherFiles(_) => "P6",
+        Stop::Splice(fault, _) => splice_code(fault),
+        Stop::OtherFiles { .. } => "P6",
         Stop::BadTexts => "J11",
-        Stop::Store(fault) => store_code(fault),
+        Stop::Store { fault, .. } => store_code(fault),
     }
 }

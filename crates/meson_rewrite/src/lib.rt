@@ -4,6 +4,7 @@
 mod advice;
 mod changes;
 mod codes;
+mod faults;
 pub mod laws;
 mod lines;
 mod listed;

@@ -1,7 +1,7 @@
 //! The lines that the program writes.
 
 ghost use Rattle.std.specs.Prelude.{◌≡◌, IfOk, MatchResult, codes, decimal, if◌then◌else◌};
-ghost use Rattle.meson_rewrite.specs.Lines.{done_line, forgot_line, left_lines, line, lines_below, stop_lines, title_line, version_line};
+ghost use Rattle.meson_rewrite.specs.Lines.{advice_lines, done_line, forgot_line, left_lines, line, lines_below, stop_lines, title_line, version_line};
 ghost use Rattle.meson_rewrite.specs.Refused.{stop_object};
 ghost use Rattle.meson_rewrite.specs.Runs.{knows_json, stopped_text};
 ghost use Rattle.meson_rewrite.specs.Steps.{step_lines};
@@ -31,6 +31,18 @@ fn tell_left<O: Output>(alloc: Global, to: &mut O, names: &[Text]) -> io::Result
     Ok(())
 }
 
+/// Writes the lines of what explains a fault.
+#[tactic(auto, using(crate::proofs::Telling::gets_nothing))]
+fn tell_advice<O: Output>(to: &mut O, advice: &Advice) -> io::Result<()>
+    ensures { MatchResult result (λ _. Gets (O.heard to.old) (O.heard to.new) (advice_lines advice.now))
+        (λ _. Fails (O.heard to.old) (O.heard to.new)) }
+{
+    match advice {
+        Advice::Lines(lines) => to.tell(lines.get().as_bytes()),
+        _ => Ok(()),
+    }
+}
+
 /// Writes what is below the line of a fault.
 #[tactic(auto, using(crate::proofs::Telling::gets_nothing))]
 fn tell_below<O: Output>(alloc: Global, to: &mut O, stop: &Stop) -> io::Result<()>
@@ -38,21 +50,21 @@ fn tell_below<O: Output>(alloc: Global, to: &mut O, stop: &Stop) -> io::Result<(
         (λ _. Fails (O.heard to.old) (O.heard to.new)) }
 {
     match stop {
-        Stop::Usage {
-            advice: Advice::Lines(lines),
-            ..
+        Stop::Store {
+            fault: StoreFault::WriteFailed { still_new, .. },
+            advice,
+        } => {
+            tell_left(alloc, to, still_new.get())?;
+            tell_advice(to, advice)
         }
-        | Stop::Script {
-            advice: Advice::Lines(lines),
-            ..
-        }
-        | Stop::Refused {
-            advice: Advice::Lines(lines),
-            ..
-        } => to.tell(lines.get().as_bytes()),
-        Stop::Store(StoreFault::WriteFailed { still_new, .. }) => {
-            tell_left(alloc, to, still_new.get())
-        }
+        Stop::Usage { advice, .. }
+        | Stop::Script { advice, .. }
+        | Stop::Parse { advice, .. }
+        | Stop::TooManyFiles(advice)
+        | Stop::Refused { advice, .. }
+        | Stop::Splice(_, advice)
+        | Stop::OtherFiles { advice, .. }
+        | Stop::Store { advice, .. } => tell_advice(to, advice),
         _ => Ok(()),
     }
 }

@@ -85,7 +85,10 @@ fn read_history<S: Store>(alloc: Global, store: &mut S, dir: Option<&str>) -> Re
     match read_file(alloc, store, dir, LOG) {
         Ok(Some(text)) => log_in(alloc, text),
         Ok(None) => no_changes(alloc),
-        Err(fault) => Err(Stop::Store(fault)),
+        Err(fault) => Err(Stop::Store {
+            fault,
+            advice: Advice::Nothing,
+        }),
     }
 }
 

@@ -13,7 +13,7 @@ ghost use Rattle.meson_rewrite.specs.Logs.{log_use};
 ghost use Rattle.meson_rewrite.specs.StoreReads.{MayRead, ReadsAll, ReadsAtMost, ReadsProject, unread_in};
 ghost use Rattle.meson_rewrite.specs.StoreReads.{RunMayRead, RunReadsAll, TextsMayRead, TextsReadAll};
 ghost use Rattle.meson_rewrite.specs.Steps.{IsTitled, only_tells};
-ghost use Rattle.meson_rewrite.specs.Runs.{CannotSay, Ends, IsUnchanged, KeepsFiles, ListingEnds, NeedsNoStore, OnlyAsks, Run, Says, StepEnds, Tells};
+ghost use Rattle.meson_rewrite.specs.Runs.{CannotSay, Ends, IsUnchanged, KeepsFiles, ListingEnds, NeedsNoStore, OnlyAsks, Run, RunReports, Says, StepEnds, Tells};
 ghost use Rattle.meson_rewrite.specs.Runs.{LeavesFiles, LeavesLog, RunEnds, TextsEnd, dir_of, wants_exit_code};
 ghost use Rattle.meson_rewrite.specs.Texts.{laid};
 ghost use Rattle.meson_rewrite.specs.declared.stop.Stop.TheVariants.{Usage};
@@ -21,6 +21,7 @@ ghost use Rattle.meson_store.specs.Seen.{seen, seen_by};
 ghost use Rattle.meson_store.specs.Texts.{texts_over};
 
 use crate::advice::Advice;
+use crate::faults::reported;
 use crate::lines::tell_stop;
 use crate::listed::listed;
 use crate::opening::open;
@@ -72,7 +73,10 @@ fn do_step<S: Store>(
     let edit = edited(alloc, opened, step, flags)?;
     match commit(alloc, store, dir, &edit.before, &edit.after) {
         Ok(()) => Ok(edit.said),
-        Err(fault) => Err(Stop::Store(fault)),
+        Err(fault) => Err(Stop::Store {
+            fault,
+            advice: Advice::Nothing,
+        }),
     }
 }
 
@@ -189,7 +193,7 @@ fn answer_with_texts<S: Store>(
     let file = read_named(alloc, store, name)?;
     let texts = texts_in(alloc, folder(&asked.dir), file.bytes.get())?;
     // Until it is answered.
-    let mut end = Err(Stop::TooManyFiles);
+    let mut end = Err(Stop::BadTexts);
     answer_over::<S, Brand>(alloc, store, &texts, asked, &mut end);
     end
 }
@@ -262,7 +266,7 @@ fn misused(alloc: Global, words: &[String], fault: UsageFault) -> Ending
 
 /// Answers the request of the words.
 fn run<S: Store>(alloc: Global, store: &mut S, words: &[String]) -> Ending
-    ensures ends { RunEnds (asked_by (map string_bytes words.now)) (seen_by S.content S.failures S.replaces store.old)
+    ensures ends { RunReports (asked_by (map string_bytes words.now)) (seen_by S.content S.failures S.replaces store.old)
         (seen_by S.content S.failures S.replaces store.new) result.end }
     ensures json { (result.json ≡ wants_json (map string_bytes words.now)) ⊎ (result.end ≡ Err (Usage OutOfMemory Nothing)) }
     ensures advised { Advises (asks_to_explain (map string_bytes words.now)) (wants_json (map string_bytes words.now))
@@ -277,7 +281,7 @@ fn run<S: Store>(alloc: Global, store: &mut S, words: &[String]) -> Ending
         Ok(asked) => {
             let flags = asked.flags;
             Ending {
-                end: respond(alloc, store, asked),
+                end: reported(alloc, respond(alloc, store, asked), flags),
                 json: flags.json,
                 exit_code: flags.exit_code,
             }
@@ -333,7 +337,7 @@ fn status(exit_code: bool, end: &Result<Said, Stop>) -> u8
     match end {
         Ok(said) => done_status(exit_code, said),
         Err(Stop::Usage { fault, .. }) => usage_status(fault),
-        Err(Stop::Store(fault)) => store_fault_status(fault),
+        Err(Stop::Store { fault, .. }) => store_fault_status(fault),
         Err(_) => 1,
     }
 }

@@ -73,7 +73,9 @@ impl Stop {
     {
         match self {
             Stop::Parse { fault, .. } => file_fault_offset(*fault),
-            Stop::Splice(SpliceFault::OutOfRange(_, at) | SpliceFault::Stale(_, at)) => Some(*at),
+            Stop::Splice(SpliceFault::OutOfRange(_, at) | SpliceFault::Stale(_, at), _) => Some(
+                *at,
+            ),
             _ => None,
         }
     }
@@ -114,7 +116,7 @@ impl Stop {
         ensures { option_map (λ name. name.now) result ≡ stop_file self.now }
     {
         match self {
-            Stop::Parse { name, fault } => match fault {
+            Stop::Parse { name, fault, .. } => match fault {
                 ParseFault::OutOfMemory => None,
                 _ => Some(name.get()),
             },
@@ -122,13 +124,15 @@ impl Stop {
                 SpliceFault::NoFile(name)
                 | SpliceFault::OutOfRange(name, _)
                 | SpliceFault::Stale(name, _),
+                _,
             )
-            | Stop::OtherFiles(name)
-            | Stop::Store(
-                StoreFault::ReadFailed(name)
+            | Stop::OtherFiles { name, .. }
+            | Stop::Store {
+                fault: StoreFault::ReadFailed(name)
                 | StoreFault::WriteFailed { name, .. }
                 | StoreFault::NoFile(name),
-            ) => Some(name.get()),
+                ..
+            } => Some(name.get()),
             _ => None,
         }
     }
@@ -138,49 +142,30 @@ impl Stop {
         ensures { option_map (λ names. names.now) result ≡ stop_left self.now }
     {
         match self {
-            Stop::Store(StoreFault::WriteFailed { still_new, .. }) => Some(still_new.get()),
+            Stop::Store {
+                fault: StoreFault::WriteFailed { still_new, .. },
+                ..
+            } => Some(still_new.get()),
             _ => None,
         }
     }
 
-    /// What may be done about words or a command that are refused.
+    /// What may be done.
     fn help(&self) -> Option<&[Text]>
         ensures { option_map (λ help. help.now) result ≡ stop_help self.now }
     {
-        match self {
-            Stop::Usage {
-                advice: Advice::Members { help, .. },
-                ..
-            }
-            | Stop::Script {
-                advice: Advice::Members { help, .. },
-                ..
-            }
-            | Stop::Refused {
-                advice: Advice::Members { help, .. },
-                ..
-            } => Some(help.get()),
+        match self.advice() {
+            Some(Advice::Members { help, .. }) => Some(help.get()),
             _ => None,
         }
     }
 
-    /// What was seen of words or a command that are refused.
+    /// What was seen.
     fn notes(&self) -> Option<&[PlacedNote]>
         ensures { option_map (λ notes. notes.now) result ≡ stop_notes self.now }
     {
-        match self {
-            Stop::Usage {
-                advice: Advice::Members { notes, .. },
-                ..
-            }
-            | Stop::Script {
-                advice: Advice::Members { notes, .. },
-                ..
-            }
-            | Stop::Refused {
-                advice: Advice::Members { notes, .. },
-                ..
-            } => Some(notes.get()),
+        match self.advice() {
+            Some(Advice::Members { notes, .. }) => Some(notes.get()),
             _ => None,
         }
     }

@@ -76,7 +76,7 @@ pub(crate) fn misuse_advice(
         UsageFault::OutOfMemory => Advice::Nothing,
         _ if asks_to_explain(words) => match words_explained(alloc, words, fault, json) {
             Ok(advice) => advice,
-            Err(AllocError) => Advice::Nothing,
+            Err(AllocError) => Advice::OutOfMemory,
         },
         _ => Advice::Nothing,
     }
@@ -107,7 +107,7 @@ pub(crate) fn script_advice(
         ScriptFault::OutOfMemory => Advice::Nothing,
         _ if flags.explain => match script_explained(alloc, bytes, fault, flags.json) {
             Ok(advice) => advice,
-            Err(AllocError) => Advice::Nothing,
+            Err(AllocError) => Advice::OutOfMemory,
         },
         _ => Advice::Nothing,
     }

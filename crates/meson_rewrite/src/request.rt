@@ -138,8 +138,14 @@ pub(crate) fn read_named<S: Store>(
             name,
             bytes: Bytes::of(bytes),
         }),
-        Ok(None) => Err(Stop::Store(StoreFault::NoFile(name))),
-        Err(fault) => Err(Stop::Store(fault)),
+        Ok(None) => Err(Stop::Store {
+            fault: StoreFault::NoFile(name),
+            advice: Advice::Nothing,
+        }),
+        Err(fault) => Err(Stop::Store {
+            fault,
+            advice: Advice::Nothing,
+        }),
     }
 }
 

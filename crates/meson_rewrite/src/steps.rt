@@ -1,11 +1,12 @@
 //! A step on a session, and the files that are to be written then.
 
-ghost use Rattle.std.specs.Prelude.{◌≡◌, ◌<◌, ◌⊎◌, [], IfOk, IfErr, List, Ok, OnOk, false, length, map, true, ℕ};
+ghost use Rattle.std.specs.Prelude.{◌≡◌, ◌<◌, ◌⊎◌, [], IfOk, IfErr, List, None, Ok, OnOk, false, length, map, true, ℕ};
 ghost use Rattle.std.specs.List.{All};
 ghost use Rattle.std.specs.Str.{IsUtf8};
 ghost use Rattle.serde_json.specs.Data.{Data};
 ghost use Rattle.meson_calls.specs.Loading.{HasFileName, IsProject, name_of_file};
 ghost use Rattle.meson_json.specs.Log.{is_text_history, log_of};
+ghost use Rattle.meson_rewrite.specs.declared.advice.Advice.TheVariants.{Nothing};
 ghost use Rattle.meson_rewrite.specs.inside.Edited.{IsEdited, IsObject, IsShown, IsWithin};
 ghost use Rattle.meson_rewrite.specs.Logs.{log_use, with_log};
 ghost use Rattle.meson_rewrite.specs.Steps.{Does, HasSums, IsTitled, MayRefuseStep, SaysStep, Stays, StopsChecked, StopsForgetting, StopsStepsBack, listing_form};
@@ -32,28 +33,30 @@ use std::alloc::{AllocError, Global};
 /// The file of this number would not be valid.
 fn unparsed(alloc: Global, files: &FileSet, place: usize, fault: ParseFault) -> Stop
     requires { place < length files.now }
-    ensures { (result ≡ Stop.Parse (name_of_file place files.now) fault) ⊎ (result ≡ Stop.Splice SpliceFault.OutOfMemory) }
+    ensures { (result ≡ Stop.Parse (name_of_file place files.now) None fault Nothing) ⊎ (result ≡ Stop.Splice SpliceFault.OutOfMemory Nothing) }
 {
     match String::from_str(alloc, files.name(place)) {
         Ok(name) => Stop::Parse {
             name: Text::of(name),
+            text: None,
             fault,
+            advice: Advice::Nothing,
         },
-        Err(refused) => Stop::Splice(SpliceFault::from(refused)),
+        Err(refused) => Stop::Splice(SpliceFault::from(refused), Advice::Nothing),
     }
 }
 
 /// Why an undo or a redo is refused on these files.
 fn undo_stop(alloc: Global, files: &FileSet, fault: UndoFault) -> Stop
     requires { IsWithin fault (length files.now) }
-    ensures { (result ≡ undo_stop files.now fault) ⊎ (result ≡ Stop.Splice SpliceFault.OutOfMemory) }
+    ensures { (result ≡ undo_stop files.now fault) ⊎ (result ≡ Stop.Splice SpliceFault.OutOfMemory Nothing) }
 {
     match fault {
-        UndoFault::Splice(fault) => Stop::Splice(fault),
-        UndoFault::Load(LoadFault::TooManyFiles) => Stop::TooManyFiles,
+        UndoFault::Splice(fault) => Stop::Splice(fault, Advice::Nothing),
+        UndoFault::Load(LoadFault::TooManyFiles) => Stop::TooManyFiles(Advice::Nothing),
         UndoFault::Load(LoadFault::BadFileName(place)) => Stop::BadFileName(place),
         UndoFault::Load(LoadFault::Parse { index, fault }) => unparsed(alloc, files, index, fault),
-        UndoFault::Load(LoadFault::OutOfMemory) => Stop::Store(StoreFault::OutOfMemory),
+        UndoFault::Load(LoadFault::OutOfMemory) => Stop::from(StoreFault::OutOfMemory),
     }
 }
 
@@ -85,7 +88,10 @@ fn checked_back(
     let same = are_kept(alloc, session.files(), kept.bytes.get())?;
     if !same {
         let name = kept.name.clone()?;
-        return Err(Stop::OtherFiles(name));
+        return Err(Stop::OtherFiles {
+            name,
+            advice: Advice::Nothing,
+        });
     }
     back_to(alloc, session, count)
 }
@@ -113,7 +119,7 @@ fn oldest_forgotten(alloc: Global, session: &mut Session, count: usize) -> Resul
     session.project.reads();
     match session.history.forget_oldest(alloc, count) {
         Ok(()) => Ok(nothing_done(alloc)),
-        Err(fault) => Err(Stop::Splice(fault)),
+        Err(fault) => Err(Stop::Splice(fault, Advice::Nothing)),
     }
 }
 

@@ -6,7 +6,7 @@ use meson_gathering::GatherFault;
 use meson_json::ScriptFault;
 use meson_plan::LoadFault;
 use meson_script::RunFault;
-use meson_splice::{SpliceFault, Text};
+use meson_splice::{Bytes, SpliceFault, Text};
 use meson_store::StoreFault;
 use meson_syntax::ParseFault;
 use std::alloc::AllocError;
@@ -25,13 +25,16 @@ pub(crate) enum Stop {
         fault: ScriptFault,
         advice: Advice,
     },
-    /// The file of this name is not a valid build file, or would not be one.
+    /// The file of this name is not a valid build file, or would not be one. The advice explains it.
     Parse {
         name: Text,
+        /// The bytes of a file that is there; none of one that would be.
+        text: Option<Bytes>,
         fault: ParseFault,
+        advice: Advice,
     },
-    /// The project has more files than it may have.
-    TooManyFiles,
+    /// The project has more files than it may have. The advice explains it.
+    TooManyFiles(Advice),
     /// The file of this number would not have the name of a build file.
     BadFileName(usize),
     /// A command of the script is refused; the subject is the name that is meant, if the command alone names it. The advice explains it.
@@ -40,14 +43,66 @@ pub(crate) enum Stop {
         subject: Option<Text>,
         advice: Advice,
     },
-    /// The change is not taken back, or not done again.
-    Splice(SpliceFault),
-    /// The files of the project have other digests than the file of this name holds.
-    OtherFiles(Text),
+    /// The change is not taken back, or not done again. The advice explains it.
+    Splice(SpliceFault, Advice),
+    /// The files of the project have other digests than the file of this name holds. The advice explains it.
+    OtherFiles {
+        name: Text,
+        advice: Advice,
+    },
     /// The file of texts lists no texts of build files.
     BadTexts,
-    /// The store failed, or memory ran out.
-    Store(StoreFault),
+    /// The store failed, or memory ran out. The advice explains it.
+    Store {
+        fault: StoreFault,
+        advice: Advice,
+    },
+}
+
+impl Stop {
+    ghost use Rattle.std.specs.Prelude.{◌≡◌, option_map};
+    ghost use Rattle.meson_rewrite.specs.Stops.{advised, stop_advice};
+
+    /// What explains it.
+    pub(crate) fn advice(&self) -> Option<&Advice>
+        ensures { option_map (λ advice. advice.now) result ≡ stop_advice self.now }
+    {
+        match self {
+            Stop::Usage { advice, .. }
+            | Stop::Script { advice, .. }
+            | Stop::Parse { advice, .. }
+            | Stop::TooManyFiles(advice)
+            | Stop::Refused { advice, .. }
+            | Stop::Splice(_, advice)
+            | Stop::OtherFiles { advice, .. }
+            | Stop::Store { advice, .. } => Some(advice),
+            _ => None,
+        }
+    }
+
+    /// The same, explained by this in place of what explained it. Only a fault of files, of the log or of the store is explained so.
+    pub(crate) fn advised(self, advice: Advice) -> Stop
+        ensures { result ≡ advised advice self }
+    {
+        match self {
+            Stop::Parse {
+                name,
+                text,
+                fault,
+                ..
+            } => Stop::Parse {
+                name,
+                text,
+                fault,
+                advice,
+            },
+            Stop::TooManyFiles(_) => Stop::TooManyFiles(advice),
+            Stop::Splice(fault, _) => Stop::Splice(fault, advice),
+            Stop::OtherFiles { name, .. } => Stop::OtherFiles { name, advice },
+            Stop::Store { fault, .. } => Stop::Store { fault, advice },
+            stop => stop,
+        }
+    }
 }
 
 impl fmt::Display for Stop {
@@ -60,41 +115,46 @@ impl fmt::Display for Stop {
         match self {
             Stop::Usage { fault, .. } => write!(f, "{fault}"),
             Stop::Script { fault, .. } => write!(f, "{fault}"),
-            Stop::Parse { name, fault } => match fault {
+            Stop::Parse { name, fault, .. } => match fault {
                 ParseFault::OutOfMemory => write!(f, "{fault}"),
                 _ => write!(f, "{name}: {fault}"),
             },
-            Stop::TooManyFiles => write!(f, "{}", LoadFault::TooManyFiles),
+            Stop::TooManyFiles(_) => write!(f, "{}", LoadFault::TooManyFiles),
             Stop::BadFileName(index) => write!(f, "{}", LoadFault::BadFileName(*index)),
             Stop::Refused { fault, .. } => write!(f, "{fault}"),
-            Stop::Splice(fault) => write!(f, "{fault}"),
-            Stop::OtherFiles(name) => write!(f, "P6 files are not as {name} has them"),
+            Stop::Splice(fault, _) => write!(f, "{fault}"),
+            Stop::OtherFiles { name, .. } => write!(f, "P6 files are not as {name} has them"),
             Stop::BadTexts => f.write_str("J11 bad texts"),
-            Stop::Store(fault) => write!(f, "{fault}"),
+            Stop::Store { fault, .. } => write!(f, "{fault}"),
         }
     }
 }
 
 impl From<AllocError> for Stop {
     ghost use Rattle.std.specs.Prelude.{◌≡◌};
+    ghost use Rattle.meson_rewrite.specs.declared.advice.Advice.TheVariants.{Nothing};
     ghost use Rattle.meson_rewrite.specs.declared.stop.Stop.TheVariants.{Store};
     ghost use Rattle.meson_store.specs.declared.store_fault.StoreFault.TheVariants.{OutOfMemory};
 
-    ghost from_gives = { λ _ stop. stop ≡ Store OutOfMemory };
+    ghost from_gives = { λ _ stop. stop ≡ Store OutOfMemory Nothing };
 
     fn from(refused: AllocError) -> Stop {
-        Stop::Store(StoreFault::from(refused))
+        Stop::from(StoreFault::from(refused))
     }
 }
 
 impl From<StoreFault> for Stop {
     ghost use Rattle.std.specs.Prelude.{◌≡◌};
+    ghost use Rattle.meson_rewrite.specs.declared.advice.Advice.TheVariants.{Nothing};
     ghost use Rattle.meson_rewrite.specs.declared.stop.Stop.TheVariants.{Store};
 
-    ghost from_gives = { λ fault stop. stop ≡ Store fault };
+    ghost from_gives = { λ fault stop. stop ≡ Store fault Nothing };
 
     fn from(fault: StoreFault) -> Stop {
-        Stop::Store(fault)
+        Stop::Store {
+            fault,
+            advice: Advice::Nothing,
+        }
     }
 }
 
@@ -106,9 +166,14 @@ impl From<GatherFault> for Stop {
 
     fn from(fault: GatherFault) -> Stop {
         match fault {
-            GatherFault::Parse { name, fault } => Stop::Parse { name, fault },
-            GatherFault::TooManyFiles => Stop::TooManyFiles,
-            GatherFault::Store(fault) => Stop::Store(fault),
+            GatherFault::Parse { name, bytes, fault } => Stop::Parse {
+                name,
+                text: Some(bytes),
+                fault,
+                advice: Advice::Nothing,
+            },
+            GatherFault::TooManyFiles => Stop::TooManyFiles(Advice::Nothing),
+            GatherFault::Store(fault) => Stop::from(fault),
         }
     }
 }

@@ -26,13 +26,13 @@ pub record Grows (old new : List File) : Type 0 where
 
 -- why a file is not added after the others
 abbrev pub IsNotAdded : List File → File → GatherFault → Type 0
-IsNotAdded files f (Parse name fault) = ⊥
+IsNotAdded files f (Parse name bytes fault) = ⊥
 IsNotAdded files f TooManyFiles = with_more files f ≡ None
 IsNotAdded files f (Store fault) = fault ≡ store.OutOfMemory
 
 -- why the names that a file enters are not known
 abbrev pub StopsLooking : List ℕ → List ℕ → GatherFault → Type 0
-StopsLooking name bytes (Parse n fault) = (n ≡ name) × MayNotRead bytes fault × (fault ≢ parse.OutOfMemory)
+StopsLooking name bytes (Parse n b fault) = (n ≡ name) × (b ≡ bytes) × MayNotRead bytes fault × (fault ≢ parse.OutOfMemory)
 StopsLooking name bytes TooManyFiles = ⊥
 StopsLooking name bytes (Store fault) = fault ≡ store.OutOfMemory
 

@@ -1,7 +1,7 @@
 use Rattle.std.proofs.Common.{[], ◌∙◌, subst, sym, map, string_bytes}
 use Rattle.meson_splice.specs.declared.file_set.File.{File}
 use Rattle.meson_splice.specs.Files.{bytes_at}
-use Rattle.meson_syntax.specs.Reads.{IsSpanned, MayNotRead}
+use Rattle.meson_syntax.specs.Reads.{IsSpanned}
 use Rattle.meson_syntax.specs.View.{view}
 use Rattle.meson_calls.specs.Folders.{IsFileName}
 use Rattle.meson_calls.specs.Subdirs.{Enters}
@@ -37,5 +37,6 @@ returns-clause-named c =
 pub returns-in-Err-clause-stopped : goal.returns-in-Err-clause-stopped
 returns-in-Err-clause-stopped c =
     let is = c.name-name.ensures nobody ∙ name_of c.args.files.now c.args.place nobody c.requires.within in
-    subst (λ n. StopsLooking n (bytes_at c.args.place c.args.files.now) c.unparsed.result) is
-    (c.unparsed.ensures (bytes_at c.args.place c.args.files.now) (subst (λ b. MayNotRead b c.in-Err.fault) c.bytes-bytes.ensures c.in-Err.ensures.refused))
+    let stop = c.in_ok-unparsed-in-Err.field-0 in
+    subst (λ n. StopsLooking n (bytes_at c.args.place c.args.files.now) stop) is
+    (subst (λ b. StopsLooking c.name-name.result.now b stop) c.bytes-bytes.ensures (c.in_ok-unparsed-in-Err.ensures c.in-Err.ensures.refused))

@@ -1,4 +1,5 @@
-use Rattle.meson_rewrite.proofs.PlainEnds.{explained_ends_as_plain, explained_runs_as_plain, lines_are_plain, members_are_plain, status_is_plain}
+use Rattle.meson_rewrite.proofs.PlainEnds.{explained_ends_as_plain, explained_runs_as_plain, lines_are_plain, members_are_plain}
+use Rattle.meson_rewrite.proofs.Shown.{status_is_plain}
 use Rattle.meson_rewrite.proofs.laws.explained_as_plain.Goals as goal
 
 pub returns-clause-ends : goal.returns-clause-ends

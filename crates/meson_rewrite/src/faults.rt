@@ -1,0 +1,232 @@
+//! What explains faults of files, of the log and of the store.
+
+ghost use Rattle.std.specs.Prelude.{◌≡◌, IfOk, option_map, string_bytes};
+ghost use Rattle.meson_rewrite.specs.Faults.{IsExplained, IsReported, fault_advice, file_advice, plain_advice, plain_explanation, read_help, splice_words, store_words, words_advice, write_words};
+
+use crate::advice::{Advice, advice_of};
+use crate::opening::LOG;
+use crate::said::Said;
+use crate::stop::Stop;
+use meson_command::Flags;
+use meson_explaining::{Explanation, Note, explain_fault, fault_lines};
+use meson_splice::{FileSet, Many, SpliceFault, Text};
+use meson_store::StoreFault;
+use meson_syntax::ParseFault;
+use std::alloc::{AllocError, Global};
+
+/// What may be done about a change of the log that does not fit the files.
+const TAKE_BACK: &str =
+    "git diff shows what was changed since the run: take that back, or remove meson.rewrite-log and use git";
+
+/// What may be done about a project of too many files.
+const FOLDER_BELOW: &str = "--sourcedir names a folder below, whose project has fewer";
+
+/// What may be done about files that are not as they were.
+const WHICH_FILE: &str =
+    "sha256sum --check prints which file it is: take that change back, or remove meson.rewrite-log and use git";
+
+/// What explains that the file of this name, with these bytes, is not a valid build file: its line, with a mark below the place.
+fn file_advice(
+    alloc: Global,
+    json: bool,
+    name: &str,
+    bytes: &[u8],
+    fault: ParseFault,
+) -> Result<Advice, AllocError>
+    ensures { IfOk result (λ advice. advice ≡ file_advice json name.now bytes.now fault) }
+{
+    if !json {
+        let lines = fault_lines(alloc, name, bytes, fault)?;
+        return Ok(Advice::Lines(Text::of(lines)));
+    }
+    let mut files = FileSet::new(alloc);
+    let name = String::from_str(alloc, name)?;
+    let bytes = Vec::from_slice(alloc, bytes)?;
+    files.push_new(name, bytes)?;
+    advice_of(alloc, true, &files, explain_fault(alloc, fault)?)
+}
+
+/// An explanation that is about no place.
+fn plain_explanation(alloc: Global, note: String, help: &str) -> Result<Explanation, AllocError>
+    ensures { IfOk result (λ e. e ≡ plain_explanation (string_bytes note) help.now) }
+{
+    let mut notes = Vec::new(alloc);
+    notes.push(Note {
+        spot: None,
+        text: Text::of(note),
+    })?;
+    let mut texts = Vec::new(alloc);
+    texts.push(Text::of(String::from_str(alloc, help)?))?;
+    Ok(Explanation {
+        notes: Many::of(notes),
+        help: Many::of(texts),
+    })
+}
+
+/// What was seen, and what may be done.
+fn plain_advice(alloc: Global, json: bool, note: String, help: &str) -> Result<Advice, AllocError>
+    ensures { IfOk result (λ advice. advice ≡ plain_advice json (string_bytes note) help.now) }
+{
+    let explanation = plain_explanation(alloc, note, help)?;
+    advice_of(alloc, json, &FileSet::new(alloc), explanation)
+}
+
+/// What may be done about the file of this name, which could not be read.
+fn read_help(name: &str) -> &'static str
+    ensures { result.now ≡ read_help name.now }
+{
+    if name == LOG {
+        return "--no-log leaves the log alone; a log that is too long may be moved away, and its runs cannot be undone then";
+    }
+    "it has to be a regular file of at most 64 MiB that you may read"
+}
+
+/// What was seen of a file that could not be written, where these files may have their new bytes, and what may be done.
+fn write_words(
+    alloc: Global,
+    name: &str,
+    left: &[Text],
+) -> Result<(String, &'static str), AllocError>
+    ensures { IfOk result (λ w. (string_bytes w.0, w.1.now) ≡ write_words name.now left.now) }
+{
+    if left.is_empty() {
+        return Ok((
+            format!(in alloc; "{name} could not be written; each build file is as it was")?,
+            "look for room on the disk, for the right to write its folder, and for files .rewrite-new that killed runs left",
+        ));
+    }
+    Ok((
+        format!(in alloc;
+            "{name} could not be written, and a file left new may have bytes that are not in the log"
+        )?,
+        "look at each file left new, or get it back from version control; then run again",
+    ))
+}
+
+/// What was seen of a fault of the store, and what may be done.
+fn store_words(
+    alloc: Global,
+    fault: &StoreFault,
+) -> Result<Option<(String, &'static str)>, AllocError>
+    ensures { IfOk result (λ words. option_map (λ w. (string_bytes w.0, w.1.now)) words ≡ store_words fault.now) }
+{
+    match fault {
+        StoreFault::ReadFailed(name) => Ok(Some((
+            format!(in alloc; "{name} could not be read; no file was changed")?,
+            read_help(name.get()),
+        ))),
+        StoreFault::WriteFailed { name, still_new } => {
+            Ok(Some(write_words(alloc, name.get(), still_new.get())?))
+        }
+        StoreFault::NoFile(name) => Ok(Some((
+            format!(in alloc; "{name} is not there; no file was changed")?,
+            "--sourcedir names the folder of the root file; the file of a script or of digests is named from the current folder",
+        ))),
+        StoreFault::OutputFailed | StoreFault::OutOfMemory => Ok(None),
+    }
+}
+
+/// What was seen of a change of the log that is not taken back or done again, and what may be done.
+fn splice_words(
+    alloc: Global,
+    fault: &SpliceFault,
+) -> Result<Option<(String, &'static str)>, AllocError>
+    ensures { IfOk result (λ words. option_map (λ w. (string_bytes w.0, w.1.now)) words ≡ splice_words fault.now) }
+{
+    match fault {
+        SpliceFault::NoFile(name) => Ok(Some((
+            format!(in alloc; "the run changed {name}, which is not in the project now")?,
+            "bring the file and its subdir call back, or remove meson.rewrite-log and use git",
+        ))),
+        SpliceFault::OutOfRange(name, at) => Ok(Some((
+            format!(in alloc; "the log has bytes at {at} of {name}, which ends before them")?,
+            TAKE_BACK,
+        ))),
+        SpliceFault::Stale(name, at) => Ok(Some((
+            format!(in alloc; "at byte {at} of {name} are other bytes than the log has")?,
+            TAKE_BACK,
+        ))),
+        SpliceFault::NothingToUndo | SpliceFault::NothingToRedo | SpliceFault::OutOfMemory => {
+            Ok(None)
+        }
+    }
+}
+
+/// The advice of these words, if there are some.
+fn words_advice(
+    alloc: Global,
+    json: bool,
+    words: Option<(String, &'static str)>,
+) -> Result<Option<Advice>, AllocError>
+    ensures { IfOk result (λ advice. advice ≡ words_advice json (option_map (λ w. (string_bytes w.0, w.1.now)) words.entry)) }
+{
+    match words {
+        Some((note, help)) => Ok(Some(plain_advice(alloc, json, note, help)?)),
+        None => Ok(None),
+    }
+}
+
+/// What explains a stop, if it is a fault of a file, of the log, of the store or of the number of files.
+fn fault_advice(alloc: Global, json: bool, stop: &Stop) -> Result<Option<Advice>, AllocError>
+    ensures { IfOk result (λ advice. advice ≡ fault_advice json stop.now) }
+{
+    match stop {
+        Stop::Parse {
+            name,
+            text: Some(text),
+            fault,
+            ..
+        } => {
+            let advice = file_advice(alloc, json, name.get(), text.get(), *fault)?;
+            Ok(Some(advice))
+        }
+        Stop::Parse {
+            name,
+            text: None,
+            ..
+        } => {
+            let note = format!(in alloc; "{name} would be so after the step; no file was changed")?;
+            let advice = plain_advice(alloc, json, note, TAKE_BACK)?;
+            Ok(Some(advice))
+        }
+        Stop::TooManyFiles(_) => {
+            let note = String::from_str(alloc, "a project has at most 1024 build files")?;
+            let advice = plain_advice(alloc, json, note, FOLDER_BELOW)?;
+            Ok(Some(advice))
+        }
+        Stop::OtherFiles { name, .. } => {
+            let note = format!(in alloc;
+                "a build file was changed, added or removed since {name} was written, or it has other text"
+            )?;
+            let advice = plain_advice(alloc, json, note, WHICH_FILE)?;
+            Ok(Some(advice))
+        }
+        Stop::Splice(fault, _) => words_advice(alloc, json, splice_words(alloc, fault)?),
+        Stop::Store { fault, .. } => words_advice(alloc, json, store_words(alloc, fault)?),
+        _ => Ok(None),
+    }
+}
+
+/// A stop as it is reported: with what explains it, if the flags ask for that. If it is out of memory, no more is said than without it.
+fn explained(alloc: Global, stop: Stop, flags: Flags) -> Stop
+    ensures { IsExplained flags stop result }
+{
+    if !flags.explain {
+        return stop;
+    }
+    match fault_advice(alloc, flags.json, &stop) {
+        Ok(Some(advice)) => stop.advised(advice),
+        Ok(None) => stop,
+        Err(AllocError) => stop.advised(Advice::OutOfMemory),
+    }
+}
+
+/// The ending of a request as it is reported.
+pub(crate) fn reported(alloc: Global, end: Result<Said, Stop>, flags: Flags) -> Result<Said, Stop>
+    ensures { IsReported flags end result }
+{
+    match end {
+        Ok(said) => Ok(said),
+        Err(stop) => Err(explained(alloc, stop, flags)),
+    }
+}
