@@ -24,6 +24,6 @@ mod values;
 pub use excerpts::{fault_help, fault_lines, fault_note};
 pub use explaining::explain;
 pub use explanation::{Explanation, Note, Spot};
-pub use lines::explanation_lines;
+pub use lines::{explanation_lines, warning_lines};
 pub use names::meant_name;
 pub use side_effects::warnings;
