@@ -31,6 +31,8 @@ pub mod RefusalObjects
 pub mod NoteTexts
 pub mod CodeWords
 pub mod RefusalMembers
+pub mod Gathered
+pub mod WarnedAnswers
 pub mod PlainEnds
 pub mod ObjectEdits
 pub mod PlacedTexts

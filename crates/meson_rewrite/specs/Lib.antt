@@ -11,6 +11,7 @@ pub mod Refused
 pub mod Advising
 pub mod Remarks
 pub mod Steps
+pub mod Warnings
 pub mod Requests
 pub mod Opening
 pub mod Texts
