@@ -48,11 +48,19 @@ place_part files (Some s) = spot_part files s
 
 -- ---- lines
 
+-- the word that it begins with, its place and its text
+abbrev pub marked_line : List ℕ → List File → Note → List ℕ
+marked_line word files n = printable (word ++ (place_part files n.spot ++ n.text)) ++ codes "\n"
+
 abbrev pub note_line : List File → Note → List ℕ
-note_line files n = printable (codes "note: " ++ (place_part files n.spot ++ n.text)) ++ codes "\n"
+note_line files n = marked_line (codes "note: ") files n
 
 abbrev pub help_line : List ℕ → List ℕ
 help_line text = printable (codes "help: " ++ text) ++ codes "\n"
 
 abbrev pub explanation_lines : List File → Explanation → List ℕ
 explanation_lines files e = flat_map (note_line files) e.notes ++ flat_map help_line e.help
+
+-- warnings of what a command does
+abbrev pub warning_lines : List File → List Note → List ℕ
+warning_lines files notes = flat_map (marked_line (codes "warning: ") files) notes

@@ -52,7 +52,7 @@ unfoldable pub keywords_at : Loaded → Role → List ℕ → List (List ℕ × 
 keywords_at l r id = pairs_at l r (the_call (project l) r id)
 
 abbrev pub lost_note : Note → Note
-lost_note n = record { spot = n.spot; text = codes "wrote over " ++ n.text }
+lost_note n = record { spot = n.spot; text = codes "writes over " ++ n.text }
 
 abbrev pub lost_value : Loaded → Role → List ℕ → List ℕ → List Note
 lost_value l r id key = if list_any (is_lost r key) (keywords_at l r id) then map lost_note (value_notes l r id key) else []
@@ -80,7 +80,7 @@ goes_into_call l id names = into_at l names (the_call (project l) role.Target id
 
 abbrev pub into_call : Loaded → List ℕ → List (List ℕ) → List Note
 into_call l id names =
-    if goes_into_call l id names then map (call_note (codes ": the new source is in the call, as some of its sources are not known"))
+    if goes_into_call l id names then map (call_note (codes ": the new source is added to this call, since some of its sources are not known"))
     (calls_named l role.Target id) else []
 
 -- ---- of a command

@@ -24,6 +24,6 @@ mod values;
 pub use excerpts::{explain_fault, fault_lines};
 pub use explaining::explain;
 pub use explanation::{Explanation, Note, Spot};
-pub use lines::explanation_lines;
+pub use lines::{explanation_lines, warning_lines};
 pub use names::meant_name;
 pub use side_effects::warnings;

@@ -1,8 +1,8 @@
 //! An explanation as lines.
 
 ghost use Rattle.std.specs.Prelude.{◌≡◌, ◌≤◌, ◌==◌, ◌++◌, IfOk, OnOk, codes, filter, flat_map, length, string_bytes, take};
-ghost use Rattle.meson_explaining.specs.Lines.{begins_character, explanation_lines, help_line, last_line, note_line, place_part, place_words};
-ghost use Rattle.meson_explaining.specs.Lines.{printable, spot_part};
+ghost use Rattle.meson_explaining.specs.Lines.{begins_character, explanation_lines, help_line, last_line, marked_line, place_part, place_words};
+ghost use Rattle.meson_explaining.specs.Lines.{printable, spot_part, warning_lines};
 
 use crate::explanation::{Explanation, Note, Spot};
 use crate::printable::printable;
@@ -92,19 +92,20 @@ pub(crate) fn add_line(alloc: Global, lines: &mut String, line: &str) -> Result<
     lines.push_str("\n")
 }
 
-/// Adds the line of each note.
+/// Adds the line of each note, which begins with this word.
 fn add_notes(
     alloc: Global,
     files: &FileSet,
     lines: &mut String,
+    word: &str,
     notes: &[Note],
 ) -> Result<(), AllocError>
-    ensures { OnOk result (string_bytes lines.new ≡ string_bytes lines.old ++ flat_map (note_line files.now) notes.now) }
+    ensures { OnOk result (string_bytes lines.new ≡ string_bytes lines.old ++ flat_map (marked_line word.now files.now) notes.now) }
 {
     for note in notes {
         let place = place_part(alloc, files, &note.spot)?;
         let text = note.text.get();
-        let line = format!(in alloc; "note: {place}{text}")?;
+        let line = format!(in alloc; "{word}{place}{text}")?;
         add_line(alloc, lines, line.as_str())?;
     }
     Ok(())
@@ -135,7 +136,19 @@ pub fn explanation_lines(
     ensures { IfOk result (λ lines. string_bytes lines ≡ explanation_lines files.now explanation.now) }
 {
     let mut lines = String::new(alloc);
-    add_notes(alloc, files, &mut lines, explanation.notes.get())?;
+    add_notes(alloc, files, &mut lines, "note: ", explanation.notes.get())?;
     add_help(alloc, &mut lines, explanation.help.get())?;
+    Ok(lines)
+}
+
+/// The lines of warnings: `warning: FILE:LINE:COLUMN: TEXT` for each, as `explanation_lines` has notes.
+///
+/// # Errors
+/// Out of memory.
+pub fn warning_lines(alloc: Global, files: &FileSet, notes: &[Note]) -> Result<String, AllocError>
+    ensures { IfOk result (λ lines. string_bytes lines ≡ warning_lines files.now notes.now) }
+{
+    let mut lines = String::new(alloc);
+    add_notes(alloc, files, &mut lines, "warning: ", notes)?;
     Ok(lines)
 }

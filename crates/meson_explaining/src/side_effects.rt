@@ -81,7 +81,7 @@ fn lost_note(alloc: Global, note: &Note) -> Result<Note, AllocError>
     ensures { IfOk result (λ lost. lost ≡ lost_note note.now) }
 {
     let value = note.text.get();
-    let text = format!(in alloc; "wrote over {value}")?;
+    let text = format!(in alloc; "writes over {value}")?;
     Ok(Note {
         spot: note.spot,
         text: Text::of(text),
@@ -201,7 +201,7 @@ fn into_call(
         return Ok(notes);
     }
     let calls = calls_named(alloc, project, Role::Target, id)?;
-    let more = ": the new source is in the call, as some of its sources are not known";
+    let more = ": the new source is added to this call, since some of its sources are not known";
     add_each(alloc, &mut notes, more, calls.get())?;
     Ok(notes)
 }

@@ -19,7 +19,7 @@ use Rattle.meson_store.specs.declared.store_fault.StoreFault.TheVariants as stor
 use Rattle.meson_gathering.proofs.Stopping.{rose_before, stops_within}
 use Rattle.meson_gathering.specs.Gathering.{Finds, file_of}
 use Rattle.meson_rewrite.specs.declared.advice.Advice.TheVariants.{Nothing}
-use Rattle.meson_rewrite.specs.inside.Edited.{IsEdited, IsShown, OnlyTells}
+use Rattle.meson_rewrite.specs.inside.Edited.{IsEdited, IsEditedWith, IsShownWith, OnlyTells}
 use Rattle.meson_rewrite.specs.Lines.{done_status, shown_text, status, stop_status, store_fault_status, usage_status, version_line}
 use Rattle.meson_rewrite.proofs.Holding.{IsHeld, held-collected}
 use Rattle.meson_rewrite.specs.Listed.{listing_text}
@@ -110,9 +110,10 @@ module _ (dir : Option (List ℕ)) (step : Step) (flags : Flags) where
   step-before a b c _ u k (refused old log stop v opens may) = refused old log stop (untouched-then a b c u v) (subst (λ m. Opens (log_use flags.no_log) m dir old log) u.kept opens) may
   step-before a b c _ u k (told old new log report said v opens does only says) =
       told old new log report said (untouched-then a b c u v) (subst (λ m. Opens (log_use flags.no_log) m dir old log) u.kept opens) does only says
-  step-before a b c _ u k (shown old new log report said v opens does writes dry shows) =
-      shown old new log report said (untouched-then a b c u v) (subst (λ m. Opens (log_use flags.no_log) m dir old log) u.kept opens) does writes dry shows
-  step-before a b c _ u k (done e said writes wet are says) = done (edits-before a.content b.content u.kept e) said writes wet (replaced-then a b c u (written e) are) says
+  step-before a b c _ u k (shown old new log report said v opens does writes dry shows all warns) =
+      shown old new log report said (untouched-then a b c u v) (subst (λ m. Opens (log_use flags.no_log) m dir old log) u.kept opens) does writes dry shows all warns
+  step-before a b c _ u k (done e said writes wet are says all warns) =
+      done (edits-before a.content b.content u.kept e) said writes wet (replaced-then a b c u (written e) are) says all warns
   step-before a b c _ u k (unwritten e fault writes wet taken) = unwritten (edits-before a.content b.content u.kept e) fault writes wet (taken-then a b c u (written e) fault taken)
   step-before a b c _ u k (no_memory stop v wants) = no_memory stop (untouched-then a b c u v) wants
 
@@ -131,10 +132,14 @@ module _ (dir : Option (List ℕ)) (step : Step) (flags : Flags) where
       pub told-ends : only_tells step ≡ true → (said : Said) → OnlyTells old step flags.json said → StepEnds dir step flags b a (Ok said)
       told-ends only said t = told old t.new log t.report said u opens t.does only t.says
 
-      pub dry-ends : only_tells step ≡ false → flags.dry_run ≡ true → (said : Said) → IsShown old step flags.json said → StepEnds dir step flags b a (Ok said)
-      dry-ends writes dry said s = shown old s.new log s.report said u opens s.does writes dry s.shows
+      pub dry-ends : only_tells step ≡ false → flags.dry_run ≡ true → (said : Said) → IsShownWith flags old step said → StepEnds dir step flags b a (Ok said)
+      dry-ends writes dry said s =
+          shown old s.shown.new log s.shown.report s.plain u opens s.shown.does writes dry s.shown.shows said s.warns
 
-  module _ (b m a : Seen) (u : Untouched b m) (writes : only_tells step ≡ false) (wet : flags.dry_run ≡ false) (old : Session) (log : List ℕ) (opens : Opens (log_use flags.no_log) b.content dir old log) (edit : Edit) (e : IsEdited (log_use flags.no_log) old log step flags.json edit) where
+  module _ (b m a : Seen) (u : Untouched b m) (writes : only_tells step ≡ false) (wet : flags.dry_run ≡ false) (old : Session) (log : List ℕ) (opens : Opens (log_use flags.no_log) b.content dir old log) (edit : Edit) (w : IsEditedWith flags old log step edit) where
+    abbrev e : IsEdited (log_use flags.no_log) old log step flags.json w.plain
+    e = w.edited
+
     abbrev edits : Edits (log_use flags.no_log) b.content dir step flags.json
     edits = record {
       old = old;
@@ -149,11 +154,12 @@ module _ (dir : Option (List ℕ)) (step : Step) (flags : Flags) where
     }
 
     are-written : puts dir edit.before edit.after ≡ written edits
-    are-written = ap (λ fs. puts dir fs edit.after) e.before ∙ ap (puts dir (with_log (log_use flags.no_log) old.project.files log)) e.after
+    are-written =
+        ap (λ fs. puts dir fs edit.after) (w.before ∙ e.before) ∙ ap (puts dir (with_log (log_use flags.no_log) old.project.files log)) (w.after ∙ e.after)
 
     pub done-ends : AreReplaced (puts dir edit.before edit.after) m a → StepEnds dir step flags b a (Ok edit.said)
     done-ends are =
-        done edits edit.said writes wet (replaced-then b m a u (written edits) (subst (λ fs. AreReplaced fs m a) are-written are)) e.says
+        done edits w.plain.said writes wet (replaced-then b m a u (written edits) (subst (λ fs. AreReplaced fs m a) are-written are)) e.says edit.said w.warns
 
     pub failed-ends : (fault : StoreFault) → CommitFails (puts dir edit.before edit.after) m a fault → StepEnds dir step flags b a (Err (Store fault Nothing))
     failed-ends fault (inl (is, untouched)) = no_memory (Store fault Nothing) (untouched-then b m a u untouched) (is, refl)
@@ -251,8 +257,8 @@ module _ (exit_code : Bool) (asked : Result Asked UsageFault) (before after : Se
     step-keeps _ (not_opened stop u opens) s = untouched-keeps (stop_status stop) u
     step-keeps _ (refused old log stop u opens may) s = untouched-keeps (stop_status stop) u
     step-keeps _ (told old new log report said u opens does only says) s = untouched-keeps (done_status exit_code said) u
-    step-keeps _ (shown old new log report said u opens does writes dry shows) s = untouched-keeps (done_status exit_code said) u
-    step-keeps _ (done e said writes wet are says) s = done-keeps said s
+    step-keeps _ (shown old new log report said u opens does writes dry shows all warns) s = untouched-keeps (done_status exit_code all) u
+    step-keeps _ (done e said writes wet are says all warns) s = done-keeps all s
     step-keeps _ (unwritten e fault writes wet taken) s = unwritten-keeps e fault taken s
     step-keeps _ (no_memory stop u wants) s = untouched-keeps (stop_status stop) u
 
@@ -351,9 +357,9 @@ step-told : (dir : Option (List ℕ)) (step : Step) (flags : Flags) (before afte
 step-told dir step flags before after only _ (not_opened stop u opens) = untouched-same before after u
 step-told dir step flags before after only _ (refused old log stop u opens may) = untouched-same before after u
 step-told dir step flags before after only _ (told old new log report said u opens does tells says) = untouched-same before after u
-step-told dir step flags before after only _ (shown old new log report said u opens does writes dry shows) = untouched-same before after u
-step-told dir step flags before after (inl tells) _ (done e said writes wet are says) = absurd (let no : ⊥ = cc in no)
-step-told dir step flags before after (inr dry) _ (done e said writes wet are says) = absurd (let no : ⊥ = cc in no)
+step-told dir step flags before after only _ (shown old new log report said u opens does writes dry shows all warns) = untouched-same before after u
+step-told dir step flags before after (inl tells) _ (done e said writes wet are says all warns) = absurd (let no : ⊥ = cc in no)
+step-told dir step flags before after (inr dry) _ (done e said writes wet are says all warns) = absurd (let no : ⊥ = cc in no)
 step-told dir step flags before after (inl tells) _ (unwritten e fault writes wet taken) = absurd (let no : ⊥ = cc in no)
 step-told dir step flags before after (inr dry) _ (unwritten e fault writes wet taken) = absurd (let no : ⊥ = cc in no)
 step-told dir step flags before after only _ (no_memory stop u wants) = untouched-same before after u

@@ -75,8 +75,8 @@ module _ (dir : Option (List ℕ)) (step : Step) (flags : Flags) (before after :
   step-leaves _ (not_opened stop u opens) is_0 = same-leaves dir before after u.kept
   step-leaves _ (refused session log stop u opens may) is_0 = same-leaves dir before after u.kept
   step-leaves _ (told session next log report said u opens does only says) is_0 = same-leaves dir before after u.kept
-  step-leaves _ (shown session next log report said u opens does writes_ dry shows) is_0 = same-leaves dir before after u.kept
-  step-leaves _ (done e said writes_ wet are says) is_0 = done-leaves e said writes_ are says is_0
+  step-leaves _ (shown session next log report said u opens does writes_ dry shows all warns) is_0 = same-leaves dir before after u.kept
+  step-leaves _ (done e said writes_ wet are says all warns) is_0 = done-leaves e said writes_ are says (ap (λ s. status true (Ok s)) (sym warns.is) ∙ is_0)
   step-leaves _ (unwritten e fault writes_ wet taken) is_0 = absurd (stop-not-done (Store fault Nothing) (inl is_0))
   step-leaves _ (no_memory stop u wants) is_0 = same-leaves dir before after u.kept
 

@@ -32,6 +32,8 @@ pub mod NoteTexts
 pub mod CodeWords
 pub mod RefusalMembers
 pub mod Shown
+pub mod Gathered
+pub mod WarnedAnswers
 pub mod PlainEnds
 pub mod ObjectEdits
 pub mod PlacedTexts

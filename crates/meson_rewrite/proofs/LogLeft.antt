@@ -78,8 +78,8 @@ module _ (dir : Option (List ℕ)) (old new : Content) where
     step-leaves flags _ (not_opened stop u opens) ignored = same-stays before.content after.content u.kept is now
     step-leaves flags _ (refused session log stop u opens may) ignored = same-stays before.content after.content u.kept is now
     step-leaves flags _ (told session next log report said u opens does only says) ignored = same-stays before.content after.content u.kept is now
-    step-leaves flags _ (shown session next log report said u opens does writes_ dry shows) ignored = same-stays before.content after.content u.kept is now
-    step-leaves flags _ (done e said writes_ wet are says) ignored = done-leaves (log_use flags.no_log) ignored e are
+    step-leaves flags _ (shown session next log report said u opens does writes_ dry shows all warns) ignored = same-stays before.content after.content u.kept is now
+    step-leaves flags _ (done e said writes_ wet are says all warns) ignored = done-leaves (log_use flags.no_log) ignored e are
     step-leaves flags _ (unwritten e fault writes_ wet taken) ignored = taken-leaves (log_use flags.no_log) ignored e fault taken
     step-leaves flags _ (no_memory stop u wants) ignored = same-stays before.content after.content u.kept is now
 

@@ -32,23 +32,28 @@ use Rattle.meson_steps.specs.declared.command.Command.{Command}
 use Rattle.meson_json.specs.declared.fault.ScriptFault.{ScriptFault}
 use Rattle.meson_store.specs.Content.{Content}
 use Rattle.meson_store.specs.Seen.{Seen}
-use Rattle.meson_rewrite.proofs.Shown.{reported-plain}
+use Rattle.meson_rewrite.proofs.Shown.{reported-is-plain, status-unexplained}
 use Rattle.meson_rewrite.proofs.ToldPlain.{told-plain}
 use Rattle.meson_rewrite.specs.Remarks.{not_asked_of_it}
 use Rattle.meson_rewrite.specs.Requests.{AsksForNone, IsBad, IsNoFile, absent, unread}
 use Rattle.meson_rewrite.specs.Texts.{plain, texts_of}
-use Rattle.meson_rewrite.specs.AdviceLaws.{ExplainedEndsAsPlain, ExplainedRunsAsPlain, LinesArePlain, MembersArePlain, end_unexplained, plain_asked, plain_flags, plain_request, unexplained}
+use Rattle.meson_rewrite.specs.AdviceLaws.{AnswersArePlain, ExplainedEndsAsPlain, ExplainedRunsAsPlain, IsPlainEnd, LinesArePlain, MembersArePlain, SaysWarnings, StatusIsPlain, and_warnings, json_of, plain_asked, plain_flags, plain_request, unexplained}
 use Rattle.meson_rewrite.specs.Codes.{file_fault_code, refusal_code, script_code, splice_code, store_code, usage_code}
-use Rattle.meson_rewrite.specs.Lines.{advice_lines, file_text, left_lines, line, lines_below, stop_lines, stop_text}
+use Rattle.meson_rewrite.specs.Lines.{advice_lines, file_text, left_lines, line, lines_below, shown_text, status, stop_lines, stop_text, version_line}
 use Rattle.meson_rewrite.specs.Notes.{note_data}
 use Rattle.meson_json.specs.Messages.{script_fault_text}
 use Rattle.meson_script.specs.Messages.{refused_text}
+use Rattle.meson_rewrite.specs.Listed.{listing_text}
 use Rattle.meson_rewrite.specs.Logs.{log_use}
+use Rattle.meson_command.specs.Asking.{without_text}
 use Rattle.meson_rewrite.specs.Opening.{OpensNone, bad_log, log_unread, no_log, no_project}
 use Rattle.meson_rewrite.specs.Refused.{advice_help, advice_notes, file_fault_offset, parsed_file, refusal_subject, refused_command, script_entry, script_subject, splice_file, splice_offset, store_file, store_left, with_notes, with_number, with_text, with_texts}
 use Rattle.meson_rewrite.specs.Runs.{Ends, ListingEnds, RunEnds, StepEnds, TextsEnd, as_with_files, asks_for_none, done, has_no_file, has_no_memory, has_no_texts, has_none, helped, listed, lists, memory_ran_out, misused, no_memory, not_opened, refused, shown, steps, told, told_version, unwritten, wants_memory, with_texts as asked_with_texts, without_texts}
 use Rattle.meson_rewrite.specs.Steps.{MayRefuseStep, StopsRun, StopsStep, StopsStepsBack}
 use Rattle.meson_rewrite.specs.Stops.{WantsMemory, gathering_stop, undo_stop}
+use Rattle.meson_rewrite.proofs.WarnedAnswers.{done-warned, shown-warned}
+use Rattle.meson_rewrite.specs.Warnings.{Warns, no_warnings}
+use Rattle.meson_rewrite.specs.declared.warnings.Warnings.TheVariants as warnings
 use Rattle.meson_rewrite.specs.declared.advice.Advice.{Advice}
 use Rattle.meson_rewrite.specs.declared.advice.Advice.TheVariants as advice
 use Rattle.meson_rewrite.specs.declared.notes.PlacedNote.{PlacedNote}
@@ -57,7 +62,7 @@ use Rattle.meson_rewrite.specs.declared.request.Step.{Step}
 use Rattle.meson_rewrite.specs.declared.request.Step.TheVariants.{Run, Tell, Undo, UndoTo, UndoChecked, Redo, ForgetOldest, ForgetAll}
 use Rattle.meson_rewrite.specs.declared.said.Said.{Said}
 use Rattle.meson_rewrite.specs.declared.stop.Stop.{Stop}
-use Rattle.meson_rewrite.specs.declared.stop.Stop.TheVariants.{OtherFiles, Parse, Refused, Script, Splice, Store, TooManyFiles, Usage}
+use Rattle.meson_rewrite.specs.declared.stop.Stop.TheVariants.{BadTexts, OtherFiles, Parse, Refused, Script, Splice, Store, TooManyFiles, Usage}
 
 -- ---- stops that nothing explains
 
@@ -115,24 +120,58 @@ refused-plain flags (ForgetOldest count) old stop (few, is) = (few, ap unexplain
 refused-plain flags ForgetAll old stop h = absurd h
 refused-plain flags Redo old stop h = step-plain old (redone old.history old.project.files) stop h
 
+-- a stop is a plain end, and so is what is said without warnings
+module _ (json : Bool) where
+  stopped : (stop : Stop) → IsPlainEnd json (Err stop) (Err (unexplained stop))
+  stopped stop = refl
+
+  same-said : (said : Said) → IsPlainEnd json (Ok said) (Ok said)
+  same-said said = (said, refl, inl refl)
+
+  with-said : (plain said : Said) → (said ≡ plain) ⊎ SaysWarnings json plain said → IsPlainEnd json (Ok said) (Ok plain)
+  with-said plain said more = (plain, refl, more)
+
+abbrev NoWarnings : Flags → Session → Step → Said → Type 0
+NoWarnings flags old step said = Warns (plain_flags flags) old.project step said said
+
+no-warnings : (flags : Flags) (old : Session) (step : Step) (said : Said) → NoWarnings flags old step said
+no-warnings flags old step said = record { warnings = warnings.Nothing; are = no_warnings; is = refl }
+
 pub explained_ends_as_plain : ExplainedEndsAsPlain
 explained_ends_as_plain dir step flags before after _ (not_opened stop u opens) =
-    not_opened (unexplained stop) u (subst (OpensNone (log_use flags.no_log) before.content dir before.failures after.failures) (sym (opening-plain dir flags before after stop opens)) opens)
-explained_ends_as_plain dir step flags before after _ (refused old log stop u opens may) = refused old log (unexplained stop) u opens (refused-plain flags step old stop may)
-explained_ends_as_plain dir step flags before after _ (told old new log report said u opens does only says) = told old new log report said u opens does only says
-explained_ends_as_plain dir step flags before after _ (shown old new log report said u opens does writes dry shows) = shown old new log report said u opens does writes dry shows
-explained_ends_as_plain dir step flags before after _ (done edits said writes wet are says) = done edits said writes wet are says
-explained_ends_as_plain dir step flags before after _ (unwritten edits fault writes wet taken) = unwritten edits fault writes wet taken
-explained_ends_as_plain dir step flags before after _ (no_memory stop u wants) = no_memory (unexplained stop) u (memory-plain stop wants)
+    let ends = not_opened (unexplained stop) u (subst (OpensNone (log_use flags.no_log) before.content dir before.failures after.failures) (sym (opening-plain dir flags before after stop opens)) opens) in
+    (Err (unexplained stop), ends, stopped flags.json stop)
+explained_ends_as_plain dir step flags before after _ (refused old log stop u opens may) =
+    (Err (unexplained stop), refused old log (unexplained stop) u opens (refused-plain flags step old stop may), stopped flags.json stop)
+explained_ends_as_plain dir step flags before after _ (told old new log report said u opens does only says) =
+    (Ok said, told old new log report said u opens does only says, same-said flags.json said)
+explained_ends_as_plain dir step flags before after _ (shown old new log report said u opens does writes dry shows all warns) = (
+  Ok said,
+  shown old new log report said u opens does writes dry shows said (no-warnings flags old step said),
+  with-said flags.json said all (shown-warned flags step old new report said all shows warns),
+)
+explained_ends_as_plain dir step flags before after _ (done edits said writes wet are says all warns) = (
+  Ok said,
+  done edits said writes wet are says said (no-warnings flags edits.old step said),
+  with-said flags.json said all (done-warned flags step edits.old edits.new edits.report said all says warns),
+)
+explained_ends_as_plain dir step flags before after _ (unwritten edits fault writes wet taken) =
+    (Err (Store fault advice.Nothing), unwritten edits fault writes wet taken, stopped flags.json (Store fault advice.Nothing))
+explained_ends_as_plain dir step flags before after _ (no_memory stop u wants) =
+    (Err (unexplained stop), no_memory (unexplained stop) u (memory-plain stop wants), stopped flags.json stop)
 
 -- ---- a run
 
-listing-plain : (dir : Option (List ℕ)) (listing : Listing) (flags : Flags) (before after : Seen) (end : Result Said Stop) → ListingEnds dir listing flags before after end
-    → ListingEnds dir listing (plain_flags flags) before after (end_unexplained end)
-listing-plain dir listing flags before after _ (has_none stop u opens) =
-    has_none (unexplained stop) u (subst (OpensNone (log_use flags.no_log) before.content dir before.failures after.failures) (sym (opening-plain dir flags before after stop opens)) opens)
-listing-plain dir listing flags before after _ (listed session log u opens) = listed session log u opens
-listing-plain dir listing flags before after _ (wants_memory stop u wants) = wants_memory (unexplained stop) u (memory-plain stop wants)
+module _ (dir : Option (List ℕ)) (listing : Listing) (flags : Flags) (before after : Seen) where
+  listing-plain : (end : Result Said Stop) → ListingEnds dir listing flags before after end
+      → (plain : Result Said Stop) × ListingEnds dir listing (plain_flags flags) before after plain × IsPlainEnd flags.json end plain
+  listing-plain _ (has_none stop u opens) =
+      let none = subst (OpensNone (log_use flags.no_log) before.content dir before.failures after.failures) (sym (opening-plain dir flags before after stop opens)) opens in
+      (Err (unexplained stop), has_none (unexplained stop) u none, stopped flags.json stop)
+  listing-plain _ (listed session log u opens) =
+      let said = shown_text (listing_text flags.json listing session) in
+      (Ok said, listed session log u opens, same-said flags.json said)
+  listing-plain _ (wants_memory stop u wants) = (Err (unexplained stop), wants_memory (unexplained stop) u (memory-plain stop wants), stopped flags.json stop)
 
 no-file-plain : (held : Option Content) (failed failed' : ℕ) (name : List ℕ) (stop : Stop) → IsNoFile held failed failed' name stop → IsNoFile held failed failed' name (unexplained stop)
 no-file-plain held failed failed' name _ (unread rose) = unread rose
@@ -149,39 +188,63 @@ none-plain flags (action.ScriptFile name unknown) held failed failed' stop (inr 
 none-plain flags (action.UndoChecked count name) held failed failed' stop none = no-file-plain held failed failed' name stop none
 none-plain flags _ held failed failed' stop none = absurd none
 
-ends-plain : (asked : Result Asked UsageFault) (before after : Seen) (end : Result Said Stop) → Ends asked before after end → Ends (plain_asked asked) before after (end_unexplained end)
-ends-plain asked before after _ (misused fault advice_ u is) = misused fault advice.Nothing u (ap plain_asked is)
-ends-plain asked before after _ (helped a text u is shows) = helped (plain_request a) text u (ap plain_asked is) shows
-ends-plain asked before after _ (told_version a u is shows) = told_version (plain_request a) u (ap plain_asked is) shows
-ends-plain asked before after _ (asks_for_none a stop u is none) =
-    asks_for_none (plain_request a) (unexplained stop) u (ap plain_asked is) (none-plain a.flags a.action before.content before.failures after.failures stop none)
-ends-plain asked before after _ (steps a step end is asks ends) =
-    steps (plain_request a) step (end_unexplained end) (ap plain_asked is) asks (explained_ends_as_plain a.dir step a.flags before after end ends)
-ends-plain asked before after _ (lists a listing end is asks ends) =
-    lists (plain_request a) listing (end_unexplained end) (ap plain_asked is) asks (listing-plain a.dir listing a.flags before after end ends)
-ends-plain asked before after _ (memory_ran_out stop u wants) = memory_ran_out (unexplained stop) u (memory-plain stop wants)
+module _ (asked : Result Asked UsageFault) (before after : Seen) where
+  abbrev PlainRun : Result Said Stop → Type 0
+  PlainRun end = (plain : Result Said Stop) × Ends (plain_asked asked) before after plain × IsPlainEnd (json_of asked) end plain
 
-texts-plain : (a : Asked) (name : List ℕ) (before after : Seen) (end : Result Said Stop) → TextsEnd a name before after end → TextsEnd (plain_request a) name before after (end_unexplained end)
-texts-plain a name before after _ (has_no_file stop u none) =
-    has_no_file (unexplained stop) u (no-file-plain before.content before.failures after.failures name stop none)
-texts-plain a name before after _ (has_no_texts bytes u has none) = has_no_texts bytes u has none
-texts-plain a name before after _ (as_with_files reached bytes texts end u v has lists_them ends) =
-    as_with_files reached bytes texts (end_unexplained end) u v has lists_them (ends-plain (Ok a) _ _ end ends)
-texts-plain a name before after _ (has_no_memory stop u wants) = has_no_memory (unexplained stop) u (memory-plain stop wants)
+  -- the words want what the request without texts wants
+  as-asked : (a : Asked) → asked ≡ Ok (without_text a) → (end plain : Result Said Stop) → IsPlainEnd a.flags.json end plain → IsPlainEnd (json_of asked) end plain
+  as-asked a is end plain it = subst (λ json. IsPlainEnd json end plain) (sym (ap json_of is)) it
+
+  ends-plain : (end : Result Said Stop) → Ends asked before after end → PlainRun end
+  ends-plain _ (misused fault advice_ u is) = (Err (Usage fault advice.Nothing), misused fault advice.Nothing u (ap plain_asked is), refl)
+  ends-plain _ (helped a text u is shows) =
+      let said = shown_text text in (Ok said, helped (plain_request a) text u (ap plain_asked is) shows, same-said (json_of asked) said)
+  ends-plain _ (told_version a u is shows) =
+      let said = shown_text version_line in (Ok said, told_version (plain_request a) u (ap plain_asked is) shows, same-said (json_of asked) said)
+  ends-plain _ (asks_for_none a stop u is none) =
+      (Err (unexplained stop), asks_for_none (plain_request a) (unexplained stop) u (ap plain_asked is) (none-plain a.flags a.action before.content before.failures after.failures stop none), refl)
+  ends-plain _ (steps a step end is asks ends) =
+      let plain = explained_ends_as_plain a.dir step a.flags before after end ends in
+      (plain.0, steps (plain_request a) step plain.0 (ap plain_asked is) asks plain.1, as-asked a is end plain.0 plain.2)
+  ends-plain _ (lists a listing end is asks ends) =
+      let plain = listing-plain a.dir listing a.flags before after end ends in
+      (plain.0, lists (plain_request a) listing plain.0 (ap plain_asked is) asks plain.1, as-asked a is end plain.0 plain.2)
+  ends-plain _ (memory_ran_out stop u wants) = (Err (unexplained stop), memory_ran_out (unexplained stop) u (memory-plain stop wants), refl)
+
+module _ (a : Asked) (name : List ℕ) (before after : Seen) where
+  texts-plain : (end : Result Said Stop) → TextsEnd a name before after end
+      → (plain : Result Said Stop) × TextsEnd (plain_request a) name before after plain × IsPlainEnd a.flags.json end plain
+  texts-plain _ (has_no_file stop u none) =
+      (Err (unexplained stop), has_no_file (unexplained stop) u (no-file-plain before.content before.failures after.failures name stop none), refl)
+  texts-plain _ (has_no_texts bytes u has none) = (Err BadTexts, has_no_texts bytes u has none, refl)
+  texts-plain _ (as_with_files reached bytes texts end u v has lists_them ends) =
+      let plain = ends-plain (Ok a) _ _ end ends in
+      (plain.0, as_with_files reached bytes texts plain.0 u v has lists_them plain.1, plain.2)
+  texts-plain _ (has_no_memory stop u wants) = (Err (unexplained stop), has_no_memory (unexplained stop) u (memory-plain stop wants), refl)
 
 same-texts : (asked : Result Asked UsageFault) → texts_of (plain_asked asked) ≡ texts_of asked
 same-texts (Err fault) = refl
 same-texts (Ok a) = refl
 
-run-ends-plain : (asked : Result Asked UsageFault) (before after : Seen) (end : Result Said Stop) → RunEnds asked before after end → RunEnds (plain_asked asked) before after (end_unexplained end)
+abbrev PlainOf : Result Asked UsageFault → Seen → Seen → Result Said Stop → Type 0
+PlainOf asked before after end = (plain : Result Said Stop) × RunEnds (plain_asked asked) before after plain × IsPlainEnd (json_of asked) end plain
+
+run-ends-plain : (asked : Result Asked UsageFault) (before after : Seen) (end : Result Said Stop) → RunEnds asked before after end → PlainOf asked before after end
 run-ends-plain asked before after _ (without_texts end none ends) =
-    without_texts (end_unexplained end) (same-texts asked ∙ none) (ends-plain asked before after end ends)
+    let plain = ends-plain asked before after end ends in
+    (plain.0, without_texts plain.0 (same-texts asked ∙ none) plain.1, plain.2)
 run-ends-plain asked before after _ (asked_with_texts a name end is named ends) =
-    asked_with_texts (plain_request a) name (end_unexplained end) (ap plain_asked is) named (texts-plain (plain a) name before after end ends)
+    let found = texts-plain (plain a) name before after end ends in (
+      found.0,
+      asked_with_texts (plain_request a) name found.0 (ap plain_asked is) named found.1,
+      subst (λ json. IsPlainEnd json end found.0) (sym (ap json_of is)) found.2,
+    )
 
 pub explained_runs_as_plain : ExplainedRunsAsPlain
 explained_runs_as_plain asked before after end reported ends reports =
-    subst (RunEnds (plain_asked asked) before after) (sym (reported-plain asked end reported reports)) (run-ends-plain asked before after end ends)
+    let found = run-ends-plain asked before after end ends in
+    (found.0, found.1, reported-is-plain (json_of asked) asked end reported reports found.0 found.2)
 
 -- ---- what is written
 
@@ -206,6 +269,15 @@ below-plain (Splice fault advice_) = (advice_lines advice_, refl)
 below-plain (OtherFiles name advice_) = (advice_lines advice_, refl)
 below-plain (Store fault advice_) = (advice_lines advice_, ap (λ (l : List ℕ). l ++ advice_lines advice_) (sym (append-nil (left_lines (still_new fault)))))
 below-plain _ = ([], refl)
+
+said-status : (exit_code json : Bool) (plain said : Said) → (said ≡ plain) ⊎ SaysWarnings json plain said → status exit_code (Ok said) ≡ status exit_code (Ok plain)
+said-status exit_code json plain said (inl is) = ap (λ s. status exit_code (Ok s)) is
+said-status exit_code false plain said (inr (more, is)) = ap (λ s. status exit_code (Ok s)) is
+said-status exit_code true plain said (inr (ms, found, text, is)) = ap (λ s. status exit_code (Ok s)) is
+
+pub status_is_plain : StatusIsPlain
+status_is_plain exit_code json (Ok said) other (alone, is, more) = said-status exit_code json alone said more ∙ sym (ap (status exit_code) is)
+status_is_plain exit_code json (Err stop) other is = status-unexplained exit_code stop ∙ sym (ap (status exit_code) is)
 
 pub lines_are_plain : LinesArePlain
 lines_are_plain stop =
@@ -295,3 +367,7 @@ members_are_plain (OtherFiles name advice_) key h n =
 members_are_plain (Store fault advice_) key h n =
     plain-members key None (store_code fault) None None (store_file fault) (store_left fault) (store_fault_text fault) None h n (advice_help advice_) (advice_notes advice_)
 members_are_plain _ key h n = refl
+
+pub answers_are_plain : AnswersArePlain
+answers_are_plain no_members found key other = passes key (codes "warnings") found no_members other
+answers_are_plain (member k d more) found key other = after key k d (and_warnings more found) more (answers_are_plain more found key other)

@@ -4,7 +4,7 @@ use Rattle.std.specs.Prelude.{OnOk}
 use Rattle.meson_command.specs.declared.asked.Asked.{Asked}
 use Rattle.meson_command.specs.declared.asked.Flags.{Flags}
 use Rattle.meson_command.specs.declared.fault.UsageFault.{UsageFault}
-use Rattle.meson_rewrite.specs.AdviceLaws.{StatusIsPlain, end_unexplained, unexplained}
+use Rattle.meson_rewrite.specs.AdviceLaws.{IsPlainEnd, unexplained}
 use Rattle.meson_rewrite.specs.Faults.{IsExplained, has_none, is_told, not_asked, ran_out}
 use Rattle.meson_rewrite.specs.Lines.{status}
 use Rattle.meson_rewrite.specs.Runs.{Reports}
@@ -30,28 +30,44 @@ explained-plain flags stop _ (has_none none) = refl
 explained-plain flags stop _ (is_told advice asks is) = advised-plain advice stop
 explained-plain flags stop _ (ran_out asks) = advised-plain OutOfMemory stop
 
-pub reported-plain : (asked : Result Asked UsageFault) (end shown : Result Said Stop) → Reports asked end shown → end_unexplained shown ≡ end_unexplained end
+-- the ending without what explains it
+abbrev end_unexplained : Result Said Stop → Result Said Stop
+end_unexplained (Ok said) = Ok said
+end_unexplained (Err stop) = Err (unexplained stop)
+
+reported-plain : (asked : Result Asked UsageFault) (end shown : Result Said Stop) → Reports asked end shown → end_unexplained shown ≡ end_unexplained end
 reported-plain (Err fault) end shown is = ap end_unexplained is
 reported-plain (Ok a) (Ok said) shown is = ap end_unexplained is
 reported-plain (Ok a) (Err stop) shown (s, told, is) = ap end_unexplained is ∙ ap (λ (e : Stop). Err e) (explained-plain a.flags stop s told)
 
+-- what is a plain end of an ending is one of what is reported of it
+pub reported-is-plain : (json : Bool) (asked : Result Asked UsageFault) (end shown : Result Said Stop) → Reports asked end shown
+    → (plain : Result Said Stop) → IsPlainEnd json end plain → IsPlainEnd json shown plain
+reported-is-plain json (Err fault) end shown is plain it = subst (λ e. IsPlainEnd json e plain) (sym is) it
+reported-is-plain json (Ok a) (Ok said) shown is plain it = subst (λ e. IsPlainEnd json e plain) (sym is) it
+reported-is-plain json (Ok a) (Err stop) shown (s, told, is) plain it =
+    subst (λ e. IsPlainEnd json e plain) (sym is) (it ∙ ap (λ (s : Stop). Err s) (sym (explained-plain a.flags stop s told)))
+
 -- ---- the status
 
-pub status_is_plain : StatusIsPlain
-status_is_plain exit_code (Ok said) = refl
-status_is_plain exit_code (Err (Usage fault advice_)) = refl
-status_is_plain exit_code (Err (Script fault advice_)) = refl
-status_is_plain exit_code (Err (Parse name text fault advice_)) = refl
-status_is_plain exit_code (Err (TooManyFiles advice_)) = refl
-status_is_plain exit_code (Err (Refused fault subject advice_)) = refl
-status_is_plain exit_code (Err (Splice fault advice_)) = refl
-status_is_plain exit_code (Err (OtherFiles name advice_)) = refl
-status_is_plain exit_code (Err (Store fault advice_)) = refl
-status_is_plain exit_code (Err _) = refl
+pub status-unexplained : (exit_code : Bool) (stop : Stop) → status exit_code (Err stop) ≡ status exit_code (Err (unexplained stop))
+status-unexplained exit_code (Usage fault advice_) = refl
+status-unexplained exit_code (Script fault advice_) = refl
+status-unexplained exit_code (Parse name text fault advice_) = refl
+status-unexplained exit_code (TooManyFiles advice_) = refl
+status-unexplained exit_code (Refused fault subject advice_) = refl
+status-unexplained exit_code (Splice fault advice_) = refl
+status-unexplained exit_code (OtherFiles name advice_) = refl
+status-unexplained exit_code (Store fault advice_) = refl
+status-unexplained exit_code _ = refl
+
+status-plain : (exit_code : Bool) (end : Result Said Stop) → status exit_code end ≡ status exit_code (end_unexplained end)
+status-plain exit_code (Ok said) = refl
+status-plain exit_code (Err stop) = status-unexplained exit_code stop
 
 pub status-shown : (exit_code : Bool) (asked : Result Asked UsageFault) (end shown : Result Said Stop) → Reports asked end shown → status exit_code shown ≡ status exit_code end
 status-shown exit_code asked end shown reports =
-    status_is_plain exit_code shown ∙ ap (status exit_code) (reported-plain asked end shown reports) ∙ sym (status_is_plain exit_code end)
+    status-plain exit_code shown ∙ ap (status exit_code) (reported-plain asked end shown reports) ∙ sym (status-plain exit_code end)
 
 -- ---- the file that is not read
 

@@ -132,8 +132,8 @@ step-untold : (dir : Option (List ℕ)) (step : Step) (flags : Flags) (before af
 step-untold dir step flags before after _ (not_opened stop u opens) = same-keeps (log_use flags.no_log) dir before.content after.content stop u.kept
 step-untold dir step flags before after _ (refused old log stop u opens may) = same-keeps (log_use flags.no_log) dir before.content after.content stop u.kept
 step-untold dir step flags before after _ (told old new log report said u opens does only says) = tt
-step-untold dir step flags before after _ (shown old new log report said u opens does writes dry shows) = tt
-step-untold dir step flags before after _ (done e said writes wet are says) = tt
+step-untold dir step flags before after _ (shown old new log report said u opens does writes dry shows all warns) = tt
+step-untold dir step flags before after _ (done e said writes wet are says all warns) = tt
 step-untold dir step flags before after _ (unwritten e fault writes wet taken) = λ old new is now path untold. unwritten-keeps (log_use flags.no_log) dir step before after e fault taken old new is now path untold
 step-untold dir step flags before after _ (no_memory stop u wants) = same-keeps (log_use flags.no_log) dir before.content after.content stop u.kept
 

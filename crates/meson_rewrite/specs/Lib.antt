@@ -12,6 +12,7 @@ pub mod Advising
 pub mod Remarks
 pub mod Faults
 pub mod Steps
+pub mod Warnings
 pub mod Requests
 pub mod Opening
 pub mod Texts

@@ -33,6 +33,7 @@ use Rattle.meson_rewrite.specs.Steps.{Does, MayRefuseStep, SaysStep, ShowsStep, 
 use Rattle.meson_rewrite.specs.Stops.{WantsMemory}
 use Rattle.meson_rewrite.specs.StoreReads.{RunMayRead, unread_in}
 use Rattle.meson_rewrite.specs.Texts.{laid, placed, plain, texts_of}
+use Rattle.meson_rewrite.specs.Warnings.{Warns}
 use Rattle.meson_rewrite.specs.declared.opening.LogUse.{LogUse}
 use Rattle.meson_rewrite.specs.declared.opening.LogUse.TheVariants.{Kept, Ignored}
 use Rattle.meson_rewrite.specs.declared.request.Listing.{Listing}
@@ -74,14 +75,16 @@ module _ (dir : Option (List ℕ)) (step : Step) (flags : Flags) (before after :
     told : (old new : Session) (log : List ℕ) (report : Report) (said : Said) → Untouched before after
         → Opens (log_use flags.no_log) before.content dir old log → Does flags.json step old report new
         → only_tells step ≡ true → SaysStep flags.json step old.project.files new.project.files report said → StepEnds (Ok said)
-    -- what it makes of the files is shown, and nothing is written
+    -- what it makes of the files is shown, with its warnings, and nothing is written
     shown : (old new : Session) (log : List ℕ) (report : Report) (said : Said) → Untouched before after
         → Opens (log_use flags.no_log) before.content dir old log → Does flags.json step old report new
-        → only_tells step ≡ false → flags.dry_run ≡ true → ShowsStep flags.json step old report new said → StepEnds (Ok said)
-    -- each file that differs was replaced, then the log, and no other
+        → only_tells step ≡ false → flags.dry_run ≡ true → ShowsStep flags.json step old report new said
+        → (all : Said) → Warns flags old.project step said all → StepEnds (Ok all)
+    -- each file that differs was replaced, then the log, and no other; what is said has the warnings
     done : (edits : Edits (log_use flags.no_log) before.content dir step flags.json) (said : Said) → only_tells step ≡ false → flags.dry_run ≡ false
         → AreReplaced (written edits) before after
-        → SaysStep flags.json step edits.old.project.files edits.new.project.files edits.report said → StepEnds (Ok said)
+        → SaysStep flags.json step edits.old.project.files edits.new.project.files edits.report said
+        → (all : Said) → Warns flags edits.old.project step said all → StepEnds (Ok all)
     -- one could not be replaced, what was replaced got its old bytes again, and the fault reports it
     unwritten : (edits : Edits (log_use flags.no_log) before.content dir step flags.json) (fault : StoreFault) → only_tells step ≡ false → flags.dry_run ≡ false
         → TakenBack (written edits) before after fault

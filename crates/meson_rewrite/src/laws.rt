@@ -1,7 +1,7 @@
 //! Laws of checked undos, of the status of a change, of a read that failed, of answers and refusals as objects, and of texts in place of files. The functions
 //! do nothing; the contract of each is a law.
 
-ghost use Rattle.meson_rewrite.specs.AdviceLaws.{ExplainedEndsAsPlain, ExplainedRunsAsPlain, LinesArePlain, MembersArePlain, StatusIsPlain};
+ghost use Rattle.meson_rewrite.specs.AdviceLaws.{AnswersArePlain, ExplainedEndsAsPlain, ExplainedRunsAsPlain, LinesArePlain, MembersArePlain, StatusIsPlain};
 ghost use Rattle.meson_rewrite.specs.Laws.{CheckedUndosRestore, OneUnread, SameSumsUndo, StatusesTellChanges};
 ghost use Rattle.meson_rewrite.specs.ObjectLaws.{EditsOfObjectsMake};
 ghost use Rattle.meson_rewrite.specs.RefusalLaws.{CodesAreWords, MembersAreWords, SubjectsAreWords};
@@ -64,12 +64,14 @@ pub fn texts_are_files()
     ensures answers { AnswersAsFiles }
 {}
 
-/// What an explanation changes: nothing but what is said below the line of a refusal, or in two members of its object. The store is as it would be without it,
-/// and so are the output, the status, the line and the other members.
+/// What an explanation changes: nothing but what is said below the line of a refusal, or in two members of its object; and the warnings of a run, after what
+/// else is said for errors, or in one member of its object. The store is as it would be without it, and so are the rest of the output, the status, the line and
+/// the other members.
 pub fn explained_as_plain()
     ensures ends { ExplainedEndsAsPlain }
     ensures runs { ExplainedRunsAsPlain }
     ensures status { StatusIsPlain }
     ensures lines { LinesArePlain }
     ensures members { MembersArePlain }
+    ensures answers { AnswersArePlain }
 {}

@@ -22,6 +22,7 @@ mod steps;
 mod stop;
 mod subjects;
 mod texts;
+mod warnings;
 
 pub use meson_command::{Action, Asked, UsageFault, command_of};
 pub use meson_store::{

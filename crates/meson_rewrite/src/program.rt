@@ -355,7 +355,7 @@ fn ended<O: Output, E: Output>(alloc: Global, out: &mut O, err: &mut E, ending: 
 /// Runs the program on these words, of which the first is its name. It reads the build files of a project in the store and does what the words request. It
 /// replaces the files that changed and then the undo log. It writes what it did to `out`, and listings and faults to `err`. Where the words want JSON, it
 /// writes one line of JSON in place of all this: to `out` if it was done, to `err` if it was stopped. Words with `--explain` that are not a request are
-/// explained below the line of their fault, or in two members of its object. Returns the exit status.
+/// explained below the line of their fault, or in two members of its object. With it a run has its warnings too. Returns the exit status.
 ///
 /// If it is done, the store is read once for the file that the words name, if they name one (a script, or digests). It is read once for the root file and once
 /// for the log. It is read once for each name that a `subdir` call enters and for which no file was read before. Help and the version read nothing. If it ends

@@ -7,7 +7,7 @@ ghost use Rattle.serde_json.specs.Data.{Data};
 ghost use Rattle.meson_calls.specs.Loading.{HasFileName, IsProject, name_of_file};
 ghost use Rattle.meson_json.specs.Log.{is_text_history, log_of};
 ghost use Rattle.meson_rewrite.specs.declared.advice.Advice.TheVariants.{Nothing};
-ghost use Rattle.meson_rewrite.specs.inside.Edited.{IsEdited, IsObject, IsShown, IsWithin};
+ghost use Rattle.meson_rewrite.specs.inside.Edited.{IsEdited, IsEditedWith, IsObject, IsShown, IsShownWith, IsWithin};
 ghost use Rattle.meson_rewrite.specs.Logs.{log_use, with_log};
 ghost use Rattle.meson_rewrite.specs.Steps.{Does, HasSums, IsTitled, MayRefuseStep, SaysStep, Stays, StopsChecked, StopsForgetting, StopsStepsBack, listing_form};
 ghost use Rattle.meson_rewrite.specs.Stops.{WantsMemory, undo_stop};
@@ -20,6 +20,7 @@ use crate::opening::{LOG, LogUse, StoredSession, leave};
 use crate::request::{NamedFile, Step};
 use crate::said::Said;
 use crate::stop::Stop;
+use crate::warnings::{warned, warnings_for};
 use meson_command::Flags;
 use meson_diff::diff;
 use meson_plan::{LoadFault, Project};
@@ -296,7 +297,7 @@ fn edit_of(
     })
 }
 
-/// What a step makes of a session whose history is text.
+/// What a step makes of a session whose history is text, with warnings if the flags ask for them.
 pub(crate) fn edited(
     alloc: Global,
     opened: StoredSession,
@@ -305,14 +306,25 @@ pub(crate) fn edited(
 ) -> Result<Edit, Stop>
     requires text { is_text_history opened.session.history ≡ true }
     requires title { IsTitled step.now }
-    ensures edited { IfOk result (IsEdited (log_use flags.no_log) opened.session opened.log.items step.now flags.json) }
+    ensures edited { IfOk result (IsEditedWith flags opened.session opened.log.items step.now) }
     ensures same_names { IfOk result (λ edit. map (λ f. f.name) edit.before ≡ map (λ f. f.name) edit.after) }
     ensures refused { IfErr result (λ why. WantsMemory why ⊎ MayRefuseStep flags step.now opened.session why) }
 {
     let StoredSession { mut session, log } = opened;
+    let warnings = warnings_for(alloc, session.project(), step, flags);
     let edit = edit_of(alloc, &mut session, log, step, flags);
     leave(session);
-    edit
+    let edit = edit?;
+    let Edit {
+        before,
+        after,
+        said,
+    } = edit;
+    Ok(Edit {
+        before,
+        after,
+        said: warned(alloc, said, &warnings),
+    })
 }
 
 /// What is to be said in JSON for a step on a borrowed session.
@@ -348,7 +360,7 @@ fn shown_of(alloc: Global, session: &mut Session, step: &Step, flags: Flags) -> 
     Ok(Said::shown(step, changes, report)?)
 }
 
-/// What is to be said for a step on a session that is shown, and not done.
+/// What is to be said for a step on a session that is shown, and not done, with warnings if the flags ask for them.
 pub(crate) fn shown(
     alloc: Global,
     opened: StoredSession,
@@ -356,14 +368,16 @@ pub(crate) fn shown(
     flags: Flags,
 ) -> Result<Said, Stop>
     requires { IsTitled step.now }
-    ensures shown { IfOk result (IsShown opened.session step.now flags.json) }
+    ensures shown { IfOk result (IsShownWith flags opened.session step.now) }
     ensures refused { IfErr result (λ why. WantsMemory why ⊎ MayRefuseStep flags step.now opened.session why) }
 {
     let StoredSession {
         mut session,
         log: _,
     } = opened;
+    let warnings = warnings_for(alloc, session.project(), step, flags);
     let said = shown_of(alloc, &mut session, step, flags);
     leave(session);
-    said
+    let said = said?;
+    Ok(warned(alloc, said, &warnings))
 }

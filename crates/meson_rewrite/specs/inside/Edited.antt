@@ -7,9 +7,11 @@ use Rattle.meson_script.specs.declared.fault.UndoFault.{UndoFault}
 use Rattle.meson_script.specs.declared.fault.UndoFault.TheVariants as undo
 use Rattle.meson_script.specs.declared.session.Report.{Report}
 use Rattle.meson_script.specs.declared.session.Session.{Session}
-use Rattle.meson_rewrite.specs.Logs.{with_log}
+use Rattle.meson_command.specs.declared.asked.Flags.{Flags}
+use Rattle.meson_rewrite.specs.Logs.{log_use, with_log}
 use Rattle.meson_rewrite.specs.Objects.{SaysObject}
 use Rattle.meson_rewrite.specs.Steps.{Does, SaysStep, ShowsStep}
+use Rattle.meson_rewrite.specs.Warnings.{Warns}
 use Rattle.meson_rewrite.specs.declared.opening.LogUse.{LogUse}
 use Rattle.meson_rewrite.specs.declared.steps.Edit.{Edit}
 use Rattle.meson_rewrite.specs.declared.request.Step.{Step}
@@ -27,6 +29,14 @@ pub record IsEdited (how : LogUse) (old : Session) (log : List ℕ) (step : Step
   pub after : edit.after ≡ with_log how new.project.files new_log
   pub says : SaysStep json step old.project.files new.project.files report edit.said
 
+-- the same, with warnings
+pub record IsEditedWith (flags : Flags) (old : Session) (log : List ℕ) (step : Step) (edit : Edit) : Type 0 where
+  pub plain : Edit
+  pub edited : IsEdited (log_use flags.no_log) old log step flags.json plain
+  pub before : edit.before ≡ plain.before
+  pub after : edit.after ≡ plain.after
+  pub warns : Warns flags old.project step plain.said edit.said
+
 -- a step that only reports
 pub record OnlyTells (old : Session) (step : Step) (json : Bool) (said : Said) : Type 0 where
   pub new : Session
@@ -40,6 +50,12 @@ pub record IsShown (old : Session) (step : Step) (json : Bool) (said : Said) : T
   pub report : Report
   pub does : Does json step old report new
   pub shows : ShowsStep json step old report new said
+
+-- the same, with warnings
+pub record IsShownWith (flags : Flags) (old : Session) (step : Step) (said : Said) : Type 0 where
+  pub plain : Said
+  pub shown : IsShown old step flags.json plain
+  pub warns : Warns flags old.project step plain said
 
 -- an object of JSON, of a step that only reports, was done or is shown
 pub record IsObject (old : Session) (step : Step) (json : Bool) (said : Said) : Type 0 where

@@ -4,7 +4,7 @@ use Rattle.std.specs.Prelude.{IfErr, IfOk}
 use Rattle.meson_rewrite.proofs.Endings.{done-ends, dry-ends, failed-ends, stopped-acting, stopped-opening, told-ends}
 use Rattle.meson_rewrite.proofs.Reading.{on_ok, with-log-all, with-log-at-most}
 use Rattle.meson_rewrite.proofs.Unread.{acting-unread, commit-unread, stop-unread}
-use Rattle.meson_rewrite.specs.inside.Edited.{IsShown, OnlyTells}
+use Rattle.meson_rewrite.specs.inside.Edited.{IsShownWith, OnlyTells}
 use Rattle.meson_command.specs.declared.asked.Flags.{Flags}
 use Rattle.meson_rewrite.specs.Logs.{log_use}
 use Rattle.meson_rewrite.specs.Opening.{Opens}
@@ -28,7 +28,7 @@ ends-by-telling dir step flags b a u old log opens only (Err stop) is_told refus
 
 -- the same of what is shown
 ends-by-showing : (dir : Option (List ℕ)) (step : Step) (flags : Flags) (b a : Seen) (u : Untouched b a) (old : Session) (log : List ℕ) → Opens (log_use flags.no_log) b.content dir old log → only_tells step ≡ false → flags.dry_run ≡ true
-    → (end : Result Said Stop) → IfOk end (IsShown old step flags.json) → IfErr end (λ why. WantsMemory why ⊎ MayRefuseStep flags step old why) → StepEnds dir step flags b a end
+    → (end : Result Said Stop) → IfOk end (IsShownWith flags old step) → IfErr end (λ why. WantsMemory why ⊎ MayRefuseStep flags step old why) → StepEnds dir step flags b a end
 ends-by-showing dir step flags b a u old log opens writes dry (Ok said) is_shown refused = dry-ends dir step flags b a u old log opens writes dry said is_shown
 ends-by-showing dir step flags b a u old log opens writes dry (Err stop) is_shown refused = stopped-acting dir step flags b a u old log opens stop refused
 
