@@ -1,12 +1,11 @@
 -- What explains a refusal changes nothing else.
-use Rattle.std.proofs.Common.{Ordering, Less, Equal, Greater, bytes_eq, false, is_eq, true, ◌≡◌, ◌≢◌, ◌⊎◌, ◌∙◌, ℕ, Bool, List, [], ◌∷◌, ◌++◌, codes, Option, None, Some, Result, Ok, Err, inl, inr, map, refl, sym, ap, subst}
+use Rattle.std.proofs.Common.{Ordering, Less, Equal, Greater, bytes_eq, false, is_eq, true, ◌≡◌, ◌≢◌, ◌∙◌, ℕ, Bool, List, [], ◌++◌, codes, Option, None, Some, Result, Ok, Err, inl, inr, refl, sym, ap, subst}
 use Rattle.std.proofs.lemmas.List.{append-nil, append_assoc}
 use Rattle.std.proofs.lemmas.Map.Text.{is_eq-slice_cmp}
 use Rattle.std.proofs.lemmas.Slice.Eq.{bytes_eq-Decides}
 use Rattle.std.specs.Cmp.Lexicographic.{slice_cmp}
 use Rattle.std.specs.Ordering.{match_ordering, nat_cmp}
-use Rattle.serde_json.specs.Data.{Data, Members, array, member, no_members, string}
-use Rattle.serde_json.specs.View.{items_of}
+use Rattle.serde_json.specs.Data.{Data, Members, member, no_members, string}
 use Rattle.serde_json.specs.Find.{get_member}
 use Rattle.meson_command.specs.Messages.{usage_fault_text}
 use Rattle.meson_command.specs.declared.asked.Action.{Action}
@@ -39,17 +38,15 @@ use Rattle.meson_rewrite.specs.Requests.{AsksForNone, IsBad, IsNoFile, absent, u
 use Rattle.meson_rewrite.specs.Texts.{plain, texts_of}
 use Rattle.meson_rewrite.specs.AdviceLaws.{ExplainedEndsAsPlain, ExplainedRunsAsPlain, LinesArePlain, MembersArePlain, end_unexplained, plain_asked, plain_flags, plain_request, unexplained}
 use Rattle.meson_rewrite.specs.Codes.{file_fault_code, refusal_code, script_code, splice_code, store_code, usage_code}
-use Rattle.meson_rewrite.specs.Lines.{advice_lines, file_text, left_lines, line, lines_below, stop_lines, stop_text}
-use Rattle.meson_rewrite.specs.Notes.{note_data}
+use Rattle.meson_rewrite.specs.Lines.{advice_lines, file_text, left_lines, line, lines_below, stop_text}
 use Rattle.meson_json.specs.Messages.{script_fault_text}
 use Rattle.meson_script.specs.Messages.{refused_text}
 use Rattle.meson_rewrite.specs.Logs.{log_use}
 use Rattle.meson_rewrite.specs.Opening.{OpensNone, bad_log, log_unread, no_log, no_project}
 use Rattle.meson_rewrite.specs.Refused.{advice_help, advice_notes, file_fault_offset, parsed_file, refusal_subject, refused_command, script_entry, script_subject, splice_file, splice_offset, store_file, store_left, with_notes, with_number, with_text, with_texts}
-use Rattle.meson_rewrite.specs.Runs.{Ends, ListingEnds, RunEnds, StepEnds, TextsEnd, as_with_files, asks_for_none, done, has_no_file, has_no_memory, has_no_texts, has_none, helped, listed, lists, memory_ran_out, misused, no_memory, not_opened, refused, shown, steps, told, told_version, unwritten, wants_memory, with_texts as asked_with_texts, without_texts}
+use Rattle.meson_rewrite.specs.Runs.{Ends, ListingEnds, RunEnds, TextsEnd, as_with_files, asks_for_none, done, has_no_file, has_no_memory, has_no_texts, has_none, helped, listed, lists, memory_ran_out, misused, no_memory, not_opened, refused, shown, steps, told, told_version, unwritten, wants_memory, with_texts as asked_with_texts, without_texts}
 use Rattle.meson_rewrite.specs.Steps.{MayRefuseStep, StopsRun, StopsStep, StopsStepsBack}
 use Rattle.meson_rewrite.specs.Stops.{WantsMemory, gathering_stop, undo_stop}
-use Rattle.meson_rewrite.specs.declared.advice.Advice.{Advice}
 use Rattle.meson_rewrite.specs.declared.advice.Advice.TheVariants as advice
 use Rattle.meson_rewrite.specs.declared.notes.PlacedNote.{PlacedNote}
 use Rattle.meson_rewrite.specs.declared.request.Listing.{Listing}
