@@ -24,7 +24,7 @@ use Rattle.meson_rewrite.specs.declared.advice.Advice.{Advice}
 use Rattle.meson_rewrite.specs.declared.advice.Advice.TheVariants as advice
 use Rattle.meson_rewrite.specs.declared.notes.PlacedNote.{PlacedNote}
 use Rattle.meson_rewrite.specs.declared.stop.Stop.{Stop}
-use Rattle.meson_rewrite.specs.declared.stop.Stop.TheVariants.{Usage, Script, Parse, Refused, Splice, OtherFiles, Store}
+use Rattle.meson_rewrite.specs.declared.stop.Stop.TheVariants.{Script, Parse, Refused, Splice, OtherFiles, Store}
 
 -- ---- the offset in a file
 

@@ -1,4 +1,4 @@
-use Rattle.std.proofs.Common.{◌≡◌, ◌∙◌, Bool, true, false, refl, ap, subst, sym}
+use Rattle.std.proofs.Common.{◌≡◌, ◌∙◌, Bool, true, false, refl, subst, sym}
 use Rattle.std.specs.Prelude.{not}
 use Rattle.meson_rewrite.specs.Faults.{IsExplained, has_none, is_told, not_asked, ran_out}
 use Rattle.meson_rewrite.proofs.faults.explained.Goals as goal

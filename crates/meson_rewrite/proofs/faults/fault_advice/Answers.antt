@@ -1,4 +1,4 @@
-use Rattle.std.proofs.Common.{◌≡◌, ◌∙◌, ℕ, List, Some, ap, codes, sym}
+use Rattle.std.proofs.Common.{◌∙◌, ℕ, List, Some, ap, codes, sym}
 use Rattle.meson_rewrite.specs.Faults.{fault_advice, plain_advice}
 use Rattle.meson_rewrite.specs.declared.advice.Advice.{Advice}
 use Rattle.meson_rewrite.proofs.faults.fault_advice.Goals as goal
