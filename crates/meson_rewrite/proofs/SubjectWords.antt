@@ -6,9 +6,9 @@ use Rattle.meson_calls.specs.Loading.{Loaded}
 use Rattle.meson_explaining.specs.Names.{bad_name, find_key, is_bad_option, is_bad_pair, is_empty_name, meant_name, missing_name}
 use Rattle.meson_explaining.specs.Sources.{extras_at, is_missing, sources_at}
 use Rattle.meson_steps.specs.declared.command.Command.{Command}
-use Rattle.meson_steps.specs.declared.command.Command.TheVariants.{SourcesAdd, SourcesRemove, ExtraAdd, ExtraRemove, TargetAdd, TargetRemove, TargetInfo, KwargsSet, KwargsAdd, KwargsRemove, KwargsDelete, KwargsInfo, OptionsSet, OptionsDelete}
-use Rattle.meson_rewrite.specs.RefusalLaws.{IsAmong, SubjectsAreWords, words_of}
-use Rattle.meson_rewrite.specs.Subjects.{folder_of, id_of, subject_of}
+use Rattle.meson_steps.specs.declared.command.Command.TheVariants.{SourcesAdd, SourcesRemove, ExtraAdd, ExtraRemove, TargetAdd, TargetRemove, TargetInfo, KwargsSet, KwargsAdd, KwargsRemove, KwargsDelete, KwargsInfo, OptionsSet, OptionsDelete, Argument}
+use Rattle.meson_rewrite.specs.RefusalLaws.{IsAmong, SubjectsAreWords, id_and, words_of}
+use Rattle.meson_rewrite.specs.Subjects.{folder_of, id_in, id_of, subject_of}
 
 some-same : {X : Type 0} (x y : X) → Some x ≡ Some y → x ≡ y
 some-same x y e = cc
@@ -33,6 +33,10 @@ module _ (name : List ℕ) where
     go true more e = inl (some-same p.0 name e)
     go false more e = inr (more e)
 
+  id_first : (id : Option (List ℕ)) (more : List (List ℕ)) → id ≡ Some name → IsAmong (id_and id more) name
+  id_first None more e = absurd (not-none (List ℕ) name e)
+  id_first (Some id) more e = inl (some-same id name e)
+
   id_among : (c : Command) → id_of c ≡ Some name → IsAmong (words_of c) name
   id_among (SourcesAdd target sources) e = inl (some-same target name e)
   id_among (SourcesRemove target sources) e = inl (some-same target name e)
@@ -48,6 +52,7 @@ module _ (name : List ℕ) where
   id_among (KwargsInfo role id) e = inl (some-same id name e)
   id_among (OptionsSet pairs) e = absurd (not-none (List ℕ) name e)
   id_among (OptionsDelete names) e = absurd (not-none (List ℕ) name e)
+  id_among (Argument n change) e = id_first (id_in n.place.name) n.keys e
 
   new_among : (target subdir : List ℕ) (sources : List (List ℕ)) → find is_empty_name (target ∷ sources) ≡ Some name
       → IsAmong (target ∷ subdir ∷ sources) name

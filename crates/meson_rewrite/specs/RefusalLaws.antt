@@ -6,11 +6,11 @@ use Rattle.serde_json.specs.Find.{get}
 use Rattle.meson_calls.specs.Loading.{Loaded}
 use Rattle.meson_calls.specs.declared.refusal.Refusal.{Refusal}
 use Rattle.meson_steps.specs.declared.command.Command.{Command}
-use Rattle.meson_steps.specs.declared.command.Command.TheVariants.{SourcesAdd, SourcesRemove, ExtraAdd, ExtraRemove, TargetAdd, TargetRemove, TargetInfo, KwargsSet, KwargsAdd, KwargsRemove, KwargsDelete, KwargsInfo, OptionsSet, OptionsDelete}
+use Rattle.meson_steps.specs.declared.command.Command.TheVariants.{SourcesAdd, SourcesRemove, ExtraAdd, ExtraRemove, TargetAdd, TargetRemove, TargetInfo, KwargsSet, KwargsAdd, KwargsRemove, KwargsDelete, KwargsInfo, OptionsSet, OptionsDelete, Argument}
 use Rattle.meson_rewrite.specs.Codes.{memory_code, stop_code}
 use Rattle.meson_rewrite.specs.Lines.{stop_text}
 use Rattle.meson_rewrite.specs.Refused.{stop_command, stop_entry, stop_members}
-use Rattle.meson_rewrite.specs.Subjects.{subject_of}
+use Rattle.meson_rewrite.specs.Subjects.{id_in, subject_of}
 use Rattle.meson_rewrite.specs.declared.stop.Stop.{Stop}
 use Rattle.meson_rewrite.specs.declared.stop.Stop.TheVariants.{Parse}
 
@@ -38,6 +38,11 @@ abbrev pub MembersAreWords : Type 0
 MembersAreWords = (stop : Stop) → (get (codes "message") (object (stop_members stop)) ≡ Some (string (stop_text stop)))
     × (get (codes "code") (object (stop_members stop)) ≡ Some (string (stop_code stop)))
 
+-- an id, if there is one, and further words
+abbrev pub id_and : Option (List ℕ) → List (List ℕ) → List (List ℕ)
+id_and None more = more
+id_and (Some id) more = id ∷ more
+
 -- the words of a command: its id, its folder and its sources, keys or options
 abbrev pub words_of : Command → List (List ℕ)
 words_of (SourcesAdd target sources) = target ∷ sources
@@ -54,6 +59,7 @@ words_of (KwargsDelete role id keys) = id ∷ keys
 words_of (KwargsInfo role id) = id ∷ []
 words_of (OptionsSet pairs) = map (λ p. p.0) pairs
 words_of (OptionsDelete names) = names
+words_of (Argument n change) = id_and (id_in n.place.name) n.keys
 
 abbrev pub IsAmong : List (List ℕ) → List ℕ → Type 0
 IsAmong [] word = ⊥
