@@ -1,11 +1,11 @@
 //! What explains words that clap does not take.
 
 use crate::choices::{FUNCTIONS, KWARGS_OPERATIONS, OPTIONS_OPERATIONS, TARGET_OPERATIONS};
-use meson_json::count::count_of;
 use crate::subcommands::{SUBCOMMANDS, Subcommand};
 use clap::Error;
 use clap::error::ErrorKind;
 use meson_json::Remarks;
+use meson_json::count::count_of;
 use std::alloc::{AllocError, Global};
 
 /// The value of an option of the program, with a space before it; empty if it has none.

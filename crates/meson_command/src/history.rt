@@ -6,10 +6,10 @@ ghost use Rattle.meson_command.specs.Actions.{count_in, history_action, history_
 ghost use Rattle.meson_command.specs.declared.fault.UsageFault.TheVariants.{OutOfMemory};
 
 use crate::asked::Action;
-use meson_json::count::count_of;
 use crate::fault::UsageFault;
 use crate::words::is_set;
 use clap::ArgMatches;
+use meson_json::count::count_of;
 use meson_json::owned;
 use std::alloc::{AllocError, Global};
 

@@ -2,7 +2,6 @@
 
 use crate::choices::{FUNCTIONS, KWARGS_OPERATIONS, OPTIONS_OPERATIONS, TARGET_OPERATIONS};
 use crate::clap_faults::add_usage;
-use meson_json::count::count_of;
 use crate::fault::UsageFault;
 use crate::keys::{explain_odd, explain_repeated};
 use crate::shell::quoted;
@@ -10,6 +9,7 @@ use crate::subcommands::Subcommand;
 use crate::words::{is_set, word_or};
 use clap::ArgMatches;
 use meson_json::Remarks;
+use meson_json::count::count_of;
 use std::alloc::{AllocError, Global};
 
 /// The operation on a target that a word of another program, or of a script, means. Without sources the target itself is removed.

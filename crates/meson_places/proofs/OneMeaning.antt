@@ -86,17 +86,17 @@ module _ (l : Loaded) (gs : List Given) (m k : AllMayBeGiven gs) (key : List ℕ
   there_one n None = refl
   there_one n (Some c) =
       ap (λ (ws : Values).
-          if is_array c.value then (if list_all is_text_given gs && not (are_texts c.value) then Err (OtherKind key)
-            else if_room_for l (child list c.number) ws (put_all (child list c.number) (length (elements_in c.value)) ws))
-          else (if becomes_array gs c.value then (if has_room (array_node ws) (list_in_trees (plain_trees l) list)
-              then Ok (step_in list (Replace list.path.steps n (record { bytes = array_bytes gs; node = array_node ws })) ∷ []) else Err TooDeep)
-            else Err (OtherKind key)))
+      if is_array c.value then (if list_all is_text_given gs && not (are_texts c.value) then Err (OtherKind key)
+      else if_room_for l (child list c.number) ws (put_all (child list c.number) (length (elements_in c.value)) ws))
+      else (if becomes_array gs c.value then (if has_room (array_node ws) (list_in_trees (plain_trees l) list)
+      then Ok (step_in list (Replace list.path.steps n (record { bytes = array_bytes gs; node = array_node ws })) ∷ []) else Err TooDeep)
+      else Err (OtherKind key)))
       (all_one gs m k)
 
   added_one : add_array l gs m key list ≡ add_array l gs k key list
   added_one =
       ap (λ (ws : Values). then_ok (added_to (bytes_at list.file l.files) (record { bytes = array_bytes gs; node = array_node ws }) key list (expression_at (project l) list))
-          (λ steps. if has_room (array_node ws) (list_in_trees (plain_trees l) list) then Ok steps else Err TooDeep))
+      (λ steps. if has_room (array_node ws) (list_in_trees (plain_trees l) list) then Ok steps else Err TooDeep))
       (all_one gs m k)
 
 set_all_one : (l : Loaded) (gs : List Given) (m k : AllMayBeGiven gs) (key : List ℕ) (s : Slot) → set_all l gs m key s ≡ set_all l gs k key s
@@ -147,11 +147,11 @@ module _ (p q : Loaded) (same_files : p.files ≡ q.files) (same_trees : trees p
       let inner = child list c.number in
       let node = array_node ws in
       alike (λ fs ts.
-          if is_array c.value then (if list_all is_text_given gs && not (are_texts c.value) then Err (OtherKind key)
-            else (if list_all (λ w. has_room w.node (list_in_trees (map erase ts) inner)) ws then Ok (put_all inner (length (elements_in c.value)) ws) else Err TooDeep))
-          else (if becomes_array gs c.value then (if has_room node (list_in_trees (map erase ts) list)
-              then Ok (step_in list (Replace list.path.steps n (record { bytes = array_bytes gs; node = node })) ∷ []) else Err TooDeep)
-            else Err (OtherKind key)))
+      if is_array c.value then (if list_all is_text_given gs && not (are_texts c.value) then Err (OtherKind key)
+      else (if list_all (λ w. has_room w.node (list_in_trees (map erase ts) inner)) ws then Ok (put_all inner (length (elements_in c.value)) ws) else Err TooDeep))
+      else (if becomes_array gs c.value then (if has_room node (list_in_trees (map erase ts) list)
+      then Ok (step_in list (Replace list.path.steps n (record { bytes = array_bytes gs; node = node })) ∷ []) else Err TooDeep)
+      else Err (OtherKind key)))
 
   all_same : (gs : List Given) (may : AllMayBeGiven gs) (key : List ℕ) (s : Slot) → set_all p gs may key s ≡ set_all q gs may key s
   all_same gs may key (slot.Element list n) =
@@ -159,7 +159,7 @@ module _ (p q : Loaded) (same_files : p.files ≡ q.files) (same_trees : trees p
   all_same gs may key (slot.Absent list k) =
       let node = array_node (all_written gs may) in
       alike (λ fs ts. then_ok (added_to (bytes_at list.file fs) (record { bytes = array_bytes gs; node = node }) k list (expression_at (named_trees fs ts) list))
-          (λ steps. if has_room node (list_in_trees (map erase ts) list) then Ok steps else Err TooDeep))
+      (λ steps. if has_room node (list_in_trees (map erase ts) list) then Ok steps else Err TooDeep))
   all_same gs may key (slot.Whole c) = refl
 
   slot_same : (key : List ℕ) (c : ValueChange) (may : MayBeMade c) (s : Slot) → slot_steps p key c may s ≡ slot_steps q key c may s
@@ -171,5 +171,5 @@ module _ (p q : Loaded) (same_files : p.files ≡ q.files) (same_trees : trees p
   arguments_same n c may =
       ap (λ r. then_ok r (λ x. then_ok (the_slot (project p) x n.keys) (λ s. slot_steps p (last_key n.keys) c may s))) (found_same n.place.name n.place.folder)
       ∙ then_alike (the_place q n.place) _ _ (λ x.
-          ap (λ r. then_ok r (λ s. slot_steps p (last_key n.keys) c may s)) (alike (λ fs ts. the_slot (named_trees fs ts) x n.keys))
-          ∙ then_alike (the_slot (project q) x n.keys) _ _ (λ s. slot_same (last_key n.keys) c may s))
+      ap (λ r. then_ok r (λ s. slot_steps p (last_key n.keys) c may s)) (alike (λ fs ts. the_slot (named_trees fs ts) x n.keys))
+      ∙ then_alike (the_slot (project q) x n.keys) _ _ (λ s. slot_same (last_key n.keys) c may s))

@@ -1,22 +1,30 @@
-//! The steps of a plan, which are all known at once, or why there are none.
+//! How a command is done: by the steps of a plan, which are all known at once, or by changes of a call or of a value.
 
-ghost use Rattle.std.specs.Prelude.{IfOk};
-ghost use Rattle.meson_calls.specs.Loading.{AreParsed, IsProject, loaded_from, project};
+ghost use Rattle.std.specs.Prelude.{◌≡◌, false, IfOk, OnOk};
+ghost use Rattle.meson_calls.specs.Loading.{AreParsed, IsProject, Loaded, loaded_from, project};
 ghost use Rattle.meson_calls.specs.NotedProjects.{IsNotedFor, loaded_in, project_in};
-ghost use Rattle.meson_calls.specs.Refusals.{RefusedAs};
+ghost use Rattle.meson_calls.specs.Refusals.{IfRefused, RefusedAs};
 ghost use Rattle.meson_calls.specs.Setters.{AreKept};
-ghost use Rattle.meson_plan.specs.inside.Orders.{plan_steps, sought};
+ghost use Rattle.meson_plan.specs.Listing.{asks};
+ghost use Rattle.meson_plan.specs.inside.Orders.{Ends, plan_steps, sought};
+ghost use Rattle.meson_steps.specs.Done.{IsDone, MayNotBeDone};
 ghost use Rattle.meson_steps.specs.Plans.{ArePlanned};
+ghost use Rattle.meson_steps.specs.Working.{IsFresh, Restores, so_far};
 
 use crate::kept::keep;
-use crate::order::Plan;
+use crate::order::{Order, Plan, order_of};
 use meson_calls::Refusal;
 use meson_calls::kept::Kept;
 use meson_calls::noted::Noted;
 use meson_calls::notes::notes_for;
+use meson_keywords::changing::changed;
+use meson_places::Sources;
+use meson_places::arguments::argument_steps;
 use meson_sources::targeting::on_target;
 use meson_splice::FileSet;
+use meson_steps::command::Command;
 use meson_steps::step::ListStep;
+use meson_steps::work::{Work, done};
 use meson_syntax::Parsed;
 use meson_targets::target_adding::target_added;
 use meson_targets::target_removing::target_removed;
@@ -44,7 +52,7 @@ fn keep_for(
 ///
 /// # Errors
 /// Why it is refused, or out of memory.
-pub(crate) fn planned(
+fn planned(
     alloc: Global,
     files: &FileSet,
     trees: &[Parsed],
@@ -84,5 +92,40 @@ fn steps_of(alloc: Global, noted: &Noted<'_>, plan: Plan<'_>) -> Result<Vec<List
         Plan::OnTarget(target, change, names) => on_target(alloc, noted, target, change, names),
         Plan::AddTarget(new) => target_added(alloc, noted, new),
         Plan::RemoveTarget(target) => target_removed(alloc, noted, target),
+    }
+}
+
+/// Performs a command that changes something. What is kept is about the files and trees as they were before it.
+///
+/// # Errors
+/// The first refusal that holds, or out of memory.
+pub(crate) fn performed(
+    alloc: Global,
+    work: &mut Work,
+    kept: &mut Vec<Kept>,
+    command: &Command,
+) -> Result<(), Refusal>
+    requires changes { asks command.now ≡ false }
+    requires fresh { IsFresh work.old }
+    requires kept { AreKept kept.old.items work.old.files work.old.trees.items }
+    ensures kept { AreKept kept.new.items work.old.files work.old.trees.items }
+    ensures done { OnOk result (Ends (so_far work.old) command.now (λ meant. IsDone (so_far work.old) meant work.new)) }
+    ensures restores { (first : Loaded) → Restores work.old first → Restores work.new first }
+    ensures refused { IfRefused result (λ e. Ends (so_far work.old) command.now (λ meant. MayNotBeDone (so_far work.old) meant e)) }
+{
+    match order_of(command) {
+        Order::Planned(plan) => {
+            let steps = planned(alloc, &work.files, work.trees.as_slice(), kept, plan)?;
+            done(alloc, work, steps)
+        }
+        Order::Changed(request) => changed(alloc, work, request),
+        Order::OnValue(name, change) => {
+            let sources = Sources {
+                files: &work.files,
+                trees: work.trees.as_slice(),
+            };
+            let steps = argument_steps(alloc, sources, name, change)?;
+            done(alloc, work, steps)
+        }
     }
 }

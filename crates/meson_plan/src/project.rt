@@ -1,16 +1,13 @@
 //! A project: its files, and the tree of each.
 
-ghost use Rattle.std.specs.Prelude.{◌≡◌, List, ℕ, Some, Ok, Err, false, IfErr, IfOk, IsTrue, OnErr, OnOk};
+ghost use Rattle.std.specs.Prelude.{◌≡◌, List, ℕ, Some, Ok, Err, false, IfErr, IfOk, IsTrue, OnErr};
 ghost use Rattle.meson_calls.specs.Loading.{IsProject, Loaded, MayNotLoad, project};
 ghost use Rattle.meson_calls.specs.NotedProjects.{IsNotedFor, loaded_in};
 ghost use Rattle.meson_calls.specs.Notes.{note_views, taken_view};
 ghost use Rattle.meson_calls.specs.Setters.{AreKept};
 ghost use Rattle.meson_calls.specs.Spelling.{AreNotesWith, sought_words};
-ghost use Rattle.meson_steps.specs.Done.{IsDone, MayNotBeDone};
-ghost use Rattle.meson_steps.specs.Working.{IsFresh, Restores, so_far};
 ghost use Rattle.meson_plan.specs.Listing.{asks};
 ghost use Rattle.meson_plan.specs.Performing.{MayRefuse, Performs};
-ghost use Rattle.meson_plan.specs.inside.Orders.{Ends};
 ghost use Rattle.meson_calls.specs.Roles.{targets, is_target, places};
 ghost use Rattle.meson_calls.specs.Naming.{found};
 ghost use Rattle.meson_calls.specs.Finding.{the_call};
@@ -22,8 +19,7 @@ ghost use Rattle.meson_sources.specs.Extras.{extra_files};
 
 use crate::details::{TargetDetails, details_at};
 use crate::kept::{forget_changed, keep};
-use crate::order::{Order, order_of};
-use crate::planning::planned;
+use crate::planning::performed;
 use meson_calls::chosen_notes::with_role;
 use meson_calls::finding::the_call;
 use meson_calls::kept::Kept;
@@ -38,13 +34,11 @@ use meson_calls::{CallRef, Refusal, Role, Unloaded};
 use meson_details::called::call_at;
 use meson_details::showing::{head_of, keywords_of};
 use meson_details::{Head, Shown};
-use meson_keywords::changing::changed;
-use meson_places::arguments::argument_steps;
 use meson_sources::extra_files::extra_files_of;
 use meson_splice::{Change, FileSet, Many, Text, put_bytes_back};
 use meson_steps::command::{Command, Done};
 use meson_steps::journal::put_back;
-use meson_steps::work::{Work, done};
+use meson_steps::work::Work;
 use meson_syntax::Parsed;
 use meson_variables::Sources;
 use meson_variables::target_sources::sources_at;
@@ -365,41 +359,6 @@ impl Project {
                 self.kept = kept;
                 Err(refusal)
             }
-        }
-    }
-}
-
-/// Performs a command that changes something. What is kept is about the files and trees as they were before it.
-///
-/// # Errors
-/// The first refusal that holds, or out of memory.
-fn performed(
-    alloc: Global,
-    work: &mut Work,
-    kept: &mut Vec<Kept>,
-    command: &Command,
-) -> Result<(), Refusal>
-    requires changes { asks command.now ≡ false }
-    requires fresh { IsFresh work.old }
-    requires kept { AreKept kept.old.items work.old.files work.old.trees.items }
-    ensures kept { AreKept kept.new.items work.old.files work.old.trees.items }
-    ensures done { OnOk result (Ends (so_far work.old) command.now (λ meant. IsDone (so_far work.old) meant work.new)) }
-    ensures restores { (first : Loaded) → Restores work.old first → Restores work.new first }
-    ensures refused { IfRefused result (λ e. Ends (so_far work.old) command.now (λ meant. MayNotBeDone (so_far work.old) meant e)) }
-{
-    match order_of(command) {
-        Order::Planned(plan) => {
-            let steps = planned(alloc, &work.files, work.trees.as_slice(), kept, plan)?;
-            done(alloc, work, steps)
-        }
-        Order::Changed(request) => changed(alloc, work, request),
-        Order::OnValue(name, change) => {
-            let sources = meson_places::Sources {
-                files: &work.files,
-                trees: work.trees.as_slice(),
-            };
-            let steps = argument_steps(alloc, sources, name, change)?;
-            done(alloc, work, steps)
         }
     }
 }

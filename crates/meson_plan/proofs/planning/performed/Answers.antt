@@ -20,7 +20,7 @@ use Rattle.meson_steps.specs.Working.{so_far}
 use Rattle.meson_plan.specs.declared.order.Plan.{Plan}
 use Rattle.meson_plan.specs.inside.Orders.{plan_steps}
 use Rattle.meson_plan.specs.Planning.{Means}
-use Rattle.meson_plan.proofs.project.performed.Goals as goal
+use Rattle.meson_plan.proofs.planning.performed.Goals as goal
 
 pub planned-requires : goal.planned-requires
 planned-requires c =
