@@ -1,12 +1,6 @@
 -- Of a text in UTF-8 the splices of a layout make a text in UTF-8.
-use Rattle.std.specs.Str.{IsUtf8}
-use Rattle.std.proofs.Common.{◌≡◌, ℕ, List, [], ◌∷◌, Ok, sym, subst}
-use Rattle.std.proofs.lemmas.List.{append-nil}
-use Rattle.meson_lex.specs.Items.{Lexeme, joined, AreItems, IsItemList}
-use Rattle.meson_layout.specs.declared.primitive.Primitive.{Primitive}
-use Rattle.meson_layout.specs.Layout.{layout_of}
-use Rattle.meson_layout.specs.Laws.{AreTexts, AreUtf8, WritesUtf8}
-use Rattle.meson_layout.specs.Edited.{patched_by}
+use Rattle.meson_edit.proofs.Words.{◌≡◌, ℕ, List, [], ◌∷◌, Ok, sym, subst, IsUtf8, append-nil, Lexeme, joined, AreItems, IsItemList, patched_by, AreTexts}
+use Rattle.meson_edit.proofs.Words.{AreUtf8, WritesUtf8, layout_of, Primitive}
 use Rattle.meson_layout.proofs.Coding as layout
 use Rattle.meson_edit.proofs.exchange.Cuts.{utf8-cut}
 

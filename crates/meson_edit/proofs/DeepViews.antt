@@ -1,12 +1,10 @@
 -- How deep the nodes of the code's trees are, case by case.
-use Rattle.std.specs.Prelude.{max}
-use Rattle.std.proofs.Common.{rules, ◌≡◌, ℕ, suc, List, Option, None, Some}
-use Rattle.meson_lex.specs.declared.kinds.Span.{Span}
-use Rattle.meson_syntax.specs.declared.operator.Assignment.{Assignment}
+use Rattle.meson_edit.proofs.Words.{max, rules, ◌≡◌, ℕ, suc, List, Option, None, Some, Span, expression_depth, operands_depth, tail_depth, tails_depth}
+use Rattle.meson_edit.proofs.Words.{listing_depth, argument_depth, arguments_depth, statement_depth, branches_depth, otherwise_depth, statements_depth}
+use Rattle.meson_edit.proofs.Words.{block_depth, operands_of, tails_of, arguments_of, branches_of, statements_of, expr_view, operand_view, operands_view}
+use Rattle.meson_edit.proofs.Words.{tail_view, tails_view, arg_view, list_view, args_view, stmt_view, stmts_view, block_view, branch_view, branches_view}
+use Rattle.meson_edit.proofs.Words.{otherwise_view, Assignment, Arg, Expr, Stmt}
 use Rattle.meson_syntax.specs.declared.operator.UnaryOperator.{UnaryOperator}
-use Rattle.meson_syntax.specs.declared.tree.Arg.{Arg}
-use Rattle.meson_syntax.specs.declared.tree.Expr.{Expr}
-use Rattle.meson_syntax.specs.declared.tree.Stmt.{Stmt}
 use Rattle.meson_syntax.specs.declared.tree.List as rust
 use Rattle.meson_syntax.specs.declared.tree.Operand as rust_operand
 use Rattle.meson_syntax.specs.declared.tree.Tail as rust_tail
@@ -18,9 +16,6 @@ use Rattle.meson_syntax.specs.declared.tree.Arg.TheVariants as arg
 use Rattle.meson_syntax.specs.declared.tree.Stmt.TheVariants as stmt
 use Rattle.meson_syntax.specs.declared.tree.Arg.TheFolds.{the_lemmas}
 use Rattle.meson_syntax.specs.declared.tree.Stmt.TheFolds.{the_lemmas as statement_lemmas}
-use Rattle.meson_syntax.specs.Tree.{operands_of, tails_of, arguments_of, branches_of, statements_of}
-use Rattle.meson_syntax.specs.Grammar.{expression_depth, operands_depth, tail_depth, tails_depth, listing_depth, argument_depth, arguments_depth, statement_depth, branches_depth, otherwise_depth, statements_depth, block_depth}
-use Rattle.meson_syntax.specs.View.{expr_view, operand_view, operands_view, tail_view, tails_view, arg_view, list_view, args_view, stmt_view, stmts_view, block_view, branch_view, branches_view, otherwise_view}
 use Rattle.meson_edit.specs.inside.Depths.{branch_depth}
 
 module _ (source : List ℕ) where

@@ -1,8 +1,6 @@
 -- Whether there is room for so many constructs inside one another: for one more, for two parts, and for the elements of a list one after another.
-use Rattle.std.specs.Prelude.{max}
-use Rattle.std.proofs.Common.{◌≡◌, nat_le, ℕ, suc, ◌+◌, ◌-◌, ◌<◌, ◌≤◌, Bool, true, false, List, [], ◌∷◌, length, drop, get_or, refl, sym, ap, ◌∙◌, arith}
-use Rattle.std.proofs.lemmas.Bool.{le-leb, leb-true, leb-false, lt-leb}
-use Rattle.std.proofs.lemmas.List.{at_drop_more, at_drop_all}
+use Rattle.meson_edit.proofs.Words.{max, ◌≡◌, nat_le, ℕ, suc, ◌+◌, ◌-◌, ◌<◌, ◌≤◌, Bool, true, false, List, [], ◌∷◌, length, drop, get_or, refl, sym, ap, ◌∙◌}
+use Rattle.meson_edit.proofs.Words.{arith, le-leb, leb-true, leb-false, lt-leb, at_drop_more, at_drop_all}
 
 same-answer : (x y : Bool) → (x ≡ true → y ≡ true) → (y ≡ true → x ≡ true) → x ≡ y
 same-answer true y f g = sym (f refl)

@@ -1,7 +1,5 @@
 -- What every edit keeps.
-use Rattle.std.proofs.Common.{refl}
-use Rattle.meson_edit.specs.Edits.{First, After, Remove, Replace, Wrap, RemoveStatement, Append}
-use Rattle.meson_edit.specs.Kept.{EditsKeep}
+use Rattle.meson_edit.proofs.Words.{refl, First, After, Remove, Replace, Wrap, RemoveStatement, Append, EditsKeep}
 use Rattle.meson_edit.proofs.lists.Answers.{list-edit-keeps}
 use Rattle.meson_edit.proofs.lists.Values.{wraps-value}
 use Rattle.meson_edit.proofs.statements.Kept.{statement-removals-keep, appended-keep}

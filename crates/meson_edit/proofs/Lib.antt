@@ -1,4 +1,5 @@
 -- The lemmas of this crate.
+mod Words
 pub mod Coding
 pub mod lists
 pub mod statements

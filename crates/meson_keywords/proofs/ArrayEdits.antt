@@ -1,31 +1,18 @@
 -- One edit of an array or a dictionary that is the value of an argument of a call that stands: it may be done, and the call stands with it so edited.
-use Rattle.std.proofs.Common.{◌≡◌, ℕ, zero, suc, ◌+◌, ◌≤◌, List, [], ◌∷◌, ◌++◌, append-nil, append_assoc, length, length-append, map, take, drop, Some, refl, sym, ap, ap₂, ◌∙◌, subst, subst₂, arith, false}
-use Rattle.std.specs.Prelude.{All, max, option_and_then, option_map, slice_set}
-use Rattle.meson_syntax.specs.Tree.{Nowhere, Plain, Expression, array, Listing, listing, Argument, plain, named, pair, arguments_of}
-use Rattle.meson_syntax.specs.Grammar.{LevelArgument, LevelExpression, LevelFile, argument_depth, argument_words, arguments_depth, expression_words, expression_depth, listing_depth}
-use Rattle.meson_syntax.specs.Paths.{nth, value_of}
-use Rattle.meson_syntax.proofs.parsing.Complete.{list-of-arguments}
-use Rattle.meson_edit.specs.Edits.{Written, Edit, First, After, Remove, Replace, Wrap, elements, with_elements, with_value, element_added, element_removed, exchanged, edited}
-use Rattle.meson_edit.specs.Places.{IsWritten, Writes}
-use Rattle.meson_edit.specs.Sequences.{MayFollow}
-use Rattle.meson_edit.proofs.sequences.Levelled.{firsts-keep-levels, insertions-keep-levels, removals-keep-levels, replacements-keep-levels}
-use Rattle.meson_calls.specs.declared.call.CallRef.{CallRef}
-use Rattle.meson_keywords.specs.Changing.{CallStands}
-use Rattle.meson_keywords.specs.Effects.{put_behind}
-use Rattle.meson_keywords.specs.declared.value_kinds.ElementKind.{ElementKind}
-use Rattle.meson_keywords.specs.KeywordEdits.{all_behind, behind_all}
-use Rattle.meson_keywords.specs.ValueKinds.{element_node, written_element}
-use Rattle.meson_syntax.proofs.parsing.Steps.{some-injective}
-use Rattle.meson_steps.specs.ListSteps.{MayStandBetween}
-use Rattle.meson_calls.specs.Project.{child}
-use Rattle.meson_steps.specs.Steps.{step_in, Step}
-use Rattle.meson_keywords.specs.Tasking.{AreElements}
-use Rattle.std.proofs.lemmas.List.{take_all}
-use Rattle.meson_keywords.proofs.CallEdits.{CallStep, LeavesAs, call_step, last_there, more_leaves, no_elements, none_leaves, wrap_step, depth_append, depth_drop, depth_nth, depth_of, depth_take, tree_level, value_depth, xs}
-use Rattle.meson_steps.proofs.InnerPlaces.{Container, InnerPlace, array_container, exchanged_at, inner_place}
-use Rattle.meson_steps.proofs.Insertable.{edited_there, elements_with, first_there}
+use Rattle.meson_keywords.proofs.Words.{◌≡◌, ℕ, zero, suc, ◌+◌, ◌≤◌, List, [], ◌∷◌, ◌++◌, append_assoc, length, length-append, map, take, drop, Some, refl, sym}
+use Rattle.meson_keywords.proofs.Words.{ap, ap₂, ◌∙◌, subst, subst₂, arith, false, All, max, option_and_then, option_map, slice_set, take_all, LevelArgument}
+use Rattle.meson_keywords.proofs.Words.{LevelExpression, LevelFile, argument_depth, argument_words, arguments_depth, expression_words, expression_depth}
+use Rattle.meson_keywords.proofs.Words.{listing_depth, holds_pairs, nth, value_of, Nowhere, Plain, Expression, array, Listing, listing, Argument, plain, named}
+use Rattle.meson_keywords.proofs.Words.{pair, arguments_of, list-of-arguments, some-injective, Written, Edit, First, After, Remove, Replace, Wrap, elements}
+use Rattle.meson_keywords.proofs.Words.{with_elements, with_value, element_added, element_removed, exchanged, edited, IsWritten, Writes, MayFollow}
+use Rattle.meson_keywords.proofs.Words.{firsts-keep-levels, insertions-keep-levels, removals-keep-levels, replacements-keep-levels, child, CallRef}
+use Rattle.meson_keywords.proofs.Words.{MayStandBetween, step_in, Step, Container, InnerPlace, array_container, exchanged_at, inner_place, edited_there}
+use Rattle.meson_keywords.proofs.Words.{elements_with, first_there, CallStands, put_behind, all_behind, behind_all, AreElements, element_node, written_element}
+use Rattle.meson_keywords.proofs.Words.{ElementKind}
+use Rattle.std.proofs.Common.{append-nil}
+use Rattle.meson_keywords.proofs.CallEdits.{CallStep, LeavesAs, call_step, last_there, more_leaves, no_elements, none_leaves, wrap_step, depth_append}
+use Rattle.meson_keywords.proofs.CallEdits.{depth_drop, depth_nth, depth_of, depth_take, tree_level, value_depth, xs}
 use Rattle.meson_keywords.proofs.WrittenElements.{element_flat, element_level, element_written}
-use Rattle.meson_syntax.specs.Operators.{holds_pairs}
 
 array_depth : (l : Listing Nowhere) (ys : List (Argument Nowhere)) → listing_depth (with_elements l ys) ≡ depth_of ys + 1
 array_depth (listing s trailing list) ys = omega arith

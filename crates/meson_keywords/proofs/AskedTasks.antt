@@ -1,34 +1,19 @@
 -- What the words of a request ask for may be written, where their texts are UTF-8.
-use Rattle.std.proofs.Common.{◌≡◌, ℕ, true, false, List, [], ◌∷◌, ◌++◌, map, Option, Some, None, refl, sym, ap, subst, arith}
-use Rattle.std.specs.Prelude.{All, Bool, if◌then◌else◌, ok_or, option_map, Result, Ok, Err}
-use Rattle.std.specs.List.{AllByRecursion}
-use Rattle.std.specs.Str.{IsUtf8}
-use Rattle.std.proofs.lemmas.List.Elements.{All-cons, All-nil}
-use Rattle.meson_splice.specs.Patch.{then_ok}
-use Rattle.meson_syntax.specs.Tree.{Nowhere, Expression}
-use Rattle.meson_edit.specs.Edits.{Written}
-use Rattle.meson_calls.specs.declared.call.Role.{Role}
-use Rattle.meson_calls.specs.declared.refusal.Refusal.{Refusal}
-use Rattle.meson_calls.specs.declared.refusal.Refusal.TheVariants.{BadName, UnknownKey, WrongKind}
-use Rattle.meson_calls.specs.Roles.{one_of}
-use Rattle.meson_steps.specs.declared.command.Setting.{Setting}
+use Rattle.meson_keywords.proofs.Words.{◌≡◌, ℕ, true, false, List, [], ◌∷◌, ◌++◌, map, Option, Some, None, refl, sym, ap, subst, arith, All, Bool}
+use Rattle.meson_keywords.proofs.Words.{if◌then◌else◌, ok_or, option_map, Result, Ok, Err, AllByRecursion, IsUtf8, All-cons, All-nil, then_ok, Nowhere}
+use Rattle.meson_keywords.proofs.Words.{Expression, Written, identifier_list_keys, switch_keys, text_keys, text_list_keys, one_of, Role, Refusal, BadName}
+use Rattle.meson_keywords.proofs.Words.{UnknownKey, WrongKind, written_text, Setting, value_written, text_written, then_was, AreAskedTexts, IsPairText}
+use Rattle.meson_keywords.proofs.Words.{IsSettingText, AreElements, Asked, IsKey, IsValue, MayBeWritten, asked_tasks, to_set, to_add, to_remove, to_delete}
+use Rattle.meson_keywords.proofs.Words.{to_set_options, to_delete_options, Task, set, delete, add, remove, once, set_option, delete_option, add_entry}
+use Rattle.meson_keywords.proofs.Words.{checked_option, delete_entry, delete_option_entry, each_made, remove_entry, set_entry, set_option_entry, are_elements}
+use Rattle.meson_keywords.proofs.Words.{checked_values, key_kind, list_kind, list_values, setting_text, setting_texts, truth_text, truth_of, written_list}
+use Rattle.meson_keywords.proofs.Words.{written_switch, written_value, ElementKind, ValueKind}
 use Rattle.meson_steps.specs.declared.command.Setting.TheVariants as setting
-use Rattle.meson_steps.specs.WrittenTexts.{written_text}
-use Rattle.meson_keywords.specs.declared.value_kinds.ElementKind.{ElementKind}
 use Rattle.meson_keywords.specs.declared.value_kinds.ElementKind.TheVariants as element
-use Rattle.meson_keywords.specs.declared.value_kinds.ValueKind.{ValueKind}
 use Rattle.meson_keywords.specs.declared.value_kinds.ValueKind.TheVariants as value
-use Rattle.meson_keywords.specs.Effects.{AreAskedTexts, IsPairText, IsSettingText}
-use Rattle.meson_calls.specs.Keys.{identifier_list_keys, switch_keys, text_keys, text_list_keys}
-use Rattle.meson_keywords.specs.ValueKinds.{are_elements, checked_values, key_kind, list_kind, list_values, setting_text, setting_texts, truth_text, truth_of, written_list, written_switch, written_value}
-use Rattle.meson_keywords.specs.Tasking.{AreElements, Asked, IsKey, IsValue, MayBeWritten, asked_tasks, to_set, to_add, to_remove, to_delete, to_set_options, to_delete_options}
-use Rattle.meson_keywords.specs.Tasks.{Task, set, delete, add, remove, once, set_option, delete_option, add_entry, checked_option, delete_entry, delete_option_entry, each_made, remove_entry, set_entry, set_option_entry}
 use Rattle.meson_keywords.proofs.KeyNames.{identifier_list_key, switch_key, text_key, text_list_key}
 use Rattle.meson_keywords.proofs.TasksSoFar.{value_may}
 use Rattle.meson_keywords.proofs.WrittenElements.{elements_are, list_level, list_shallow, list_written, switch_is}
-use Rattle.meson_steps.proofs.StepsDoable.{text_written}
-use Rattle.meson_steps.proofs.WentWell.{then_was}
-use Rattle.meson_steps.specs.inside.WrittenValues.{value_written}
 
 abbrev pub MayAll : List Task → Type 0
 MayAll ts = AllByRecursion MayBeWritten ts

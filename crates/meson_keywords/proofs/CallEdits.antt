@@ -1,30 +1,16 @@
 -- One edit of the list of a call that stands: it may be done, and the call stands.
-use Rattle.std.proofs.Common.{◌≡◌, ℕ, zero, suc, ◌≤◌, List, [], ◌∷◌, ◌++◌, length, take, drop, Some, refl, sym, ap, ap₂, ◌∙◌, subst, arith, false}
-use Rattle.std.specs.Prelude.{All, Option, max, option_and_then, option_map, slice_set, unwrap_or}
+use Rattle.meson_keywords.proofs.Words.{◌≡◌, ℕ, zero, suc, ◌≤◌, List, [], ◌∷◌, ◌++◌, length, take, drop, Some, refl, sym, ap, ap₂, ◌∙◌, subst, arith, false}
+use Rattle.meson_keywords.proofs.Words.{All, Option, max, option_and_then, option_map, slice_set, unwrap_or, take_all, All-set, LevelArgument, LevelExpression}
+use Rattle.meson_keywords.proofs.Words.{LevelFile, argument_words, argument_depth, arguments_depth, expression_depth, file_depth, listing_depth, ListAt}
+use Rattle.meson_keywords.proofs.Words.{list_at, nth, value_of, Nowhere, Plain, Expression, Listing, listing, Argument, plain, named, pair, arguments_of}
+use Rattle.meson_keywords.proofs.Words.{list-of-arguments, some-injective, Written, Edit, First, After, Remove, Replace, Wrap, elements, with_elements}
+use Rattle.meson_keywords.proofs.Words.{with_value, array_of, element_added, element_removed, exchanged, edited, IsWritten, Writes, MayFollow}
+use Rattle.meson_keywords.proofs.Words.{firsts-keep-levels, insertions-keep-levels, removals-keep-levels, replacements-keep-levels, wraps-keep-levels, CallRef}
+use Rattle.meson_keywords.proofs.Words.{AreDoable, MayStandBetween, none, one, wide_depth, step_in, Step, all_stepped, stepped, edited_there, elements_with}
+use Rattle.meson_keywords.proofs.Words.{first_there, there_again, step_doable, all_nth, change_there, changed_there, CallStands, behind_all, elements_in}
+use Rattle.meson_keywords.proofs.Words.{trees_after, written_named, LeavesCall}
 use Rattle.std.specs.Option.{option_map_or}
-use Rattle.std.proofs.lemmas.List.Elements.{All-set}
-use Rattle.std.proofs.lemmas.List.{take_all}
 use Rattle.meson_syntax.specs.declared.operator.Bracket.TheVariants as bracket
-use Rattle.meson_syntax.specs.Tree.{Nowhere, Plain, Expression, Listing, listing, Argument, plain, named, pair, arguments_of}
-use Rattle.meson_syntax.specs.Grammar.{LevelArgument, LevelExpression, LevelFile, argument_words, argument_depth, arguments_depth, expression_depth, file_depth, listing_depth}
-use Rattle.meson_syntax.specs.Paths.{ListAt, list_at, nth, value_of}
-use Rattle.meson_syntax.proofs.parsing.Complete.{list-of-arguments}
-use Rattle.meson_syntax.proofs.parsing.Steps.{some-injective}
-use Rattle.meson_edit.specs.Edits.{Written, Edit, First, After, Remove, Replace, Wrap, elements, with_elements, with_value, array_of, element_added, element_removed, exchanged, edited}
-use Rattle.meson_edit.specs.Places.{IsWritten, Writes}
-use Rattle.meson_edit.specs.Sequences.{MayFollow}
-use Rattle.meson_edit.proofs.sequences.Levelled.{firsts-keep-levels, insertions-keep-levels, removals-keep-levels, replacements-keep-levels, wraps-keep-levels}
-use Rattle.meson_calls.specs.declared.call.CallRef.{CallRef}
-use Rattle.meson_keywords.specs.Changing.{CallStands}
-use Rattle.meson_keywords.specs.inside.Leaving.{LeavesCall}
-use Rattle.meson_keywords.specs.ValueKinds.{written_named}
-use Rattle.meson_keywords.specs.KeywordEdits.{behind_all}
-use Rattle.meson_steps.specs.ListSteps.{AreDoable, MayStandBetween, none, one, wide_depth}
-use Rattle.meson_steps.specs.Steps.{step_in, Step, all_stepped, stepped}
-use Rattle.meson_keywords.specs.TaskSteps.{elements_in, trees_after}
-use Rattle.meson_steps.proofs.Insertable.{edited_there, elements_with, first_there, there_again}
-use Rattle.meson_steps.proofs.StepsDoable.{step_doable}
-use Rattle.meson_steps.proofs.WithOne.{all_nth, change_there, changed_there}
 
 -- ---- depth
 

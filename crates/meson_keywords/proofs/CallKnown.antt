@@ -1,37 +1,19 @@
 -- A call that stands in known files: its tree, its list with spans, and the strings in that.
-use Rattle.std.proofs.Common.{◌≡◌, ℕ, zero, suc, ◌<◌, List, [], ◌∷◌, ◌++◌, length, map, get_or, Some, sym, ap, ◌∙◌, subst, arith}
-use Rattle.std.specs.Prelude.{◌≤◌, All, Bool, true, false, if◌then◌else◌, option_map}
-use Rattle.meson_lex.specs.declared.kinds.Span.{Span}
-use Rattle.meson_splice.specs.declared.file_set.File.{File}
-use Rattle.meson_splice.specs.Files.{bytes_at}
-use Rattle.meson_syntax.specs.declared.tree.Parsed.{Parsed}
-use Rattle.meson_syntax.specs.Grammar.{file_words, listing_words}
+use Rattle.meson_keywords.proofs.Words.{◌≡◌, ℕ, zero, suc, ◌<◌, List, [], ◌∷◌, ◌++◌, length, map, get_or, Some, sym, ap, ◌∙◌, subst, arith, ◌≤◌, All, Bool}
+use Rattle.meson_keywords.proofs.Words.{true, false, if◌then◌else◌, option_map, bytes_at, File, Span, file_words, listing_words, ListAt, list_at, nth, Nowhere}
+use Rattle.meson_keywords.proofs.Words.{Plain, erase, erase_argument, erase_listing, view, Parsed, some-injective, elements, GoodListing, views, AreGood}
+use Rattle.meson_keywords.proofs.Words.{CallRef, good_left, good_right, good_listing, MayStandBetween, wide_depth, AreKnown, erased_elements, tree_there}
+use Rattle.meson_keywords.proofs.Words.{CallStands, elements_in}
 use Rattle.meson_edit.specs.Holes.{ListFront, list_front, erase_list_front}
-use Rattle.meson_syntax.specs.Paths.{ListAt, list_at, nth}
 use Rattle.meson_syntax.specs.Reads.{of_files, wide}
 use Rattle.meson_syntax.specs.Tree as tree
-use Rattle.meson_syntax.specs.Tree.{Nowhere, Plain, erase, erase_argument, erase_listing}
-use Rattle.meson_syntax.specs.View.{view}
 use Rattle.meson_syntax.proofs.parsing.FileErased.{file-words-erased}
-use Rattle.meson_syntax.proofs.parsing.Steps.{some-injective}
 use Rattle.meson_edit.proofs.paths.Erased.{lists-erase}
 use Rattle.meson_syntax.proofs.paths.Reaching.{list-fits, map-some}
-use Rattle.meson_edit.specs.Edits.{elements}
-use Rattle.meson_calls.specs.declared.call.CallRef.{CallRef}
-use Rattle.meson_keywords.specs.Changing.{CallStands}
-use Rattle.meson_calls.specs.GoodLists.{GoodListing}
 use Rattle.meson_steps.specs.declared.journal.Saved.{Saved}
 use Rattle.meson_steps.specs.Journal.{is_saved}
-use Rattle.meson_steps.specs.ListSteps.{MayStandBetween, wide_depth}
-use Rattle.meson_calls.specs.Loading.{views}
-use Rattle.meson_calls.specs.Strings.{AreGood}
-use Rattle.meson_keywords.specs.TaskSteps.{elements_in}
-use Rattle.meson_steps.specs.Working.{AreKnown}
 use Rattle.meson_keywords.proofs.CallEdits.{elements_are}
-use Rattle.meson_calls.proofs.GoodParts.{good_left, good_right}
 use Rattle.meson_calls.proofs.GoodTexts.{text_good}
-use Rattle.meson_calls.proofs.Nested.{good_listing}
-use Rattle.meson_steps.proofs.PlainTrees.{erased_elements, tree_there}
 use Rattle.meson_calls.proofs.Standing.{nth_there}
 use Rattle.meson_steps.proofs.OtherBytes.{as_many_plain}
 use Rattle.meson_steps.proofs.WorkLimits.{plain_all}

@@ -1,25 +1,9 @@
 -- The call that an id names leaves room for an array among its arguments.
-use Rattle.std.proofs.Common.{◌≡◌, ℕ, ◌+◌, ◌≤◌, List, [], ◌∷◌, map, Ok, refl, ap, ◌∙◌, arith}
-use Rattle.meson_lex.specs.declared.kinds.Span.{Span}
-use Rattle.meson_splice.specs.declared.file_set.File.{File}
-use Rattle.meson_syntax.specs.declared.tree.Parsed.{Parsed}
-use Rattle.meson_syntax.specs.Grammar.{file_depth, listing_depth}
-use Rattle.meson_syntax.specs.Tree.{Nowhere, Listing, listing, erase}
-use Rattle.meson_syntax.specs.View.{view}
+use Rattle.meson_keywords.proofs.Words.{◌≡◌, ℕ, ◌+◌, ◌≤◌, List, [], ◌∷◌, map, Ok, refl, ap, ◌∙◌, arith, File, Span, file_depth, listing_depth, Nowhere, Listing}
+use Rattle.meson_keywords.proofs.Words.{listing, erase, view, Parsed, CallThere, Call, Loaded, IsProject, named_trees, project, views, Placed, Role}
+use Rattle.meson_keywords.proofs.Words.{calls_stand, plain_trees, tree_is, parsed_shallow, plain_place, all_nth, CallStands, trees_of}
 use Rattle.meson_edit.proofs.paths.DeepLists.{depths-grow}
-use Rattle.meson_calls.specs.declared.call.Role.{Role}
-use Rattle.meson_calls.specs.Calls.{Call}
-use Rattle.meson_keywords.specs.Changing.{CallStands}
-use Rattle.meson_calls.specs.Loading.{Loaded, IsProject, named_trees, project, views}
-use Rattle.meson_steps.specs.ResultLimits.{plain_trees}
 use Rattle.meson_calls.specs.Finding.{the_call}
-use Rattle.meson_calls.specs.Project.{Placed}
-use Rattle.meson_calls.specs.CallPlaces.{CallThere}
-use Rattle.meson_keywords.specs.TaskSteps.{trees_of}
-use Rattle.meson_calls.proofs.CallsFound.{calls_stand}
-use Rattle.meson_steps.proofs.PlainTrees.{tree_is}
-use Rattle.meson_steps.proofs.PlainTrees.{parsed_shallow, plain_place}
-use Rattle.meson_steps.proofs.WithOne.{all_nth}
 
 -- the trees of a project without spans
 erased_trees : (files : List File) (parsed : List Parsed) → trees_of (named_trees files (views files parsed)) ≡ map erase (views files parsed)

@@ -1,15 +1,6 @@
 -- A task that is done on a call that stands: it may be done, leaves the call standing, and leaves of it what it should.
-use Rattle.std.proofs.Common.{◌≡◌, List, sym, subst₂}
-use Rattle.std.specs.Prelude.{All, Ok}
-use Rattle.meson_syntax.specs.Tree.{Nowhere, Plain, Argument}
-use Rattle.meson_calls.specs.declared.call.CallRef.{CallRef}
-use Rattle.meson_steps.specs.ListSteps.{MayStandBetween}
-use Rattle.meson_steps.specs.Steps.{Step}
-use Rattle.meson_keywords.specs.Changing.{CallStands}
-use Rattle.meson_keywords.specs.inside.Leaving.{LeavesCall}
-use Rattle.meson_keywords.specs.Effects.{TaskLeaves}
-use Rattle.meson_keywords.specs.Tasks.{Task}
-use Rattle.meson_keywords.specs.TaskSteps.{elements_in, task_steps, trees_after}
+use Rattle.meson_keywords.proofs.Words.{◌≡◌, List, sym, subst₂, All, Ok, Nowhere, Plain, Argument, CallRef, MayStandBetween, Step, CallStands, TaskLeaves}
+use Rattle.meson_keywords.proofs.Words.{elements_in, task_steps, trees_after, Task, LeavesCall}
 use Rattle.meson_keywords.proofs.CallEdits.{LeavesAs, elements_are, xs}
 
 pub record Does (t : Task) (c : CallRef) (trees : List Plain) (steps : List Step) : Type 0 where

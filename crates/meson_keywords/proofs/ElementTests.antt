@@ -1,12 +1,7 @@
 -- Texts are tested one after another whether they may be the elements of a list.
-use Rattle.std.proofs.Common.{◌≡◌, ℕ, suc, ◌+◌, ◌<◌, ◌≤◌, true, false, List, [], ◌∷◌, length, get_or, drop, refl, sym, ap, ◌∙◌, add-one}
-use Rattle.std.specs.Prelude.{Bool, ◌&&◌}
-use Rattle.std.specs.List.{list_all}
-use Rattle.std.proofs.Math.Seq.{drop-cons}
-use Rattle.std.proofs.lemmas.List.{drop_all}
-use Rattle.meson_keywords.specs.declared.value_kinds.ElementKind.{ElementKind}
+use Rattle.meson_keywords.proofs.Words.{◌≡◌, ℕ, suc, ◌+◌, ◌<◌, ◌≤◌, true, false, List, [], ◌∷◌, length, get_or, drop, refl, sym, ap, ◌∙◌, add-one, Bool, ◌&&◌}
+use Rattle.meson_keywords.proofs.Words.{list_all, drop-cons, drop_all, are_elements, is_identifier, ElementKind}
 use Rattle.meson_keywords.specs.declared.value_kinds.ElementKind.TheVariants as element
-use Rattle.meson_keywords.specs.ValueKinds.{are_elements, is_identifier}
 
 and_true : (b : Bool) → b && true ≡ b
 and_true true = refl

@@ -1,36 +1,20 @@
 -- What the elements of a list say, one after another.
-use Rattle.std.proofs.Common.{rules, ◌≡◌, ℕ, ◌+◌, ◌<◌, ◌≤◌, true, false, List, [], ◌∷◌, ◌++◌, length, get_or, drop, map, Option, Some, None, refl, sym, ap, ◌∙◌, subst, arith, add-one, append_assoc}
-use Rattle.std.specs.Prelude.{Bool, ◌&&◌, ◌||◌, bytes_eq, is_some, reverse, if◌then◌else◌, Ok}
-use Rattle.std.specs.List.{cons_option, filter_map, list_any}
-use Rattle.std.proofs.Math.Seq.{drop-cons}
-use Rattle.std.proofs.lemmas.List.{reverse-append}
+use Rattle.meson_keywords.proofs.Words.{rules, ◌≡◌, ℕ, ◌+◌, ◌<◌, ◌≤◌, true, false, List, [], ◌∷◌, ◌++◌, length, get_or, drop, map, Option, Some, None, refl}
+use Rattle.meson_keywords.proofs.Words.{sym, ap, ◌∙◌, subst, arith, add-one, append_assoc, Bool, ◌&&◌, ◌||◌, bytes_eq, is_some, reverse, if◌then◌else◌, Ok}
+use Rattle.meson_keywords.proofs.Words.{cons_option, filter_map, list_any, drop-cons, reverse-append, bytes_eq-Decides, Span, argument_words, expression_words}
+use Rattle.meson_keywords.proofs.Words.{mark, Expression, Argument, dictionary, pair, arg_view, args_view, expr_view, list_view, Arg, Numbered, value_with_name}
+use Rattle.meson_keywords.proofs.Words.{GoodArgs, IsFirstNamed, kept_args, one_of, AreGood, plain_view, good_left, good_arg, distinct_by, all_of_kind}
+use Rattle.meson_keywords.proofs.Words.{element_text, one_at_most, passing, says, key_text, keys_known, ElementKind}
 use Rattle.std.proofs.lemmas.List.Folds.{list_any-append}
 use Rattle.std.proofs.lemmas.List.Sorted.{list_any-IsPermutation, IsPermutation-reverse}
-use Rattle.std.proofs.lemmas.Slice.Eq.{bytes_eq-Decides}
 use Rattle.meson_lex.specs.declared.kinds.Kind.TheVariants as k
-use Rattle.meson_lex.specs.declared.kinds.Span.{Span}
-use Rattle.meson_syntax.specs.declared.tree.Arg.{Arg}
 use Rattle.meson_syntax.specs.declared.tree.Arg.TheVariants as arg
 use Rattle.meson_syntax.specs.declared.tree.Arg.TheFolds.{the_lemmas}
 use Rattle.meson_syntax.specs.declared.tree.Expr.{Expr}
 use Rattle.meson_syntax.specs.declared.tree.Expr.TheVariants as expr
 use Rattle.meson_syntax.specs.declared.tree.List as rust
-use Rattle.meson_syntax.specs.Grammar.{argument_words, expression_words, mark}
-use Rattle.meson_syntax.specs.Tree.{Expression, Argument, dictionary, pair}
-use Rattle.meson_syntax.specs.View.{arg_view, args_view, expr_view, list_view}
-use Rattle.meson_keywords.specs.declared.value_kinds.ElementKind.{ElementKind}
 use Rattle.meson_calls.specs.Calls as calls
-use Rattle.meson_calls.specs.Calls.{Numbered, value_with_name}
-use Rattle.meson_calls.specs.NamedArguments.{IsFirstNamed, kept_args}
-use Rattle.meson_calls.specs.GoodLists.{GoodArgs}
-use Rattle.meson_keywords.specs.KeywordEdits.{all_of_kind, element_text, one_at_most, passing, says, the_value}
-use Rattle.meson_keywords.specs.Options.{key_text, keys_known}
-use Rattle.meson_calls.specs.Roles.{one_of}
-use Rattle.meson_steps.specs.Names.{distinct_by}
-use Rattle.meson_calls.specs.Strings.{AreGood}
-use Rattle.meson_calls.proofs.ArgumentViews.{plain_view}
-use Rattle.meson_calls.proofs.GoodParts.{good_left}
-use Rattle.meson_calls.proofs.Nested.{good_arg}
+use Rattle.meson_keywords.specs.KeywordEdits.{the_value}
 
 -- ---- views
 

@@ -1,23 +1,16 @@
 -- The steps of a task are the same by the elements with spans and by those without.
-use Rattle.std.proofs.Common.{◌≡◌, ℕ, suc, ◌+◌, Bool, true, false, List, [], ◌∷◌, length, map, refl, ap, ◌∙◌}
-use Rattle.std.specs.Prelude.{Option, Some, None, option_map, if◌then◌else◌, bytes_eq, is_some, ◌&&◌, Result, Ok}
-use Rattle.std.specs.List.{cons_option, filter_map}
-use Rattle.meson_lex.specs.declared.kinds.Span.{Span}
-use Rattle.meson_splice.specs.Patch.{then_ok}
-use Rattle.meson_syntax.specs.Tree.{Nowhere, Expression, identifier, string, array, dictionary, Argument, plain, named, pair, arguments_of, erase_argument, erase_expression}
-use Rattle.meson_calls.specs.declared.call.CallRef.{CallRef}
-use Rattle.meson_keywords.specs.declared.value_kinds.ElementKind.{ElementKind}
+use Rattle.meson_keywords.proofs.Words.{◌≡◌, ℕ, suc, ◌+◌, Bool, true, false, List, [], ◌∷◌, length, map, refl, ap, ◌∙◌, Option, Some, None, option_map}
+use Rattle.meson_keywords.proofs.Words.{if◌then◌else◌, bytes_eq, is_some, ◌&&◌, Result, Ok, cons_option, filter_map, then_ok, Span, Nowhere, Expression}
+use Rattle.meson_keywords.proofs.Words.{identifier, string, array, dictionary, Argument, plain, named, pair, arguments_of, erase_argument, erase_expression}
+use Rattle.meson_keywords.proofs.Words.{Numbered, numbered, kept_number, value_with_name, child, CallRef, Refusal, erased_elements, ValueShape, an_array}
+use Rattle.meson_keywords.proofs.Words.{no_array, add_by_shape, all_behind, all_of_kind, behind_all, element_text, keyword_in, new_elements, one_at_most}
+use Rattle.meson_keywords.proofs.Words.{passing, remove_by_shape, remove_equal, removed_from, says, value_shape, text_in, delete_by_shape, delete_by_value}
+use Rattle.meson_keywords.proofs.Words.{entries, has_key, is_entry, is_entry_element, key_text, keys_known, of_list, option_text, options_key, set_by_shape}
+use Rattle.meson_keywords.proofs.Words.{set_by_value, set_in_dictionary, set_in_list, task_steps, Task, set, delete, add, remove, once, set_option}
+use Rattle.meson_keywords.proofs.Words.{delete_option, written_list, written_named, ElementKind}
 use Rattle.meson_keywords.specs.declared.value_kinds.ElementKind.TheVariants as element
-use Rattle.meson_calls.specs.declared.refusal.Refusal.{Refusal}
-use Rattle.meson_calls.specs.Calls.{Numbered, numbered, kept_number, value_with_name}
 use Rattle.meson_calls.specs.Calls as calls
-use Rattle.meson_keywords.specs.ValueKinds.{written_list, written_named}
-use Rattle.meson_keywords.specs.KeywordEdits.{ValueShape, an_array, no_array, add_by_shape, all_behind, all_of_kind, behind_all, element_text, keyword_in, new_elements, one_at_most, passing, remove_by_shape, remove_equal, removed_from, says, value_shape, text_in, the_value}
-use Rattle.meson_keywords.specs.Options.{delete_by_shape, delete_by_value, entries, has_key, is_entry, is_entry_element, key_text, keys_known, of_list, option_text, options_key, set_by_shape, set_by_value, set_in_dictionary, set_in_list}
-use Rattle.meson_calls.specs.Project.{child}
-use Rattle.meson_keywords.specs.Tasks.{Task, set, delete, add, remove, once, set_option, delete_option}
-use Rattle.meson_keywords.specs.TaskSteps.{task_steps}
-use Rattle.meson_steps.proofs.PlainTrees.{erased_elements}
+use Rattle.meson_keywords.specs.KeywordEdits.{the_value}
 
 -- ---- the keyword argument in hand
 

@@ -1,17 +1,10 @@
 -- The arguments of a call, by their names, where the one of a name comes, goes or gets another value.
-use Rattle.std.proofs.Common.{◌≡◌, ℕ, suc, ◌+◌, true, false, List, [], ◌∷◌, ◌++◌, length, map, take, drop, append-nil, Some, None, refl, sym, ap, ap₂, ◌∙◌, arith}
-use Rattle.std.specs.Prelude.{Bool, if◌then◌else◌, bytes_eq, cond, is_none, option_map}
-use Rattle.std.specs.List.{cons_option, filter_map}
-use Rattle.std.proofs.lemmas.List.Elements.{filter-append, filter_map-append}
-use Rattle.std.proofs.Math.Seq.{take-append_seam}
-use Rattle.std.proofs.lemmas.Slice.Eq.{bytes_eq-Decides}
-use Rattle.meson_syntax.specs.Tree.{Name, bare_name, Nowhere, Expression, Argument, plain, named, pair, arguments_of}
-use Rattle.meson_syntax.specs.Paths.{nth}
-use Rattle.meson_edit.specs.Edits.{element_removed}
-use Rattle.meson_calls.specs.Calls.{Numbered, numbered, kept_number, value_with_name}
-use Rattle.meson_keywords.specs.Effects.{is_other, others, values_of}
-use Rattle.meson_keywords.specs.KeywordEdits.{keyword_in}
-use Rattle.meson_steps.proofs.InnerPlaces.{exchanged_at}
+use Rattle.meson_keywords.proofs.Words.{◌≡◌, ℕ, suc, ◌+◌, true, false, List, [], ◌∷◌, ◌++◌, length, map, take, drop, Some, None, refl, sym, ap, ap₂, ◌∙◌, arith}
+use Rattle.meson_keywords.proofs.Words.{Bool, if◌then◌else◌, bytes_eq, cond, is_none, option_map, cons_option, filter_map, take-append_seam, filter-append}
+use Rattle.meson_keywords.proofs.Words.{filter_map-append, bytes_eq-Decides, nth, Name, bare_name, Nowhere, Expression, Argument, plain, named, pair}
+use Rattle.meson_keywords.proofs.Words.{arguments_of, element_removed, Numbered, numbered, kept_number, value_with_name, exchanged_at, is_other, others}
+use Rattle.meson_keywords.proofs.Words.{values_of, keyword_in}
+use Rattle.std.proofs.Common.{append-nil}
 
 -- ---- lists that are cut at an element
 

@@ -1,17 +1,8 @@
 -- The keyword arguments that commands change are identifiers, so they may be written.
-use Rattle.std.proofs.Common.{◌≡◌, ℕ, true, false, List, [], ◌∷◌, refl, subst}
-use Rattle.std.specs.Prelude.{Bool, ◌||◌, bytes_eq}
-use Rattle.std.specs.List.{list_all}
-use Rattle.std.specs.Str.{IsUtf8}
-use Rattle.std.proofs.lemmas.Bool.{and_parts}
-use Rattle.std.proofs.lemmas.Slice.Eq.{bytes_eq-Decides}
-use Rattle.meson_calls.specs.declared.call.Role.{Role}
+use Rattle.meson_keywords.proofs.Words.{◌≡◌, ℕ, true, false, List, [], ◌∷◌, refl, subst, Bool, ◌||◌, bytes_eq, list_all, IsUtf8, and_parts, bytes_eq-Decides}
+use Rattle.meson_keywords.proofs.Words.{text_keys, switch_keys, text_list_keys, identifier_list_keys, one_of, Role, IsKey, is_identifier}
 use Rattle.meson_calls.specs.declared.call.Role.TheVariants as role
-use Rattle.meson_calls.specs.Keys.{text_keys, switch_keys, text_list_keys, identifier_list_keys}
-use Rattle.meson_keywords.specs.ValueKinds.{is_identifier}
-use Rattle.meson_calls.specs.Roles.{one_of}
-use Rattle.meson_keywords.specs.Tasking.{IsKey}
-use Rattle.meson_keywords.proofs.IdentifierTexts.{identifier_true}
+use Rattle.meson_steps.proofs.Identifiers.{identifier_true}
 
 one_is : (ks : List (List ℕ)) (key : List ℕ) → list_all is_identifier ks ≡ true → one_of ks key ≡ true → is_identifier key ≡ true
 one_is [] key all is = absurd cc

@@ -1,3 +1,4 @@
+mod Words
 mod ArrayEdits
 mod AskedTasks
 mod CallEdits
@@ -7,7 +8,6 @@ mod Does
 mod ElementTests
 mod ElementsSay
 mod ErasedSteps
-mod IdentifierTexts
 mod KeptArguments
 mod KeyNames
 mod NamedWritten

@@ -1,20 +1,12 @@
 -- Entries of default options: what a new one says, and the entries with it.
-use Rattle.std.proofs.Common.{◌≡◌, ℕ, true, false, List, [], ◌∷◌, ◌++◌, append-nil, codes, IsUtf8, Option, Some, None, refl, sym, ap, ap₂, ◌∙◌}
-use Rattle.std.specs.Prelude.{Bool, ◌==◌, cond, if◌then◌else◌, is_some, map, not, option_and_then, option_map}
+use Rattle.meson_keywords.proofs.Words.{◌≡◌, ℕ, true, false, List, [], ◌∷◌, ◌++◌, codes, Option, Some, None, refl, sym, ap, ap₂, ◌∙◌, Bool, ◌==◌, cond}
+use Rattle.meson_keywords.proofs.Words.{if◌then◌else◌, is_some, map, not, option_and_then, option_map, filter, filter-append, bytes_eq-Decides, literal_value}
+use Rattle.meson_keywords.proofs.Words.{Nowhere, Argument, plain, named, pair, with_value, string_of, after_equals, is_of, value_of_option, all_of_kind}
+use Rattle.meson_keywords.proofs.Words.{element_text, passing, key_text, keys_known, option_text, before_equals}
+use Rattle.std.proofs.Common.{append-nil, IsUtf8}
 use Rattle.std.specs.Char.{encode_utf8}
-use Rattle.std.specs.List.{filter}
-use Rattle.std.proofs.lemmas.List.Elements.{filter-append}
-use Rattle.std.proofs.lemmas.Slice.Eq.{bytes_eq-Decides}
-use Rattle.meson_lex.proofs.Written.{literal_value}
-use Rattle.meson_syntax.specs.Tree.{Nowhere, Argument, plain, named, pair}
-use Rattle.meson_edit.specs.Edits.{with_value}
 use Rattle.meson_calls.specs.Calls as calls
 use Rattle.meson_keywords.specs.declared.value_kinds.ElementKind.TheVariants as element
-use Rattle.meson_keywords.specs.Effects.{after_equals, is_of, value_of_option}
-use Rattle.meson_keywords.specs.KeywordEdits.{all_of_kind, element_text, passing}
-use Rattle.meson_keywords.specs.Options.{key_text, keys_known, option_text}
-use Rattle.meson_keywords.specs.Tasks.{before_equals}
-use Rattle.meson_steps.specs.WrittenTexts.{string_of}
 use Rattle.meson_keywords.proofs.PassingElements.{FirstPasses, none_left, kept_again, none_pass, rest_known}
 
 -- ---- a text NAME=VALUE, where no `=` stands in the name

@@ -1,40 +1,27 @@
 -- The task that sets a default option of a call that stands.
-use Rattle.std.proofs.Common.{◌≡◌, ℕ, zero, suc, ◌+◌, ◌-◌, true, false, List, [], ◌∷◌, ◌++◌, append_assoc, length, length-append, map, take, drop, codes, IsUtf8, Option, Some, None, refl, sym, ap, ap₂, ◌∙◌, subst, arith}
-use Rattle.std.specs.Prelude.{All, Bool, if◌then◌else◌, not, Ok, slice_set}
+use Rattle.meson_keywords.proofs.Words.{◌≡◌, ℕ, zero, suc, ◌+◌, ◌-◌, true, false, List, [], ◌∷◌, ◌++◌, append_assoc, length, length-append, map, take, drop}
+use Rattle.meson_keywords.proofs.Words.{codes, Option, Some, None, refl, sym, ap, ap₂, ◌∙◌, subst, arith, All, Bool, if◌then◌else◌, not, Ok, slice_set, filter}
+use Rattle.meson_keywords.proofs.Words.{take-append_seam, then_ok, literal, nth, value_of, Nowhere, Plain, Expression, array, dictionary, Listing, Argument}
+use Rattle.meson_keywords.proofs.Words.{plain, named, pair, Replace, elements, with_elements, with_value, Numbered, child, CallRef, MayStandBetween, Step}
+use Rattle.meson_keywords.proofs.Words.{step_in, string_of, written_text, Container, array_container, dictionary_container, elements_with, text_written}
+use Rattle.meson_keywords.proofs.Words.{CallStands, Holds, TaskLeaves, held_elements, held_in, holds, is_of, value_of_option, put_behind, all_of_kind}
+use Rattle.meson_keywords.proofs.Words.{behind_all, keyword_in, one_at_most, passing, removed_from, value_shape, text_in, entries, has_key, is_entry}
+use Rattle.meson_keywords.proofs.Words.{is_entry_element, keys_known, of_lone, option_text, options_key, set_by_shape, set_by_value, set_in_dictionary}
+use Rattle.meson_keywords.proofs.Words.{set_in_list, set_in_lone, set_option_there, written_pair, task_steps, before_equals, set_option, written_list}
+use Rattle.meson_keywords.proofs.Words.{written_named}
+use Rattle.std.proofs.Common.{IsUtf8}
 use Rattle.std.specs.Char.{encode_utf8}
-use Rattle.std.specs.List.{filter}
-use Rattle.std.proofs.Math.Seq.{take-append_seam}
-use Rattle.meson_lex.specs.Literals.{literal}
-use Rattle.meson_splice.specs.Patch.{then_ok}
-use Rattle.meson_syntax.specs.Tree.{Nowhere, Plain, Expression, array, dictionary, Listing, Argument, plain, named, pair}
-use Rattle.meson_syntax.specs.Paths.{nth, value_of}
-use Rattle.meson_edit.specs.Edits.{Replace, elements, with_elements, with_value}
-use Rattle.meson_calls.specs.declared.call.CallRef.{CallRef}
 use Rattle.meson_keywords.specs.declared.value_kinds.ElementKind.TheVariants as element
-use Rattle.meson_calls.specs.Calls.{Numbered}
-use Rattle.meson_keywords.specs.Changing.{CallStands}
-use Rattle.meson_keywords.specs.Effects.{Holds, TaskLeaves, held_elements, held_in, holds, is_of, value_of_option, put_behind}
-use Rattle.meson_keywords.specs.KeywordEdits.{all_of_kind, behind_all, keyword_in, one_at_most, passing, removed_from, value_shape, text_in}
-use Rattle.meson_keywords.specs.ValueKinds.{written_list, written_named}
-use Rattle.meson_steps.specs.ListSteps.{MayStandBetween}
-use Rattle.meson_keywords.specs.Options.{entries, has_key, is_entry, is_entry_element, keys_known, of_lone, option_text, options_key, set_by_shape, set_by_value, set_in_dictionary, set_in_list, set_in_lone, set_option_there, written_pair}
-use Rattle.meson_calls.specs.Project.{child}
-use Rattle.meson_steps.specs.WrittenTexts.{string_of, written_text}
-use Rattle.meson_steps.specs.Steps.{Step, step_in}
-use Rattle.meson_keywords.specs.TaskSteps.{task_steps}
-use Rattle.meson_keywords.specs.Tasks.{before_equals, set_option}
 use Rattle.meson_keywords.proofs.ArrayEdits.{HoldsAs, more_hold, put_step, puts_hold, still_there, swap_step, value_put, wrap_holds, holds_same}
 use Rattle.meson_keywords.proofs.CallEdits.{elements_are, insert_step, inserted_leaves, one_leaves, replace_step, xs}
 use Rattle.meson_keywords.proofs.Does.{Does, TaskDoes, does}
-use Rattle.meson_keywords.proofs.IdentifierTexts.{identifier_true}
-use Rattle.meson_steps.proofs.InnerPlaces.{Container, array_container, dictionary_container}
-use Rattle.meson_steps.proofs.Insertable.{elements_with}
-use Rattle.meson_keywords.proofs.KeptArguments.{OneNamed, come_others, come_value, drop_seam, is_it, it, none_there, nth_seam, one_named, put_others, put_value, value_there}
+use Rattle.meson_steps.proofs.Identifiers.{identifier_true}
+use Rattle.meson_keywords.proofs.KeptArguments.{OneNamed, come_others, come_value, drop_seam, is_it, it, none_there, nth_seam, one_named, put_others, put_value}
+use Rattle.meson_keywords.proofs.KeptArguments.{value_there}
 use Rattle.meson_keywords.proofs.NamedWritten.{named_written, pair_written}
 use Rattle.meson_keywords.proofs.OptionEntries.{EntrySet, behind_set, first_put, lone_put, new_entry, new_pair, known_plain, known_pair}
 use Rattle.meson_keywords.proofs.PassingElements.{FirstPasses, entry_tests, first_passes, key_tests, left_after, passing_gone}
 use Rattle.meson_keywords.proofs.RemovalsDoable.{Left, of_list_known, passing_left, removes_hold}
-use Rattle.meson_steps.proofs.StepsDoable.{text_written}
 use Rattle.meson_keywords.proofs.TasksDoable.{flat_text, holds_these, lone_held}
 use Rattle.meson_keywords.proofs.TasksSoFar.{option_may}
 use Rattle.meson_keywords.proofs.WrittenElements.{list_level, list_shallow, list_written}

@@ -1,13 +1,8 @@
 -- The elements that pass a test: those that are left where they go one after another, and the first one exchanged.
-use Rattle.std.proofs.Common.{◌≡◌, ℕ, suc, ◌+◌, ◌-◌, true, false, List, [], ◌∷◌, ◌++◌, append_assoc, length, length-append, take, drop, refl, sym, ap, ap₂, ◌∙◌, subst, arith}
-use Rattle.std.specs.Prelude.{Bool, ◌&&◌, cond, if◌then◌else◌, is_some, not}
-use Rattle.std.specs.List.{filter}
-use Rattle.std.proofs.Math.Seq.{take-append_seam}
-use Rattle.meson_syntax.specs.Tree.{Nowhere, Argument, plain, named, pair}
+use Rattle.meson_keywords.proofs.Words.{◌≡◌, ℕ, suc, ◌+◌, ◌-◌, true, false, List, [], ◌∷◌, ◌++◌, append_assoc, length, length-append, take, drop, refl, sym, ap}
+use Rattle.meson_keywords.proofs.Words.{ap₂, ◌∙◌, subst, arith, Bool, ◌&&◌, cond, if◌then◌else◌, is_some, not, filter, take-append_seam, Nowhere, Argument}
+use Rattle.meson_keywords.proofs.Words.{plain, named, pair, is_of, all_of_kind, element_text, passing, has_key, is_entry_element, key_text, keys_known}
 use Rattle.meson_keywords.specs.declared.value_kinds.ElementKind.TheVariants as element
-use Rattle.meson_keywords.specs.Effects.{is_of}
-use Rattle.meson_keywords.specs.KeywordEdits.{all_of_kind, element_text, passing}
-use Rattle.meson_keywords.specs.Options.{has_key, is_entry_element, key_text, keys_known}
 use Rattle.meson_keywords.proofs.KeptArguments.{drop_seam}
 
 -- ---- those that are left

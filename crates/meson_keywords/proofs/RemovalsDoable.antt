@@ -1,32 +1,18 @@
 -- Tasks that take something away: values are removed from a keyword argument, and a default option is deleted.
-use Rattle.std.proofs.Common.{◌≡◌, ℕ, zero, suc, ◌+◌, ◌-◌, ◌<◌, ◌≤◌, true, false, List, [], ◌∷◌, ◌++◌, length, take, drop, Option, Some, None, refl, sym, ap, ◌∙◌, subst, arith}
-use Rattle.std.specs.Prelude.{All, Bool, bytes_eq, cond, if◌then◌else◌, not, Result, Ok, Err, map, slice_set}
-use Rattle.std.specs.List.{filter}
-use Rattle.meson_splice.specs.Patch.{then_ok}
-use Rattle.meson_syntax.specs.Tree.{Nowhere, Plain, Expression, array, dictionary, Listing, Argument, plain}
-use Rattle.meson_syntax.specs.Paths.{nth, value_of}
-use Rattle.meson_edit.specs.Edits.{Remove, elements, element_removed, with_elements, with_value}
-use Rattle.meson_calls.specs.declared.call.CallRef.{CallRef}
-use Rattle.meson_keywords.specs.declared.value_kinds.ElementKind.{ElementKind}
+use Rattle.meson_keywords.proofs.Words.{◌≡◌, ℕ, zero, suc, ◌+◌, ◌-◌, ◌<◌, ◌≤◌, true, false, List, [], ◌∷◌, ◌++◌, length, take, drop, Option, Some, None, refl}
+use Rattle.meson_keywords.proofs.Words.{sym, ap, ◌∙◌, subst, arith, All, Bool, bytes_eq, cond, if◌then◌else◌, not, Result, Ok, Err, map, slice_set, filter}
+use Rattle.meson_keywords.proofs.Words.{then_ok, nth, value_of, Nowhere, Plain, Expression, array, dictionary, Listing, Argument, plain, Remove, elements}
+use Rattle.meson_keywords.proofs.Words.{element_removed, with_elements, with_value, Numbered, child, CallRef, Refusal, NotLiteral, MayStandBetween, Step}
+use Rattle.meson_keywords.proofs.Words.{step_in, Container, array_container, dictionary_container, exchanged_at, elements_with, CallStands, Holds, OptionIs}
+use Rattle.meson_keywords.proofs.Words.{held_elements, held_in, holds, is_of, value_of_option, values_of, all_of_kind, keyword_in, one_at_most, passing}
+use Rattle.meson_keywords.proofs.Words.{remove_by_shape, remove_equal, remove_lone, remove_there, removed_from, says, value_shape, text_in, delete_by_shape}
+use Rattle.meson_keywords.proofs.Words.{delete_by_value, delete_lone, delete_option_there, entries, has_key, is_entry, is_entry_element, keys_known, of_list}
+use Rattle.meson_keywords.proofs.Words.{of_lone, options_key, task_steps, remove, delete_option, ElementKind}
 use Rattle.meson_keywords.specs.declared.value_kinds.ElementKind.TheVariants as element
-use Rattle.meson_calls.specs.declared.refusal.Refusal.{Refusal}
-use Rattle.meson_calls.specs.declared.refusal.Refusal.TheVariants.{NotLiteral}
 use Rattle.meson_calls.specs.Calls as calls
-use Rattle.meson_calls.specs.Calls.{Numbered}
-use Rattle.meson_keywords.specs.Changing.{CallStands}
-use Rattle.meson_keywords.specs.Effects.{Holds, OptionIs, held_elements, held_in, holds, is_of, value_of_option, values_of}
-use Rattle.meson_keywords.specs.KeywordEdits.{all_of_kind, keyword_in, one_at_most, passing, remove_by_shape, remove_equal, remove_lone, remove_there, removed_from, says, value_shape, text_in}
-use Rattle.meson_steps.specs.ListSteps.{MayStandBetween}
-use Rattle.meson_keywords.specs.Options.{delete_by_shape, delete_by_value, delete_lone, delete_option_there, entries, has_key, is_entry, is_entry_element, keys_known, of_list, of_lone, options_key}
-use Rattle.meson_calls.specs.Project.{child}
-use Rattle.meson_steps.specs.Steps.{Step, step_in}
-use Rattle.meson_keywords.specs.TaskSteps.{task_steps}
-use Rattle.meson_keywords.specs.Tasks.{remove, delete_option}
 use Rattle.meson_keywords.proofs.ArrayEdits.{HoldsAs, gone_step, holds_same, more_hold, still_there, value_put}
 use Rattle.meson_keywords.proofs.CallEdits.{elements_are, none_leaves, one_leaves, remove_step, xs}
 use Rattle.meson_keywords.proofs.Does.{Does, TaskDoes, does}
-use Rattle.meson_steps.proofs.InnerPlaces.{Container, array_container, dictionary_container, exchanged_at}
-use Rattle.meson_steps.proofs.Insertable.{elements_with}
 use Rattle.meson_keywords.proofs.KeptArguments.{OneNamed, gone_others, gone_value, is_it, it, none_there, one_named, value_there}
 use Rattle.meson_keywords.proofs.PassingElements.{entry_tests, key_tests, kept_again, left_after, none_left, passing_gone}
 use Rattle.meson_keywords.proofs.TasksDoable.{holds_these, lone_held}

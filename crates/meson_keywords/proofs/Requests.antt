@@ -1,32 +1,12 @@
 -- What a request means, by the call that it names, its words and the hidden arguments of the call.
-use Rattle.std.proofs.Common.{◌≡◌, ℕ, List, sym, ap, ◌∙◌, subst}
-use Rattle.std.specs.Prelude.{Result, Ok, Err}
-use Rattle.meson_lex.specs.declared.kinds.Span.{Span}
-use Rattle.meson_splice.specs.Patch.{then_ok}
-use Rattle.meson_splice.specs.declared.file_set.File.{File}
+use Rattle.meson_keywords.proofs.Words.{◌≡◌, ℕ, List, sym, ap, ◌∙◌, subst, Result, Ok, Err, then_ok, File, Span, list_view, Parsed, CallIn, Call, keyword}
+use Rattle.meson_keywords.proofs.Words.{value_with_name, call_with, AreParsed, IsProject, Loaded, project, not_hidden, kept_args, kwargs_key, Project, Placed}
+use Rattle.meson_keywords.proofs.Words.{CallRef, Role, Refusal, calls_stand, placed_at, call_there, call_refused, plain_trees, Step, CallStands, request_steps}
+use Rattle.meson_keywords.proofs.Words.{call_changed, tasks_steps, trees_of, Asked, asked_tasks, Task}
 use Rattle.meson_syntax.specs.declared.tree.List as rust
-use Rattle.meson_syntax.specs.declared.tree.Parsed.{Parsed}
-use Rattle.meson_syntax.specs.View.{list_view}
-use Rattle.meson_calls.specs.declared.call.CallRef.{CallRef}
-use Rattle.meson_calls.specs.declared.call.Role.{Role}
-use Rattle.meson_calls.specs.declared.refusal.Refusal.{Refusal}
-use Rattle.meson_calls.specs.Calls.{Call, keyword, value_with_name}
-use Rattle.meson_keywords.specs.Changing.{CallStands, request_steps}
-use Rattle.meson_calls.specs.Loading.{AreParsed, IsProject, Loaded, project}
-use Rattle.meson_steps.specs.ResultLimits.{plain_trees}
-use Rattle.meson_calls.specs.ChosenNotes.{call_with}
 use Rattle.meson_calls.specs.Finding.{the_call}
-use Rattle.meson_calls.specs.Project.{Project, Placed}
-use Rattle.meson_calls.specs.NamedArguments.{not_hidden, kept_args, kwargs_key}
-use Rattle.meson_calls.specs.CallPlaces.{CallIn}
-use Rattle.meson_steps.specs.Steps.{Step}
-use Rattle.meson_keywords.specs.Tasking.{Asked, asked_tasks}
-use Rattle.meson_keywords.specs.Tasks.{Task}
-use Rattle.meson_keywords.specs.TaskSteps.{call_changed, tasks_steps, trees_of}
 use Rattle.meson_calls.proofs.KeywordArguments.{keyword_is}
 use Rattle.meson_keywords.proofs.CallRoom.{stands_there, trees_are}
-use Rattle.meson_calls.proofs.CallsFound.{calls_stand}
-use Rattle.meson_calls.proofs.OneCall.{placed_at, call_there, call_refused}
 
 -- ---- trees that are read in another place
 

@@ -1,20 +1,11 @@
 -- The steps that a request means leave of its call what its tasks leave.
-use Rattle.std.proofs.Common.{◌≡◌, [], sym, ap, ◌∙◌}
-use Rattle.std.specs.Prelude.{Ok}
-use Rattle.meson_splice.specs.Patch.{then_ok}
-use Rattle.meson_calls.specs.Calls.{keyword}
+use Rattle.meson_keywords.proofs.Words.{◌≡◌, [], sym, ap, ◌∙◌, Ok, then_ok, keyword, project, kwargs_key, not_hidden, plain_trees, then_was, RequestsLeave}
+use Rattle.meson_keywords.proofs.Words.{call_changed, tasks_steps, trees_of, asked_tasks}
 use Rattle.meson_calls.specs.Finding.{the_call}
-use Rattle.meson_calls.specs.Loading.{project}
-use Rattle.meson_calls.specs.NamedArguments.{kwargs_key, not_hidden}
-use Rattle.meson_keywords.specs.Effects.{RequestsLeave}
-use Rattle.meson_keywords.specs.Tasking.{asked_tasks}
-use Rattle.meson_keywords.specs.TaskSteps.{call_changed, tasks_steps, trees_of}
-use Rattle.meson_steps.specs.ResultLimits.{plain_trees}
 use Rattle.meson_keywords.proofs.AskedTasks.{asked_may}
 use Rattle.meson_keywords.proofs.CallKnown.{known_stand}
 use Rattle.meson_keywords.proofs.CallRoom.{call_has_room, trees_are}
 use Rattle.meson_keywords.proofs.StepsLeave.{steps-leave}
-use Rattle.meson_steps.proofs.WentWell.{then_was}
 use Rattle.meson_steps.proofs.WorkKnown.{known_first}
 
 pub requests-leave : RequestsLeave

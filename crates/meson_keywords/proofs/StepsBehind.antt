@@ -1,27 +1,11 @@
 -- Steps of the code behind those before, and steps that are all that is meant.
-use Rattle.std.proofs.Common.{◌≡◌, ℕ, true, false, List, [], ◌∷◌, ◌++◌, map, Option, Some, None, refl, sym, ap, ◌∙◌, append_assoc}
-use Rattle.std.specs.Prelude.{Bool, OnOk, option_map, is_some, if◌then◌else◌, Result, Ok, Err}
-use Rattle.std.proofs.lemmas.List.{map-append, append-nil}
-use Rattle.meson_lex.specs.declared.kinds.Span.{Span}
-use Rattle.meson_splice.specs.Patch.{then_ok}
-use Rattle.meson_syntax.specs.declared.tree.Arg.{Arg}
-use Rattle.meson_syntax.specs.Tree.{Expression}
-use Rattle.meson_syntax.specs.View.{args_view}
-use Rattle.meson_edit.specs.Edits.{Remove}
-use Rattle.meson_calls.specs.declared.refusal.Refusal.{Refusal}
+use Rattle.meson_keywords.proofs.Words.{◌≡◌, ℕ, true, false, List, [], ◌∷◌, ◌++◌, map, Option, Some, None, refl, sym, ap, ◌∙◌, append_assoc, Bool, OnOk}
+use Rattle.meson_keywords.proofs.Words.{option_map, is_some, if◌then◌else◌, Result, Ok, Err, map-append, append-nil, then_ok, Span, Expression, args_view, Arg}
+use Rattle.meson_keywords.proofs.Words.{Remove, Numbered, CallRef, Refusal, NotLiteral, bare, AreBehind, AreMeant, step_in, Step, ListStep, add_to_lone}
+use Rattle.meson_keywords.proofs.Words.{remove_lone, of_list, of_lone, options_key, ElementKind, found_argument}
 use Rattle.meson_keywords.specs.declared.elements.NumberedValue.{NumberedValue}
-use Rattle.meson_steps.specs.declared.step.ListStep.{ListStep}
-use Rattle.meson_calls.specs.declared.call.CallRef.{CallRef}
-use Rattle.meson_keywords.specs.declared.value_kinds.ElementKind.{ElementKind}
-use Rattle.meson_calls.specs.declared.refusal.Refusal.TheVariants.{NotLiteral}
-use Rattle.meson_calls.specs.Calls.{Numbered}
 use Rattle.meson_calls.specs.Calls as calls
-use Rattle.meson_keywords.specs.Options.{of_list, of_lone, options_key}
-use Rattle.meson_steps.specs.Steps.{step_in, Step}
-use Rattle.meson_keywords.specs.KeywordEdits.{add_to_lone, remove_lone, the_value}
-use Rattle.meson_steps.specs.ListSteps.{bare}
-use Rattle.meson_steps.specs.Meanings.{AreBehind, AreMeant}
-use Rattle.meson_keywords.specs.inside.Tasking.{found_argument}
+use Rattle.meson_keywords.specs.KeywordEdits.{the_value}
 
 -- ---- steps
 

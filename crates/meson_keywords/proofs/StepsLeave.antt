@@ -1,19 +1,8 @@
 -- The steps of tasks, one task after another, leave of the call what these tasks leave.
-use Rattle.std.proofs.Common.{◌≡◌, List, [], ◌∷◌, ◌++◌, refl, sym, ap, ◌∙◌, subst}
-use Rattle.std.specs.Prelude.{All, Result, Ok, Err}
-use Rattle.std.specs.List.{AllByRecursion}
-use Rattle.meson_splice.specs.Patch.{then_ok}
-use Rattle.meson_syntax.specs.Tree.{Plain}
-use Rattle.meson_calls.specs.declared.call.CallRef.{CallRef}
-use Rattle.meson_calls.specs.declared.refusal.Refusal.{Refusal}
-use Rattle.meson_keywords.specs.Changing.{CallStands}
-use Rattle.meson_keywords.specs.Effects.{StepsLeave, TasksLeave}
+use Rattle.meson_keywords.proofs.Words.{◌≡◌, List, [], ◌∷◌, ◌++◌, refl, sym, ap, ◌∙◌, subst, All, Result, Ok, Err, AllByRecursion, then_ok, Plain, CallRef}
+use Rattle.meson_keywords.proofs.Words.{Refusal, AreDoable, MayStandBetween, none, one, Step, CallStands, StepsLeave, TasksLeave, elements_in, task_steps}
+use Rattle.meson_keywords.proofs.Words.{tasks_steps, trees_after, MayBeWritten, Task}
 use Rattle.meson_keywords.specs.Effects as effects
-use Rattle.meson_keywords.specs.Tasking.{MayBeWritten}
-use Rattle.meson_keywords.specs.Tasks.{Task}
-use Rattle.meson_keywords.specs.TaskSteps.{elements_in, task_steps, tasks_steps, trees_after}
-use Rattle.meson_steps.specs.ListSteps.{AreDoable, MayStandBetween, none, one}
-use Rattle.meson_steps.specs.Steps.{Step}
 use Rattle.meson_keywords.proofs.CallEdits.{after_one}
 use Rattle.meson_keywords.proofs.TaskMay.{task_does}
 

@@ -1,6 +1,5 @@
 -- What each task means may be done where its call stands, leaves the call standing, and leaves of it what it should.
-use Rattle.meson_keywords.specs.Tasking.{MayBeWritten}
-use Rattle.meson_keywords.specs.Tasks.{Task, set, delete, add, remove, once, set_option, delete_option}
+use Rattle.meson_keywords.proofs.Words.{MayBeWritten, Task, set, delete, add, remove, once, set_option, delete_option}
 use Rattle.meson_keywords.proofs.Does.{TaskDoes}
 use Rattle.meson_keywords.proofs.OptionsDoable.{set_option_does}
 use Rattle.meson_keywords.proofs.RemovalsDoable.{delete_option_does, remove_does}

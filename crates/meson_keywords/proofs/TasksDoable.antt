@@ -1,34 +1,18 @@
 -- Tasks on a keyword argument of a call that stands: it is set or deleted, values are added, and the task that changes nothing.
-use Rattle.std.proofs.Common.{◌≡◌, ℕ, ◌≤◌, List, [], ◌∷◌, ◌++◌, length, map, refl, sym, ap, ◌∙◌, subst, IsUtf8}
-use Rattle.std.specs.Prelude.{All, Option, Some, None, Ok}
-use Rattle.std.specs.List.{cons_option, filter_map}
-use Rattle.meson_lex.specs.Kinds.{IsIdentifier}
-use Rattle.meson_splice.specs.Patch.{then_ok}
-use Rattle.meson_syntax.specs.Tree.{Nowhere, Plain, Expression, identifier, string, array, Argument, plain}
-use Rattle.meson_syntax.specs.Grammar.{LevelExpression, expression_depth, expression_words}
-use Rattle.meson_edit.specs.Edits.{Written, Remove, Replace, Wrap, elements}
-use Rattle.meson_edit.specs.Places.{IsWritten}
-use Rattle.meson_calls.specs.declared.call.CallRef.{CallRef}
-use Rattle.meson_keywords.specs.declared.value_kinds.ElementKind.{ElementKind}
+use Rattle.meson_keywords.proofs.Words.{◌≡◌, ℕ, ◌≤◌, List, [], ◌∷◌, ◌++◌, length, map, refl, sym, ap, ◌∙◌, subst, All, Option, Some, None, Ok, cons_option}
+use Rattle.meson_keywords.proofs.Words.{filter_map, then_ok, IsIdentifier, LevelExpression, expression_depth, expression_words, Nowhere, Plain, Expression}
+use Rattle.meson_keywords.proofs.Words.{identifier, string, array, Argument, plain, Written, Remove, Replace, Wrap, elements, IsWritten, Numbered, child}
+use Rattle.meson_keywords.proofs.Words.{CallRef, MayStandBetween, distinct_by, Step, step_in, Container, array_container, exchanged_at, elements_back}
+use Rattle.meson_keywords.proofs.Words.{CallStands, Holds, coming, held_elements, held_in, put_behind, values_of, add_by_shape, add_there, add_to_lone}
+use Rattle.meson_keywords.proofs.Words.{all_behind, behind_all, element_text, new_elements, value_shape, text_in, delete_there, keyword_in, one_at_most}
+use Rattle.meson_keywords.proofs.Words.{set_there, task_steps, AreElements, set, delete, add, once, element_node, written_list, written_named, ElementKind}
+use Rattle.std.proofs.Common.{IsUtf8}
 use Rattle.meson_keywords.specs.declared.value_kinds.ElementKind.TheVariants as element
-use Rattle.meson_calls.specs.Calls.{Numbered}
-use Rattle.meson_keywords.specs.Changing.{CallStands}
-use Rattle.meson_keywords.specs.Effects.{Holds, coming, held_elements, held_in, put_behind, values_of}
-use Rattle.meson_keywords.specs.KeywordEdits.{add_by_shape, add_there, add_to_lone, all_behind, behind_all, element_text, new_elements, value_shape, text_in, delete_there, keyword_in, one_at_most, set_there}
-use Rattle.meson_keywords.specs.ValueKinds.{element_node, written_list, written_named}
-use Rattle.meson_steps.specs.ListSteps.{MayStandBetween}
-use Rattle.meson_calls.specs.Project.{child}
-use Rattle.meson_steps.specs.Names.{distinct_by}
-use Rattle.meson_steps.specs.Steps.{Step, step_in}
-use Rattle.meson_keywords.specs.Tasking.{AreElements}
-use Rattle.meson_keywords.specs.TaskSteps.{task_steps}
-use Rattle.meson_keywords.specs.Tasks.{set, delete, add, once}
-use Rattle.meson_steps.proofs.Insertable.{elements_back}
 use Rattle.meson_keywords.proofs.ArrayEdits.{HoldsAs, puts_hold, wrap_holds}
 use Rattle.meson_keywords.proofs.CallEdits.{elements_are, insert_step, inserted_leaves, none_leaves, one_leaves, remove_step, replace_step, xs}
 use Rattle.meson_keywords.proofs.Does.{Does, TaskDoes, does}
-use Rattle.meson_steps.proofs.InnerPlaces.{Container, array_container, exchanged_at}
-use Rattle.meson_keywords.proofs.KeptArguments.{OneNamed, come_others, come_value, gone_others, gone_value, is_it, it, none_there, one_named, put_others, put_value, value_there}
+use Rattle.meson_keywords.proofs.KeptArguments.{OneNamed, come_others, come_value, gone_others, gone_value, is_it, it, none_there, one_named, put_others}
+use Rattle.meson_keywords.proofs.KeptArguments.{put_value, value_there}
 use Rattle.meson_keywords.proofs.NamedWritten.{named_written}
 use Rattle.meson_keywords.proofs.WrittenElements.{distinct_elements, list_level, list_shallow, list_written}
 

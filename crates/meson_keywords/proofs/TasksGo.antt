@@ -1,34 +1,12 @@
 -- A task that is done on the call at a place: its steps as the code has them, and the call as they leave it.
-use Rattle.std.proofs.Common.{◌≡◌, ℕ, List, [], ◌++◌, get_or, refl, sym, ap, ◌∙◌, subst}
-use Rattle.std.specs.Prelude.{Some, None, option_map, option_and_then, unwrap_or, Ok}
-use Rattle.meson_lex.specs.declared.kinds.Span.{Span}
-use Rattle.meson_splice.specs.Files.{bytes_at}
-use Rattle.meson_syntax.specs.declared.tree.Arg.{Arg}
+use Rattle.meson_keywords.proofs.Words.{◌≡◌, ℕ, List, [], ◌++◌, get_or, refl, sym, ap, ◌∙◌, subst, Some, None, option_map, option_and_then, unwrap_or, Ok}
+use Rattle.meson_keywords.proofs.Words.{bytes_at, Span, ListAt, list_at, Plain, args_view, list_view, view, Arg, Parsed, some-injective, elements}
+use Rattle.meson_keywords.proofs.Words.{list_elements, GoodArgs, GoodListing, Loaded, CallRef, good_args, AreBare, plain_trees, Step, all_stepped, IsUnderWay}
+use Rattle.meson_keywords.proofs.Words.{Reached, so_far, ListStep, Work, Between, CallStands, TaskDone, steps_of_task, task_steps, trees_after, MayBeWritten}
+use Rattle.meson_keywords.proofs.Words.{Task, LeavesCall}
 use Rattle.meson_syntax.specs.declared.tree.List as rust
-use Rattle.meson_syntax.specs.declared.tree.Parsed.{Parsed}
-use Rattle.meson_syntax.specs.Paths.{ListAt, list_at}
-use Rattle.meson_syntax.specs.Tree.{Plain}
-use Rattle.meson_syntax.specs.View.{args_view, list_view, view}
-use Rattle.meson_syntax.proofs.parsing.Steps.{some-injective}
-use Rattle.meson_edit.specs.Edits.{elements}
-use Rattle.meson_calls.specs.declared.call.CallRef.{CallRef}
-use Rattle.meson_steps.specs.declared.step.ListStep.{ListStep}
-use Rattle.meson_steps.specs.declared.work.Work.{Work}
-use Rattle.meson_keywords.specs.Changing.{Between, CallStands, TaskDone, steps_of_task}
-use Rattle.meson_keywords.specs.inside.Leaving.{LeavesCall}
-use Rattle.meson_calls.specs.GoodLists.{GoodArgs, GoodListing}
-use Rattle.meson_steps.specs.ListSteps.{AreBare}
-use Rattle.meson_calls.specs.Loading.{Loaded}
-use Rattle.meson_steps.specs.ResultLimits.{plain_trees}
-use Rattle.meson_steps.specs.Steps.{Step, all_stepped}
-use Rattle.meson_keywords.specs.Tasking.{MayBeWritten}
-use Rattle.meson_keywords.specs.Tasks.{Task}
-use Rattle.meson_keywords.specs.TaskSteps.{task_steps, trees_after}
-use Rattle.meson_steps.specs.Working.{IsUnderWay, Reached, so_far}
-use Rattle.meson_edit.proofs.lists.CodeElements.{list_elements}
 use Rattle.meson_keywords.proofs.CallKnown.{ListKnown, known_stand, list_known}
 use Rattle.meson_keywords.proofs.ErasedSteps.{steps_erased}
-use Rattle.meson_calls.proofs.Nested.{good_args}
 use Rattle.meson_steps.proofs.OneMoreStep.{all_after}
 use Rattle.meson_keywords.proofs.TaskMay.{task_does}
 

@@ -1,26 +1,12 @@
 -- Tasks of which some are done: from the start, over each task, to the end.
-use Rattle.std.proofs.Common.{◌≡◌, List, [], ◌∷◌, ◌++◌, refl, sym, ap, ◌∙◌}
-use Rattle.std.specs.Prelude.{Result, Ok, Err}
-use Rattle.std.proofs.lemmas.List.{append-nil, append_assoc}
-use Rattle.meson_splice.specs.Patch.{then_ok}
-use Rattle.meson_syntax.specs.Tree.{Plain}
-use Rattle.meson_calls.specs.declared.call.CallRef.{CallRef}
-use Rattle.meson_calls.specs.declared.refusal.Refusal.{Refusal}
+use Rattle.meson_keywords.proofs.Words.{◌≡◌, List, [], ◌∷◌, ◌++◌, refl, sym, ap, ◌∙◌, Result, Ok, Err, append-nil, then_ok, Plain, Loaded, CallRef, Refusal}
+use Rattle.meson_keywords.proofs.Words.{MayNotBeDone, unmeant, plain_trees, Step, IsFresh, so_far, Work, first_reached, Between, CallStands, IsNextTask}
+use Rattle.meson_keywords.proofs.Words.{TaskDone, steps_of_task, elements_in, task_steps, tasks_steps, trees_after, MayBeWritten, TaskIs, Task, TasksAre}
+use Rattle.std.proofs.lemmas.List.{append_assoc}
 use Rattle.meson_keywords.specs.declared.tasks.Task as code
-use Rattle.meson_steps.specs.declared.work.Work.{Work}
-use Rattle.meson_keywords.specs.Changing.{Between, CallStands, IsNextTask, TaskDone, steps_of_task}
-use Rattle.meson_steps.specs.Done.{MayNotBeDone, unmeant}
 use Rattle.meson_steps.specs.ListSteps as doable
-use Rattle.meson_calls.specs.Loading.{Loaded}
-use Rattle.meson_steps.specs.ResultLimits.{plain_trees}
-use Rattle.meson_steps.specs.Steps.{Step}
-use Rattle.meson_keywords.specs.Tasking.{MayBeWritten, TaskIs}
-use Rattle.meson_keywords.specs.inside.Tasking.{TasksAre, none, one}
-use Rattle.meson_keywords.specs.Tasks.{Task}
-use Rattle.meson_keywords.specs.TaskSteps.{elements_in, task_steps, tasks_steps, trees_after}
-use Rattle.meson_steps.specs.Working.{IsFresh, so_far}
+use Rattle.meson_keywords.specs.inside.Tasking.{none, one}
 use Rattle.meson_keywords.proofs.TasksGo.{trees_done}
-use Rattle.meson_steps.proofs.UnderWay.{first_reached}
 
 -- These tasks of the code are left, behind steps that are done.
 pub record TasksLeft (old : Loaded) (c : CallRef) (whole : Result (List Step) Refusal) (left : List code.Task) (w : Work) : Type 0 where

@@ -1,28 +1,13 @@
 -- Tasks made from the entries of a command, one entry after another.
-use Rattle.std.proofs.Common.{◌≡◌, ℕ, ◌+◌, ◌<◌, List, [], ◌∷◌, ◌++◌, length, get_or, drop, take, map, refl, sym, ap, ◌∙◌, add-one, append_assoc, codes}
-use Rattle.std.specs.Prelude.{Result, Ok, Err}
+use Rattle.meson_keywords.proofs.Words.{◌≡◌, ℕ, ◌+◌, ◌<◌, List, [], ◌∷◌, ◌++◌, length, get_or, drop, take, map, refl, sym, ap, ◌∙◌, add-one, append_assoc}
+use Rattle.meson_keywords.proofs.Words.{codes, Result, Ok, Err, IsUtf8, drop-cons, map-append, IsUtf8-append, then_ok, Nowhere, Expression, Written, Role}
+use Rattle.meson_keywords.proofs.Words.{Refusal, take_more, Setting, WrittenFor, value_written, option_text, TaskIs, MayBeWritten, IsValue, Task, set, delete}
+use Rattle.meson_keywords.proofs.Words.{add, remove, once, set_option, delete_option, checked_option, each_made, set_entry, delete_entry, add_entry}
+use Rattle.meson_keywords.proofs.Words.{remove_entry, set_option_entry, delete_option_entry, key_kind, list_kind, list_values, written_value, ElementKind}
+use Rattle.meson_keywords.proofs.Words.{ValueKind, TasksSoFar, TasksAre, AreTasksBehind}
 use Rattle.std.specs.Char.{encode_utf8}
-use Rattle.std.specs.Str.{IsUtf8}
-use Rattle.std.proofs.Math.Seq.{drop-cons}
-use Rattle.std.proofs.lemmas.List.{map-append}
-use Rattle.std.proofs.lemmas.Str.{IsUtf8-append}
-use Rattle.meson_splice.specs.Patch.{then_ok}
-use Rattle.meson_syntax.specs.Tree.{Nowhere, Expression}
-use Rattle.meson_edit.specs.Edits.{Written}
-use Rattle.meson_calls.specs.declared.call.Role.{Role}
-use Rattle.meson_steps.specs.declared.command.Setting.{Setting}
-use Rattle.meson_keywords.specs.declared.value_kinds.ElementKind.{ElementKind}
-use Rattle.meson_keywords.specs.declared.value_kinds.ValueKind.{ValueKind}
-use Rattle.meson_calls.specs.declared.refusal.Refusal.{Refusal}
 use Rattle.meson_keywords.specs.declared.tasks.Task as code
-use Rattle.meson_keywords.specs.ValueKinds.{key_kind, list_kind, list_values, written_value}
-use Rattle.meson_steps.specs.inside.WrittenValues.{WrittenFor, value_written}
-use Rattle.meson_keywords.specs.Options.{option_text}
-use Rattle.meson_keywords.specs.Tasks.{Task, set, delete, add, remove, once, set_option, delete_option, checked_option, each_made, set_entry, delete_entry, add_entry, remove_entry, set_option_entry, delete_option_entry}
-use Rattle.meson_keywords.specs.Tasking.{TaskIs, MayBeWritten, IsValue}
-use Rattle.meson_keywords.specs.inside.Tasking.{TasksAre, none, one, AreTasksBehind}
-use Rattle.meson_keywords.specs.inside.Making.{TasksSoFar}
-use Rattle.meson_calls.proofs.Loads.{take_more}
+use Rattle.meson_keywords.specs.inside.Tasking.{none, one}
 
 pub are_append : (cs ds : List code.Task) (ts us : List Task) → TasksAre cs ts → TasksAre ds us → TasksAre (cs ++ ds) (ts ++ us)
 are_append cs ds ts us none more = more

@@ -1,9 +1,7 @@
 -- The values of the keyword arguments that commands change, and what is written for them. Meson manual, Reference manual: `project`, `dependency`,
 -- `executable`.
-use Rattle.std.specs.Prelude.{ℕ, Bool, true, false, not, ◌&&◌, List, [], ◌∷◌, ◌++◌, map, codes, if◌then◌else◌, bytes_eq, Option, Some, None, ok_or, option_map, Result, Ok, Err}
+use Rattle.std.specs.Prelude.{ℕ, Bool, true, false, List, [], ◌∷◌, ◌++◌, map, codes, if◌then◌else◌, bytes_eq, Option, Some, None, ok_or, option_map, Result, Ok, Err}
 use Rattle.std.specs.List.{list_all}
-use Rattle.meson_lex.specs.Bytes.{is_word_start, is_word_byte}
-use Rattle.meson_lex.specs.Kinds.{spelling, reserved}
 use Rattle.meson_lex.specs.Literals.{literal}
 use Rattle.meson_splice.specs.Patch.{then_ok}
 use Rattle.meson_syntax.specs.Tree.{bare_name, Nowhere, Expression, identifier, boolean, Argument, plain, named}
@@ -19,6 +17,7 @@ use Rattle.meson_calls.specs.declared.refusal.Refusal.{Refusal}
 use Rattle.meson_calls.specs.declared.refusal.Refusal.TheVariants.{UnknownKey, WrongKind, BadName}
 use Rattle.meson_calls.specs.Keys.{identifier_list_keys, switch_keys, text_keys, text_list_keys}
 use Rattle.meson_calls.specs.Roles.{one_of}
+pub use Rattle.meson_steps.specs.Identifiers.{is_identifier, is_word}
 use Rattle.meson_steps.specs.WrittenTexts.{string_of, array_of_values, comma_between, written_text}
 
 -- ---- what the value of a keyword argument is, depending on the kind of call
@@ -30,16 +29,6 @@ key_kind r key =
     else (if one_of (text_list_keys r) key then Ok (value.ListOf element.Text)
     else (if one_of (identifier_list_keys r) key then Ok (value.ListOf element.Identifier)
     else Err (UnknownKey key))))
-
--- ---- identifiers: Meson manual, Syntax, the grammar's id_expression
-
--- a letter or `_`, and then letters, digits and `_`
-abbrev pub is_word : List ℕ → Bool
-is_word [] = false
-is_word (b ∷ bs) = is_word_start b && list_all is_word_byte bs
-
-abbrev pub is_identifier : List ℕ → Bool
-is_identifier text = is_word text && not (one_of (map spelling reserved) text)
 
 -- ---- what is written
 

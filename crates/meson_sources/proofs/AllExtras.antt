@@ -1,7 +1,12 @@
 -- The law on all extra files after an addition.
 use Rattle.meson_calls.specs.declared.call.Role.TheVariants as role
 use Rattle.meson_sources.specs.WholeExtras.{AllExtrasGrow}
-use Rattle.meson_sources.proofs.Words.{filter, list_any, All, not, Ok, [], ap, append-nil, IsUtf8, length, List, None, Option, refl, Some, subst, sym, true, ℕ, ◌∙◌, ◌∷◌, ◌≡◌, ◌≤◌, Span, Expression, Every, Call, literal_of, Numbered, the_call, IsProject, Loaded, project, Placed, one_of, target_functions, CallRef, Item, Mark, first_empty, first_list, items, or_option, distinct, plain_trees, all_stepped, Step, trees_stand, once_was, then_was, AreSpotsOf, ArgumentHolds, ExtraComes, goes, has_one_of, is_at, extra_files, behind_value, checked_extra, extra_added, extra_inserted, extra_key, extra_marks, new_names, without_home, file_names, source_texts}
+use Rattle.meson_sources.proofs.Words.{filter, list_any, All, not, Ok, [], ap, append-nil, IsUtf8, length, List, None, Option, refl, Some, subst, sym, true, ℕ}
+use Rattle.meson_sources.proofs.Words.{◌∙◌, ◌∷◌, ◌≡◌, ◌≤◌, Span, Expression, Every, Call, literal_of, Numbered, the_call, IsProject, Loaded, project, Placed}
+use Rattle.meson_sources.proofs.Words.{one_of, target_functions, CallRef, Item, Mark, first_empty, first_list, items, or_option, distinct, plain_trees}
+use Rattle.meson_sources.proofs.Words.{all_stepped, Step, trees_stand, once_was, then_was, AreSpotsOf, ArgumentHolds, ExtraComes, goes, has_one_of, is_at}
+use Rattle.meson_sources.proofs.Words.{extra_files, behind_value, checked_extra, extra_added, extra_inserted, extra_key, extra_marks, new_names, without_home}
+use Rattle.meson_sources.proofs.Words.{file_names, source_texts}
 use Rattle.meson_sources.proofs.ExtraAdded.{extra-is-added}
 use Rattle.meson_sources.proofs.ShrunkFiles.{extras_hold, extras_lost, stay}
 use Rattle.meson_sources.proofs.added.Homes.{extra_once, Home, marked_home, new_texts}

@@ -1,6 +1,12 @@
 -- The law on all sources after an addition.
 use Rattle.meson_calls.specs.declared.call.Role.TheVariants as role
-use Rattle.meson_sources.proofs.Words.{filter_map, list_any, All, is_some, Ok, option_map, ◌||◌, ◌⊎◌, [], ap, Bool, false, inl, inr, IsUtf8, length, List, None, Option, refl, Some, subst, sym, true, ℕ, ◌++◌, ◌+◌, ◌∙◌, ◌∷◌, ◌≡◌, ◌≤◌, Span, a_block, an_expression, block_of, Argument, argument, Arguments, arguments_of, call, erase_arguments, Expression, Name, named, no_arguments, Nowhere, pair, plain, Every, Call, first_argument, first_of, kept_number, keyword, Numbered, numbered, value_without_name, the_call, IsProject, Loaded, project, once, sources_key, Placed, one_of, target_functions, CallRef, max_followed, first_empty, first_list, home, or_call, or_option, source_marks, sources, checked_names, plain_trees, all_stepped, Step, then_was, strings, inserted_in, is_plain, new_names, sources_added, AllSourcesGrow, file_names}
+use Rattle.meson_sources.proofs.Words.{filter_map, list_any, All, is_some, Ok, option_map, ◌||◌, ◌⊎◌, [], ap, Bool, false, inl, inr, IsUtf8, length, List, None}
+use Rattle.meson_sources.proofs.Words.{Option, refl, Some, subst, sym, true, ℕ, ◌++◌, ◌+◌, ◌∙◌, ◌∷◌, ◌≡◌, ◌≤◌, Span, a_block, an_expression, block_of, Argument}
+use Rattle.meson_sources.proofs.Words.{argument, Arguments, arguments_of, call, erase_arguments, Expression, Name, named, no_arguments, Nowhere, pair, plain}
+use Rattle.meson_sources.proofs.Words.{Every, Call, first_argument, first_of, kept_number, keyword, Numbered, numbered, value_without_name, the_call, IsProject}
+use Rattle.meson_sources.proofs.Words.{Loaded, project, once, sources_key, Placed, one_of, target_functions, CallRef, max_followed, first_empty, first_list}
+use Rattle.meson_sources.proofs.Words.{home, or_call, or_option, source_marks, sources, checked_names, plain_trees, all_stepped, Step, then_was, strings}
+use Rattle.meson_sources.proofs.Words.{inserted_in, is_plain, new_names, sources_added, AllSourcesGrow, file_names}
 use Rattle.meson_sources.proofs.SourcesAdded.{sources-are-added}
 use Rattle.meson_sources.proofs.added.Homes.{new_texts, sources_home, all_stand}
 use Rattle.meson_sources.proofs.added.Turns.{ListTurns, Turn, an_array, a_call, a_dictionary, list_turns, new_list, old_list}

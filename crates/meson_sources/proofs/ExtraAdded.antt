@@ -1,7 +1,16 @@
 -- The extra files that are added come into their list, into a new argument, or behind a lone value.
 use Rattle.meson_calls.specs.Calls as calls
 use Rattle.meson_sources.specs.SourceEdits as edits
-use Rattle.meson_sources.proofs.Words.{Ok, option_and_then, option_map, Result, [], ap, arith, drop, length, List, None, Option, refl, Some, subst, suc, sym, take, zero, ℕ, ◌++◌, ◌-◌, ◌<◌, ◌∙◌, ◌∷◌, ◌≡◌, Span, LevelFile, holds_pairs, list_at, ListAt, nth, value_of, Argument, erase, erase_argument, erase_expression, Expression, Nowhere, Plain, plain, some-injective, and-then-some, After, array_of, Edit, edited, edited_elements, edited_list, element_added, elements, exchanged, with_elements, with_value, Wrap, Call, keyword, Numbered, IsProject, Loaded, project, child, Placed, CallRef, Refusal, Mark, first_empty, first_list, or_option, MayStandBetween, plain_trees, all_stepped, Step, step_in, stepped, string_of, edited_there, elements_with, there_again, element_erased, plain_place, PlainPlace, tree_is, value_erased, then_was, all_nth, change_made, ArgumentComes, ArgumentGrows, ArgumentHolds, array_holding, elements_found, extra_argument, ExtraComes, ExtraIsAdded, strings, array_with, behind_value, checked_extra, elements_there, extra_inserted, extra_key, extra_marks, inserted_in, into_new_list, new_names, without_home, written_keyword}
+use Rattle.meson_sources.proofs.Words.{Ok, option_and_then, option_map, Result, [], ap, arith, drop, length, List, None, Option, refl, Some, subst, suc, sym}
+use Rattle.meson_sources.proofs.Words.{take, zero, ℕ, ◌++◌, ◌-◌, ◌<◌, ◌∙◌, ◌∷◌, ◌≡◌, Span, LevelFile, holds_pairs, list_at, ListAt, nth, value_of, Argument}
+use Rattle.meson_sources.proofs.Words.{erase, erase_argument, erase_expression, Expression, Nowhere, Plain, plain, some-injective, and-then-some, After}
+use Rattle.meson_sources.proofs.Words.{array_of, Edit, edited, edited_elements, edited_list, element_added, elements, exchanged, with_elements, with_value}
+use Rattle.meson_sources.proofs.Words.{Wrap, Call, keyword, Numbered, IsProject, Loaded, project, child, Placed, CallRef, Refusal, Mark, first_empty}
+use Rattle.meson_sources.proofs.Words.{first_list, or_option, MayStandBetween, plain_trees, all_stepped, Step, step_in, stepped, string_of, edited_there}
+use Rattle.meson_sources.proofs.Words.{elements_with, there_again, element_erased, plain_place, PlainPlace, tree_is, value_erased, then_was, all_nth}
+use Rattle.meson_sources.proofs.Words.{change_made, ArgumentComes, ArgumentGrows, ArgumentHolds, array_holding, elements_found, extra_argument, ExtraComes}
+use Rattle.meson_sources.proofs.Words.{ExtraIsAdded, strings, array_with, behind_value, checked_extra, elements_there, extra_inserted, extra_key, extra_marks}
+use Rattle.meson_sources.proofs.Words.{inserted_in, into_new_list, new_names, without_home, written_keyword}
 use Rattle.meson_sources.proofs.SourcesAdded.{gets}
 use Rattle.meson_sources.proofs.added.Counts.{elements_are, plain_count}
 use Rattle.meson_sources.proofs.added.Homes.{as_many, checked_marks, not_empty, Home, all_stand, marked_home, keyword_there, some_first}

@@ -1,9 +1,15 @@
 -- All files of a target after a removal.
 use Rattle.meson_calls.specs.declared.call.Role.TheVariants as role
 use Rattle.meson_sources.specs.WholeExtras.{AllExtrasShrink}
-use Rattle.meson_sources.proofs.Words.{All, Ok, [], ap, Bool, false, length, List, map, refl, Some, subst, sym, true, ℕ, ◌∙◌, ◌∷◌, ◌≡◌, ◌≤◌, value, Span, then_ok, string_kind, Arguments, Expression, Nowhere, string, StringKind, Every, every-append, Call, keyword, Numbered, the_call, IsProject, Loaded, project, once, sources_key, Placed, placed, one_of, target_functions, CallRef, Expansion, fixed, literal_item, Mark, max_followed, Stand, hidden, items, source_marks, MayStandBetween, checked_names, distinct, plain_trees, all_stepped, Step, trees_stand, once_was, then_was, AreSpotsOf, goes, checked_extra, extra_key, extra_marks, removal_steps, removed_at, Spot, spots_named, AllSourcesShrink, file_names, FilesShrink}
+use Rattle.meson_sources.proofs.Words.{All, Ok, [], ap, Bool, false, length, List, map, refl, Some, subst, sym, true, ℕ, ◌∙◌, ◌∷◌, ◌≡◌, ◌≤◌, then_ok, value}
+use Rattle.meson_sources.proofs.Words.{Span, string_kind, Arguments, Expression, Nowhere, string, StringKind, Every, every-append, Call, keyword, Numbered}
+use Rattle.meson_sources.proofs.Words.{the_call, IsProject, Loaded, project, once, sources_key, Placed, placed, one_of, target_functions, CallRef, Expansion}
+use Rattle.meson_sources.proofs.Words.{fixed, literal_item, Mark, max_followed, Stand, hidden, items, source_marks, MayStandBetween, checked_names, distinct}
+use Rattle.meson_sources.proofs.Words.{plain_trees, all_stepped, Step, trees_stand, once_was, then_was, AreSpotsOf, goes, checked_extra, extra_key, extra_marks}
+use Rattle.meson_sources.proofs.Words.{removal_steps, removed_at, Spot, spots_named, AllSourcesShrink, file_names, FilesShrink}
 use Rattle.meson_sources.proofs.added.Homes.{extra_once}
-use Rattle.meson_sources.proofs.gone.Calls.{Fine, are_named, at_call, call_from, call_left, each_left, fine, first, first_of, literals, moved_place, named_left, own_fine, values_stand}
+use Rattle.meson_sources.proofs.gone.Calls.{Fine, are_named, at_call, call_from, call_left, each_left, fine, first, first_of, literals, moved_place, named_left}
+use Rattle.meson_sources.proofs.gone.Calls.{own_fine, values_stand}
 use Rattle.meson_sources.proofs.gone.Held.{Holds, keyed_hold, whole_holds, Held, items_held}
 use Rattle.meson_sources.proofs.gone.Losses.{EachLoses, Loses, place_left}
 use Rattle.meson_sources.proofs.gone.Marks.{FirstStays, keyed_left, keys_stay, whole_left, Left, slot_gone, stand_left}

@@ -1,7 +1,14 @@
 -- The list that gets sources has its elements in their order, and the new ones behind those without a name.
 use Rattle.meson_sources.specs.SourceEdits as edits
 use Rattle.std.proofs.Math.Seq.{drop-append_seam, take-append_seam}
-use Rattle.meson_sources.proofs.Words.{filter, option_and_then, option_map, [], ap, append_assoc, ap₂, arith, Bool, false, length, length-append, List, refl, Some, suc, sym, true, ℕ, ◌++◌, ◌∙◌, ◌∷◌, ◌≡◌, LevelArguments, LevelFile, holds_pairs, holds_values, list_at, ListAt, nth, Argument, arguments_of, erase, named, Nowhere, pair, Plain, plain, Bracket, some-injective, and-then-some, list-fits, map-some, After, Edit, edited, edited_elements, edited_list, element_added, elements, First, first_element, with_elements, keyword, IsProject, Loaded, project, once, sources_key, CallRef, values_no_pairs, home, source_marks, MayStandBetween, checked_names, plain_trees, all_stepped, step_in, stepped, elements_with, there_again, plain_place, tree_is, once_was, then_was, all_nth, change_made, elements_found, ListGets, not_plain, SourcesAreAdded, strings, elements_there, inserted_in, is_plain, new_names, plain_len, written_source}
+use Rattle.meson_sources.proofs.Words.{filter, option_and_then, option_map, [], ap, append_assoc, ap₂, arith, Bool, false, length, length-append, List, refl}
+use Rattle.meson_sources.proofs.Words.{Some, suc, sym, true, ℕ, ◌++◌, ◌∙◌, ◌∷◌, ◌≡◌, LevelArguments, LevelFile, holds_pairs, holds_values, list_at, ListAt, nth}
+use Rattle.meson_sources.proofs.Words.{Argument, arguments_of, erase, named, Nowhere, pair, Plain, plain, Bracket, some-injective, and-then-some, list-fits}
+use Rattle.meson_sources.proofs.Words.{map-some, After, Edit, edited, edited_elements, edited_list, element_added, elements, First, first_element}
+use Rattle.meson_sources.proofs.Words.{with_elements, keyword, IsProject, Loaded, project, once, sources_key, CallRef, values_no_pairs, home, source_marks}
+use Rattle.meson_sources.proofs.Words.{MayStandBetween, checked_names, plain_trees, all_stepped, step_in, stepped, elements_with, there_again, plain_place}
+use Rattle.meson_sources.proofs.Words.{tree_is, once_was, then_was, all_nth, change_made, elements_found, ListGets, not_plain, SourcesAreAdded, strings}
+use Rattle.meson_sources.proofs.Words.{elements_there, inserted_in, is_plain, new_names, plain_len, written_source}
 use Rattle.meson_sources.proofs.added.Counts.{count_erased, elements_are, plain_count, plain_count_is}
 use Rattle.meson_sources.proofs.added.Homes.{Home, all_stand, list_levels, sources_home}
 use Rattle.meson_sources.proofs.added.Lists.{inserted_only, unchanged}

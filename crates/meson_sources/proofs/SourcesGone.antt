@@ -1,6 +1,8 @@
 -- The sources and the extra files that are named are gone from all lists that held them, and nothing else is.
 use Rattle.meson_calls.specs.Calls as calls
-use Rattle.meson_sources.proofs.Words.{Ok, Result, ap, List, Some, ℕ, ◌∙◌, ◌≡◌, Span, then_ok, Plain, IsProject, Loaded, project, once, sources_key, Refusal, Mark, source_marks, checked_names, distinct, plain_trees, all_stepped, Step, trees_stand, once_was, then_was, ExtraIsRemoved, NamesGo, SourcesAreRemoved, checked_extra, extra_marks, removal_steps, removed_at, spots_named}
+use Rattle.meson_sources.proofs.Words.{Ok, Result, ap, List, Some, ℕ, ◌∙◌, ◌≡◌, then_ok, Span, Plain, IsProject, Loaded, project, once, sources_key, Refusal}
+use Rattle.meson_sources.proofs.Words.{Mark, source_marks, checked_names, distinct, plain_trees, all_stepped, Step, trees_stand, once_was, then_was}
+use Rattle.meson_sources.proofs.Words.{ExtraIsRemoved, NamesGo, SourcesAreRemoved, checked_extra, extra_marks, removal_steps, removed_at, spots_named}
 use Rattle.meson_sources.proofs.added.Homes.{checked_marks}
 use Rattle.meson_sources.proofs.gone.Named.{named_spots, spots_apart}
 use Rattle.meson_sources.proofs.gone.Trees.{trees_left, named_stand, all_in}

@@ -1,19 +1,10 @@
 -- The values of arguments, and where they stand.
-use Rattle.std.proofs.Common.{◌≡◌, ℕ, ◌<◌, ◌≤◌, List, length, get_or, Option, Some, None, ap, ◌∙◌, sym}
-use Rattle.std.specs.Prelude.{Bool, true, false, if◌then◌else◌, bytes_eq, option_map, option_and_then}
-use Rattle.meson_lex.specs.declared.kinds.Span.{Span}
-use Rattle.meson_syntax.specs.declared.tree.Arg.{Arg}
+use Rattle.meson_steps.proofs.Words.{◌≡◌, ℕ, ◌<◌, ◌≤◌, List, length, get_or, Option, Some, None, ap, ◌∙◌, sym, Bool, true, false, if◌then◌else◌, bytes_eq}
+use Rattle.meson_steps.proofs.Words.{option_map, option_and_then, Span, nth, value_of, Expression, Argument, plain, named, pair, arg_view, args_view, expr_view}
+use Rattle.meson_steps.proofs.Words.{list_view, Arg, Expr, elements, expression_span, list_elements, value_with_name, plain_view, named_view, pair_view}
+use Rattle.meson_steps.proofs.Words.{nth_there, nth_past}
 use Rattle.meson_syntax.specs.declared.tree.Arg.TheVariants as arg
-use Rattle.meson_syntax.specs.declared.tree.Expr.{Expr}
 use Rattle.meson_syntax.specs.declared.tree.List as rust
-use Rattle.meson_syntax.specs.Paths.{nth, value_of}
-use Rattle.meson_edit.specs.Standing.{expression_span}
-use Rattle.meson_syntax.specs.Tree.{Expression, Argument, plain, named, pair}
-use Rattle.meson_syntax.specs.View.{arg_view, args_view, expr_view, list_view}
-use Rattle.meson_calls.specs.Calls.{value_with_name}
-use Rattle.meson_calls.proofs.ArgumentViews.{plain_view, named_view, pair_view, nth_there, nth_past}
-use Rattle.meson_edit.specs.Edits.{elements}
-use Rattle.meson_edit.proofs.lists.CodeElements.{list_elements}
 
 pub plain_span : (source : List ℕ) (e : Expr) → option_map expression_span (value_of (arg_view source (arg.Plain e))) ≡ Some (expression_span (expr_view source e))
 plain_span source e = ap (λ a. option_map expression_span (value_of a)) (plain_view source e)

@@ -1,14 +1,10 @@
 -- The block that a path names is the node that is met when one goes down from child to child.
-use Rattle.std.specs.Prelude.{option_map, option_and_then}
-use Rattle.std.proofs.Common.{◌≡◌, ℕ, zero, suc, List, [], ◌∷◌, Option, Some, None, refl, sym, ap, ◌∙◌}
-use Rattle.meson_syntax.specs.Tree.{Expression, Statements, no_statements, statement, statement_list, Block, block, File}
-use Rattle.meson_syntax.specs.Paths.{Sort, of_expression, of_statement, of_block, Node, Hole, nth, reach, block_of}
-use Rattle.meson_edit.specs.Blocks.{BlockAt, block_of_node, block_at}
-use Rattle.meson_syntax.specs.Children.{Any, an_expression, a_statement, a_block}
-use Rattle.meson_syntax.specs.inside.Children.{any_of, child_nodes, statements_parts, node_at}
-use Rattle.meson_steps.specs.inside.Layers.{block_any, next_layer}
+use Rattle.meson_steps.proofs.Words.{option_map, option_and_then, ◌≡◌, ℕ, zero, suc, List, [], ◌∷◌, Option, Some, None, refl, sym, ap, ◌∙◌, Any, an_expression}
+use Rattle.meson_steps.proofs.Words.{a_statement, a_block, Sort, of_expression, of_statement, of_block, Node, Hole, nth, reach, block_of, Expression}
+use Rattle.meson_steps.proofs.Words.{Statements, no_statements, statement, statement_list, Block, block, any_of, child_nodes, statements_parts, node_at, Every}
+use Rattle.meson_steps.proofs.Words.{BlockAt, block_of_node, block_at, block_any, next_layer}
+use Rattle.meson_syntax.specs.Tree.{File}
 use Rattle.meson_syntax.proofs.PathNodes.{inside_of, reached}
-use Rattle.meson_syntax.proofs.paths.Every.{Every}
 use Rattle.meson_calls.proofs.nodes.Sorts.{IsExpression, IsOther, may_stand}
 
 module _ (S : Type 0) where

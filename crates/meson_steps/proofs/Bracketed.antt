@@ -1,27 +1,16 @@
 -- A text in square brackets is a list of one element exactly where the text is an expression.
-use Rattle.std.proofs.Common.{◌≡◌, ℕ, ◌+◌, ◌≤◌, List, [], ◌∷◌, ◌++◌, IsUtf8, map, refl, sym, ap, ◌∙◌, subst, inl, inr, arith}
-use Rattle.std.specs.Prelude.{Bool, true, false, not, ◌&&◌, reverse, if◌then◌else◌}
-use Rattle.std.specs.List.{list_all}
-use Rattle.std.proofs.lemmas.List.{append_cancel_right, append-nil, map-append, reverse-append, reverse-reverse}
+use Rattle.meson_steps.proofs.Words.{◌≡◌, ℕ, ◌+◌, ◌≤◌, List, [], ◌∷◌, ◌++◌, map, refl, sym, ap, ◌∙◌, subst, inl, inr, arith, Bool, true, false, not, ◌&&◌}
+use Rattle.meson_steps.proofs.Words.{reverse, if◌then◌else◌, list_all, append_cancel_right, append-nil, map-append, reverse-append, reverse-reverse}
+use Rattle.meson_steps.proofs.Words.{IsUtf8-append, AreItems, IsItemList, Lexeme, joined, OfKind, role, IsTight, speaks, Kind, AreItems-append, AreItems-split}
+use Rattle.meson_steps.proofs.Words.{joined-append, is_remark, remarks, LevelExpression, expression_depth, expression_words, ReadsListWithin, plain, named}
+use Rattle.meson_steps.proofs.Words.{pair, no_arguments, argument, Expression, Listing, listing, Nowhere, erase_listing, IsWritten, IsExpression, in_brackets}
+use Rattle.meson_steps.proofs.Words.{is_bare, is_lone, speaks_first}
+use Rattle.std.proofs.Common.{IsUtf8}
 use Rattle.std.specs.Char.{encode_utf8}
-use Rattle.std.proofs.lemmas.Str.{IsUtf8-append}
-use Rattle.meson_lex.specs.declared.kinds.Kind.{Kind}
 use Rattle.meson_lex.specs.declared.kinds.Kind.TheVariants as k
 use Rattle.meson_lex.specs.Bytes.{begins_bare_return}
-use Rattle.meson_lex.specs.Items.{AreItems, IsItemList, Lexeme, joined}
-use Rattle.meson_lex.specs.Kinds.{OfKind}
 use Rattle.meson_lex.specs.Neighbours.{Shape, StandsBefore, blanks, note, name, word, quoted, format_quoted, extendable, closed, shape}
-use Rattle.meson_lex.specs.Significant.{role}
-use Rattle.meson_lex.specs.Words.{IsTight, speaks}
-use Rattle.meson_lex.proofs.Seams.{AreItems-append, AreItems-split, joined-append}
-use Rattle.meson_layout.specs.Words.{is_remark, remarks}
 use Rattle.meson_syntax.specs.declared.operator.Bracket.TheVariants as bracket
-use Rattle.meson_syntax.specs.Grammar.{LevelExpression, expression_depth, expression_words}
-use Rattle.meson_syntax.specs.ReadsList.{ReadsListWithin}
-use Rattle.meson_syntax.specs.Tree.{plain, named, pair, no_arguments, argument, Expression, Listing, listing, Nowhere, erase_listing}
-use Rattle.meson_edit.specs.Places.{IsWritten}
-use Rattle.meson_steps.specs.Code.{IsExpression, in_brackets}
-use Rattle.meson_steps.specs.inside.Bare.{is_bare, is_lone, speaks_first}
 
 -- ---- an item before nothing, and before `]`
 
@@ -50,24 +39,29 @@ module _ (text : List ℕ) where
   last extendable (b ∷ bs) h = h
   last closed rest h = tt
 
-  -- what may be last may be before `]`, but for a comment
-  closing : (s : Shape) (rest : List ℕ) → (s ≡ note → ⊥) → StandsBefore s text (rest ++ []) → StandsBefore s text (rest ++ 93 ∷ [])
-  closing blanks [] apart h = refl
-  closing blanks (b ∷ bs) apart h = h
-  closing note rest apart h = absurd (apart refl)
-  closing name [] apart h = (refl, λ is. refl)
-  closing name (b ∷ bs) apart h = h
-  closing word [] apart h = refl
-  closing word (b ∷ bs) apart h = h
-  closing quoted [] apart h = λ is. refl
-  closing quoted (b ∷ bs) apart h = h
-  closing format_quoted [] apart h = λ is. refl
-  closing format_quoted (b ∷ bs) apart h = h
-  closing extendable [] apart h = refl
-  closing extendable (b ∷ bs) apart h = h
-  closing closed rest apart h = tt
+-- what may be last may be before `]` or a comma, but for a comment
+abbrev stop : Bool → ℕ
+stop ends = if ends then 93 else 44
 
-pub shape_quiet : (κ : Kind) → is_remark κ ≡ false → shape κ ≡ note → ⊥
+module _ (text more : List ℕ) where
+  before_stop : (ends : Bool) (s : Shape) (rest : List ℕ) → (s ≡ note → ⊥) → StandsBefore s text (rest ++ []) → StandsBefore s text (rest ++ stop ends ∷ more)
+  before_stop true blanks [] apart h = refl
+  before_stop false blanks [] apart h = refl
+  before_stop ends note rest apart h = absurd (apart refl)
+  before_stop true name [] apart h = (refl, λ is. refl)
+  before_stop false name [] apart h = (refl, λ is. refl)
+  before_stop true word [] apart h = refl
+  before_stop false word [] apart h = refl
+  before_stop true quoted [] apart h = λ is. refl
+  before_stop false quoted [] apart h = λ is. refl
+  before_stop true format_quoted [] apart h = λ is. refl
+  before_stop false format_quoted [] apart h = λ is. refl
+  before_stop true extendable [] apart h = refl
+  before_stop false extendable [] apart h = refl
+  before_stop ends closed rest apart h = tt
+  before_stop ends _ (b ∷ bs) apart h = h
+
+shape_quiet : (κ : Kind) → is_remark κ ≡ false → shape κ ≡ note → ⊥
 shape_quiet k.Comment quiet is = let no : ⊥ = cc in no
 shape_quiet k.Blank quiet is = let no : ⊥ = cc in no
 shape_quiet k.LineEnd quiet is = let no : ⊥ = cc in no
@@ -77,18 +71,18 @@ items_last : (xs : List Lexeme) → AreItems xs (93 ∷ []) → AreItems xs []
 items_last [] are = tt
 items_last (x ∷ xs) are = ((are.0.0, are.0.1, last x.text (shape x.kind) (joined xs) are.0.2), items_last xs are.1)
 
-pub quiet_first : (x : Lexeme) (xs : List Lexeme) → remarks (x ∷ xs) ≡ [] → (is_remark x.kind ≡ false) × (remarks xs ≡ [])
+quiet_first : (x : Lexeme) (xs : List Lexeme) → remarks (x ∷ xs) ≡ [] → (is_remark x.kind ≡ false) × (remarks xs ≡ [])
 quiet_first x xs quiet = go (is_remark x.kind) refl quiet
   where
     go : (b : Bool) → is_remark x.kind ≡ b → (if b then x ∷ remarks xs else remarks xs) ≡ [] → (is_remark x.kind ≡ false) × (remarks xs ≡ [])
     go true is h = absurd (let no : ⊥ = cc in no)
     go false is h = (is, h)
 
-items_closing : (xs : List Lexeme) → remarks xs ≡ [] → AreItems xs [] → AreItems xs (93 ∷ [])
-items_closing [] quiet are = tt
-items_closing (x ∷ xs) quiet are =
+pub items_stop : (ends : Bool) (more : List ℕ) (xs : List Lexeme) → remarks xs ≡ [] → AreItems xs [] → AreItems xs (stop ends ∷ more)
+items_stop ends more [] quiet are = tt
+items_stop ends more (x ∷ xs) quiet are =
     let q = quiet_first x xs quiet in
-    ((are.0.0, are.0.1, closing x.text (shape x.kind) (joined xs) (shape_quiet x.kind q.0) are.0.2), items_closing xs q.1 are.1)
+    ((are.0.0, are.0.1, before_stop x.text more ends (shape x.kind) (joined xs) (shape_quiet x.kind q.0) are.0.2), items_stop ends more xs q.1 are.1)
 
 -- ---- the ends of items
 
@@ -189,7 +183,7 @@ module _ (bytes : List ℕ) where
   pub bracketed_items : (xs : List Lexeme) → IsItemList bytes xs → remarks xs ≡ [] → IsItemList whole (in_brackets xs)
   bracketed_items xs list none = record {
     joins = ap (λ t. 91 ∷ t) (joined-append xs (ending ∷ []) ∙ ap (λ b. b ++ 93 ∷ []) list.joins);
-    each = ((refl, refl, tt), AreItems-append xs (ending ∷ []) [] (items_closing xs none list.each) ((refl, refl, tt), tt));
+    each = ((refl, refl, tt), AreItems-append xs (ending ∷ []) [] (items_stop true [] xs none list.each) ((refl, refl, tt), tt));
   }
 
   pub whole_utf8 : IsUtf8 bytes → IsUtf8 whole

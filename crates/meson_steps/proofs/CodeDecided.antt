@@ -1,30 +1,20 @@
 -- The function `is_code` says of each text whether it is an expression.
-use Rattle.std.proofs.Common.{◌≡◌, ℕ, ◌+◌, List, [], ◌∷◌, ◌++◌, IsUtf8, length, map, Option, Some, None, Result, Ok, Err, refl, sym, ap, ◌∙◌, subst, arith, length-append}
-use Rattle.std.specs.Prelude.{Bool, true, false, ◌&&◌, if◌then◌else◌}
-use Rattle.std.specs.Str.{is_utf8}
-use Rattle.std.proofs.lemmas.Str.{IsUtf8-from_is_utf8, is_utf8-from_IsUtf8}
-use Rattle.meson_lex.specs.declared.fault.LexFault.{LexFault}
-use Rattle.meson_lex.specs.declared.kinds.Item.{Item}
-use Rattle.meson_lex.specs.declared.kinds.Span.{Span}
-use Rattle.meson_lex.specs.Items.{IsItemList, Lexeme}
-use Rattle.meson_lex.specs.Lexed.{IsLexed, with_spans, whole, faulty}
-use Rattle.meson_lex.specs.Located.{located, spots}
+use Rattle.meson_steps.proofs.Words.{◌≡◌, ℕ, ◌+◌, List, [], ◌∷◌, ◌++◌, length, map, Option, Some, None, Result, Ok, Err, refl, sym, ap, ◌∙◌, subst, arith}
+use Rattle.meson_steps.proofs.Words.{length-append, Bool, true, false, ◌&&◌, if◌then◌else◌, is_utf8, IsUtf8-from_is_utf8, is_utf8-from_IsUtf8, IsItemList}
+use Rattle.meson_steps.proofs.Words.{Lexeme, IsLexed, with_spans, whole, faulty, located, spots, start, LexFault, Item, Span, one_list, read, read_one}
+use Rattle.meson_steps.proofs.Words.{read-all, ReadsListWithin, plain, no_arguments, argument, Listing, listing, Nowhere, erase_listing, CodeIsExpression}
+use Rattle.meson_steps.proofs.Words.{IsExpression, all_fine, code_of, given_items, in_brackets, is_lone_list, is_one, is_bare, is_lone}
+use Rattle.std.proofs.Common.{IsUtf8}
 use Rattle.meson_lex.specs.Scan.{scan}
-use Rattle.meson_lex.specs.Significant.{start}
-use Rattle.meson_lex.proofs.OneList.{one_list}
 use Rattle.meson_lex.proofs.ScanLexed.{scan_lexed, scan_only}
-use Rattle.meson_layout.proofs.ReadItems.{read, read_one, read-all}
 use Rattle.meson_syntax.specs.declared.operator.Bracket.TheVariants as bracket
 use Rattle.meson_syntax.specs.inside.ReadingLists.{whole_list}
-use Rattle.meson_syntax.specs.ReadsList.{ReadsListWithin}
-use Rattle.meson_syntax.specs.Tree.{plain, no_arguments, argument, Listing, listing, Nowhere, erase_listing}
 use Rattle.meson_syntax.proofs.lists.Answers.{inner-erased}
 use Rattle.meson_syntax.proofs.lists.Complete.{whole_list-complete}
 use Rattle.meson_syntax.proofs.lists.Sound.{all-items, whole_list-sound}
 use Rattle.meson_syntax.proofs.parsing.Erased.{listing-depth-erased, listing-level-erased}
 use Rattle.meson_syntax.proofs.parsing.Levels.{listing-level}
-use Rattle.meson_steps.specs.Code.{CodeIsExpression, IsExpression, all_fine, code_of, given_items, in_brackets, is_code, is_lone_list, is_one}
-use Rattle.meson_steps.specs.inside.Bare.{is_bare, is_lone}
+use Rattle.meson_steps.specs.Code.{is_code}
 use Rattle.meson_steps.proofs.Bracketed.{bare, bracketed_items, complete, lone_erased, sound, tight, whole_utf8}
 
 both : (a b : Bool) → (a && b) ≡ true → (a ≡ true) × (b ≡ true)

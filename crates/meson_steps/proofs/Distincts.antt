@@ -1,16 +1,10 @@
 -- Names each once, gathered one after another; and a list of references that is filtered by what they point to.
-use Rattle.std.proofs.Common.{◌≡◌, ℕ, ◌+◌, ◌<◌, List, [], ◌∷◌, ◌++◌, length, get_or, drop, map, refl, sym, ap, ◌∙◌}
-use Rattle.std.specs.Prelude.{Bool, true, false, bytes_eq, reverse, if◌then◌else◌}
-use Rattle.std.specs.List.{filter, list_any}
+use Rattle.meson_steps.proofs.Words.{◌≡◌, ℕ, ◌+◌, ◌<◌, List, [], ◌∷◌, ◌++◌, length, get_or, drop, map, refl, sym, ap, ◌∙◌, Bool, true, false, bytes_eq, reverse}
+use Rattle.meson_steps.proofs.Words.{if◌then◌else◌, filter, list_any, add-one, All, append_assoc, reverse-append, All-head, All-tail, All-cons, one_of}
+use Rattle.meson_steps.proofs.Words.{distinct_by}
 use Rattle.std.proofs.Math.Seq.{drop-cons}
-use Rattle.std.proofs.Common.{add-one}
-use Rattle.std.proofs.lemmas.List.{append_assoc, reverse-append}
 use Rattle.std.proofs.lemmas.List.Sorted.{list_any-IsPermutation, IsPermutation-reverse}
 use Rattle.std.proofs.Common.{IsUtf8}
-use Rattle.std.specs.Prelude.{All}
-use Rattle.std.proofs.lemmas.List.Elements.{All-head, All-tail, All-cons}
-use Rattle.meson_calls.specs.Roles.{one_of}
-use Rattle.meson_steps.specs.Names.{distinct_by}
 
 turned : (f : List ℕ → Bool) (xs : List (List ℕ)) → list_any f (reverse xs) ≡ list_any f xs
 turned f xs = sym (list_any-IsPermutation f xs (reverse xs) (IsPermutation-reverse xs))

@@ -1,25 +1,17 @@
 -- The parts of a project without its spans are its parts without theirs, and so are the calls that a name names.
-use Rattle.std.proofs.Common.{◌≡◌, ℕ, ◌+◌, true, false, List, [], ◌∷◌, ◌++◌, map, Option, Some, None, refl, sym, ap, ap₂, ◌∙◌}
-use Rattle.std.specs.Prelude.{Bool, ◌&&◌, if◌then◌else◌, is_some, option_and_then, option_map}
-use Rattle.std.specs.List.{cons_option, filter_map}
-use Rattle.std.proofs.lemmas.List.{map-append}
-use Rattle.meson_splice.specs.declared.file_set.File.{File}
-use Rattle.meson_syntax.specs.Children.{Any}
+use Rattle.meson_steps.proofs.Words.{◌≡◌, ℕ, ◌+◌, true, false, List, [], ◌∷◌, ◌++◌, map, Option, Some, None, refl, sym, ap, ap₂, ◌∙◌, Bool, ◌&&◌, if◌then◌else◌}
+use Rattle.meson_steps.proofs.Words.{is_some, option_and_then, option_map, cons_option, filter_map, map-append, File, Any, Nowhere, Expression, string, call}
+use Rattle.meson_steps.proofs.Words.{Listing, listing, plain, named, pair, Arguments, no_arguments, argument, file, erase, erase_arguments, erase_expression}
+use Rattle.meson_steps.proofs.Words.{erase_listing, erase_statement, child_nodes, Call, Numbered, all_chosen, first_of, first_argument, first_literal, is}
+use Rattle.meson_steps.proofs.Words.{kept_number, literal_of, numbered, part_call, value_without_name, named_trees, Part, parts_of_file, parts_from, Placed}
+use Rattle.meson_steps.proofs.Words.{child, place, placed, has_role, one_of, target_functions, with_role, CallRef, Each, by_children, itself, parts_are}
+use Rattle.meson_steps.proofs.Words.{parts_below, parts_of}
 use Rattle.meson_syntax.specs.Children as syntax
-use Rattle.meson_syntax.specs.inside.Children.{child_nodes}
-use Rattle.meson_syntax.specs.Tree.{Nowhere, Expression, string, call, Listing, listing, plain, named, pair, Arguments, no_arguments, argument, file, erase, erase_arguments, erase_expression, erase_listing, erase_statement}
 use Rattle.meson_syntax.specs.Tree as tree
-use Rattle.meson_calls.specs.declared.call.CallRef.{CallRef}
 use Rattle.meson_calls.specs.declared.call.Role.TheVariants as role
-use Rattle.meson_calls.specs.Calls.{Call, Numbered, all_chosen, first_of, first_argument, first_literal, is, kept_number, literal_of, numbered, part_call, value_without_name}
-use Rattle.meson_calls.specs.Loading.{named_trees}
-use Rattle.meson_calls.specs.Parts.{Part, an_expression, a_statement, parts_of_file, parts_from}
-use Rattle.meson_calls.specs.Project.{Placed, child, place, placed}
-use Rattle.meson_calls.specs.Roles.{has_role, one_of, target_functions, with_role}
+use Rattle.meson_calls.specs.Parts.{an_expression, a_statement}
 use Rattle.meson_calls.specs.Naming.{with_name}
 use Rattle.meson_calls.proofs.nodes.Erased.{children_erased, erase_any}
-use Rattle.meson_calls.proofs.nodes.Induction.{Each, by_children}
-use Rattle.meson_calls.proofs.nodes.PartsBelow.{itself, parts_are, parts_below, parts_of}
 
 -- ---- what is chosen
 

@@ -1,39 +1,21 @@
 -- A list that is exchanged and then exchanged again: the tree is the one in which it is exchanged once.
-use Rattle.std.proofs.Common.{◌≡◌, ℕ, zero, suc, ◌+◌, ◌≤◌, List, [], ◌∷◌, ◌++◌, length, Some, refl, sym, ap, ap₂, subst, ◌∙◌, length-append, arith}
-use Rattle.std.proofs.lemmas.List.{append-nil, append_cancel_left, map-append}
-use Rattle.meson_lex.specs.declared.kinds.Span.{Span}
-use Rattle.meson_lex.specs.Items.{Lexeme, joined}
-use Rattle.meson_lex.specs.Significant.{start, after, emitted, closing}
-use Rattle.meson_lex.specs.Located.{Token, word_of, words, spots, located}
-use Rattle.meson_lex.specs.Words.{spoken}
+use Rattle.meson_steps.proofs.Words.{◌≡◌, ℕ, zero, suc, ◌+◌, ◌≤◌, List, [], ◌∷◌, ◌++◌, length, Some, refl, sym, ap, ap₂, subst, ◌∙◌, length-append, arith}
+use Rattle.meson_steps.proofs.Words.{append-nil, append_cancel_left, map-append, Lexeme, joined, Token, word_of, words, spots, located, start, after, emitted}
+use Rattle.meson_steps.proofs.Words.{closing, spoken, Span, file_depth, list_exchanged, with_list, moved_parsed, moved, span_by, opens, closes, ListAt, list_at}
+use Rattle.meson_steps.proofs.Words.{list_span, inner_words, IsSpannedWithin, ReadsWithin, IsListText, list_items, SpellsListing, SpellsFile, Nowhere, Listing}
+use Rattle.meson_steps.proofs.Words.{erase, erase_listing, list_view, view, Limits, Parsed, whole-complete, some-injective, IsExchange, tree_with, StaysThere}
+use Rattle.meson_steps.proofs.Words.{ListStands, exchanged, moved-on, moved-still, trees-exchange, lists-there}
 use Rattle.meson_lex.proofs.TokenWords.{words-spots}
-use Rattle.meson_syntax.specs.declared.source.Limits.{Limits}
 use Rattle.meson_syntax.specs.declared.tree.List as rust
-use Rattle.meson_syntax.specs.declared.tree.Parsed.{Parsed}
-use Rattle.meson_syntax.specs.Operators.{opens, closes}
-use Rattle.meson_syntax.specs.Tree.{Nowhere, Listing, File, erase, erase_listing}
-use Rattle.meson_syntax.specs.Grammar.{file_depth}
-use Rattle.meson_syntax.specs.ListPut.{list_exchanged, with_list}
-use Rattle.meson_syntax.specs.MovedCode.{moved_parsed}
-use Rattle.meson_syntax.specs.Moving.{moved, span_by}
-use Rattle.meson_syntax.specs.Paths.{ListAt, list_at, list_span, inner_words}
-use Rattle.meson_syntax.specs.Reads.{IsSpannedWithin, ReadsWithin}
-use Rattle.meson_syntax.specs.ReadsList.{IsListText, list_items}
-use Rattle.meson_syntax.specs.Spelling.{SpellsListing, SpellsFile}
+use Rattle.meson_syntax.specs.Tree.{File}
 use Rattle.meson_syntax.specs.Texts.{texts_of}
-use Rattle.meson_syntax.specs.View.{list_view, view}
 use Rattle.meson_syntax.proofs.lists.Items.{listed}
 use Rattle.meson_syntax.proofs.lists.Nesting.{nest, inner-flat}
-use Rattle.meson_syntax.proofs.parsing.CompleteFiles.{whole-complete}
 use Rattle.meson_syntax.proofs.parsing.OneSpanned.{one-spanned-within}
-use Rattle.meson_syntax.proofs.parsing.Steps.{some-injective}
 use Rattle.meson_syntax.proofs.places.Pairs.{joined-lengths}
 use Rattle.meson_edit.specs.ExchangedTokens.{list_tokens, TokensExchanged}
-use Rattle.meson_edit.specs.ExchangedTrees.{IsExchange, tree_with}
 use Rattle.meson_edit.specs.MappedPaths.{MapsList}
 use Rattle.meson_edit.specs.Moves.{each_file, each_listing, token_by, tokens_by}
-use Rattle.meson_edit.specs.Sequences.{StaysThere}
-use Rattle.meson_edit.specs.Standing.{ListStands}
 use Rattle.meson_edit.proofs.exchange.Lists.{place}
 use Rattle.meson_edit.proofs.kept.Each.{in-both, in-other, lists-map}
 use Rattle.meson_edit.proofs.kept.EachErased.{listing-each}
@@ -42,10 +24,7 @@ use Rattle.meson_edit.proofs.kept.Kept.{lists-kept, mapped-span, moved-place, th
 use Rattle.meson_edit.proofs.kept.Moved.{files-move, lists-move}
 use Rattle.meson_edit.proofs.kept.PutLists.{put-lists-look}
 use Rattle.meson_edit.proofs.kept.Swap.{lists-swap}
-use Rattle.meson_edit.proofs.kept.Tokens.{exchanged, moved-on, moved-still}
 use Rattle.meson_edit.proofs.kept.Views.{list-views-text, views-move, views-tell}
-use Rattle.meson_edit.proofs.paths.ExchangedTrees.{trees-exchange}
-use Rattle.meson_edit.proofs.paths.PutThere.{lists-there}
 use Rattle.meson_steps.proofs.ListTaken.{list_text_some, old_list_some}
 
 -- ---- tokens of a moved tree

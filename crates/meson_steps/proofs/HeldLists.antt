@@ -1,35 +1,11 @@
 -- A list that is held back: where it is looked at, and what a further step makes of it.
-use Rattle.std.proofs.Common.{◌≡◌, ℕ, ◌+◌, ◌-◌, ◌<◌, List, ◌++◌, length, length-append, Some, sym, ap, ap₂, ◌∙◌, subst, arith}
-use Rattle.std.specs.Prelude.{◌^◌}
-use Rattle.meson_lex.specs.declared.kinds.Span.{Span}
-use Rattle.meson_splice.specs.declared.splice.Splice.{Splice}
-use Rattle.meson_splice.specs.Files.{bytes_at}
-use Rattle.meson_syntax.specs.declared.operator.Bracket.{Bracket}
+use Rattle.meson_steps.proofs.Words.{◌≡◌, ℕ, ◌+◌, ◌-◌, ◌<◌, List, ◌++◌, length, length-append, Some, sym, ap, ap₂, ◌∙◌, subst, arith, ◌^◌, bytes_at, Splice}
+use Rattle.meson_steps.proofs.Words.{Span, moved_list, ListAt, list_at, list_span, IsSpannedWithin, ReadsWithin, wide, IsSpannedListWithin, Listing, Nowhere}
+use Rattle.meson_steps.proofs.Words.{erase, erase_listing, list_view, view, Bracket, Parsed, some-injective, tree_with, FoundNew, new-list-found, new-tree-bare}
+use Rattle.meson_steps.proofs.Words.{lists-there, CallRef, list_is, wide_depth, bytes_again, MayChangeList, MayReadList, spot_at, HeldList, SavedList, ListSpot}
+use Rattle.meson_steps.proofs.Words.{Work, IsHeldOf, IsReadAgain, MayTakeMoved, settled_tree, list_again}
 use Rattle.meson_syntax.specs.declared.tree.List as rust
-use Rattle.meson_syntax.specs.declared.tree.Parsed.{Parsed}
-use Rattle.meson_syntax.specs.MovedCode.{moved_list}
-use Rattle.meson_syntax.specs.Paths.{ListAt, list_at, list_span}
-use Rattle.meson_syntax.specs.Reads.{IsSpannedWithin, ReadsWithin, wide}
-use Rattle.meson_syntax.specs.ReadsList.{IsSpannedListWithin}
-use Rattle.meson_syntax.specs.Tree.{Listing, Nowhere, erase, erase_listing}
-use Rattle.meson_syntax.specs.View.{list_view, view}
 use Rattle.meson_syntax.proofs.lists.Cuts.{same-cut}
-use Rattle.meson_syntax.proofs.parsing.Steps.{some-injective}
-use Rattle.meson_edit.specs.ExchangedTrees.{tree_with}
-use Rattle.meson_edit.proofs.paths.ExchangedTrees.{FoundNew, new-list-found, new-tree-bare}
-use Rattle.meson_edit.proofs.paths.PutThere.{lists-there}
-use Rattle.meson_calls.specs.declared.call.CallRef.{CallRef}
-use Rattle.meson_calls.proofs.Listed.{list_is}
-use Rattle.meson_steps.specs.declared.held.HeldList.{HeldList}
-use Rattle.meson_steps.specs.declared.journal.SavedList.{SavedList}
-use Rattle.meson_steps.specs.declared.spans.ListSpot.{ListSpot}
-use Rattle.meson_steps.specs.declared.work.Work.{Work}
-use Rattle.meson_steps.specs.inside.Held.{IsHeldOf, IsReadAgain}
-use Rattle.meson_steps.specs.inside.Journal.{MayTakeMoved, settled_tree}
-use Rattle.meson_steps.specs.ListSteps.{wide_depth}
-use Rattle.meson_steps.specs.Steps.{bytes_again}
-use Rattle.meson_steps.specs.Working.{MayChangeList, MayReadList, spot_at}
-use Rattle.meson_steps.specs.inside.Working.{list_again}
 use Rattle.meson_steps.proofs.ListChanged.{at_spot}
 use Rattle.meson_steps.proofs.ListTaken.{settled_is, settled_spanned, taken_is, unmoved}
 use Rattle.meson_steps.proofs.PatchedFiles.{same_files}

@@ -1,33 +1,10 @@
 -- A further step on a list that is held back.
-use Rattle.std.proofs.Common.{◌≡◌, ℕ, ◌<◌, true, List, [], ◌∷◌, ◌++◌, length, get_or, Option, Some, None, sym, ap, ◌∙◌, subst}
-use Rattle.std.specs.Prelude.{IfOk, Result, option_map}
-use Rattle.meson_lex.specs.declared.kinds.Span.{Span}
-use Rattle.meson_lex.specs.Items.{Lexeme, IsItemList}
-use Rattle.meson_layout.specs.declared.primitive.Primitive.{Primitive}
-use Rattle.meson_layout.specs.Layout.{layout_of}
-use Rattle.meson_layout.specs.Local.{IsReadyIn}
-use Rattle.meson_splice.specs.declared.file_set.File.{File}
-use Rattle.meson_splice.specs.declared.splice.Splice.{Splice}
-use Rattle.meson_splice.specs.Files.{bytes_at}
+use Rattle.meson_steps.proofs.Words.{◌≡◌, ℕ, ◌<◌, true, List, [], ◌∷◌, ◌++◌, length, get_or, Option, Some, None, sym, ap, ◌∙◌, subst, IfOk, Result, option_map}
+use Rattle.meson_steps.proofs.Words.{bytes_at, File, Splice, Lexeme, IsItemList, Span, layout_of, IsReadyIn, Primitive, ListAt, list_span, list_view, view}
+use Rattle.meson_steps.proofs.Words.{Parsed, FoundNew, Loaded, bare, Step, effective, HasReached, MayChangeList, Standing, HeldList, ListSpot, ListEdit}
+use Rattle.meson_steps.proofs.Words.{ListStep, Work, IsHeld, settled, settled_tree, AreLaid, edits_list, IsChanged, list_again, looked_at, placed_edit}
+use Rattle.meson_steps.proofs.Words.{placed_in}
 use Rattle.meson_syntax.specs.declared.tree.List as rust
-use Rattle.meson_syntax.specs.declared.tree.Parsed.{Parsed}
-use Rattle.meson_syntax.specs.Paths.{ListAt, list_span}
-use Rattle.meson_syntax.specs.View.{list_view, view}
-use Rattle.meson_calls.specs.Loading.{Loaded}
-use Rattle.meson_edit.proofs.paths.ExchangedTrees.{FoundNew}
-use Rattle.meson_steps.specs.declared.held.HeldList.{HeldList}
-use Rattle.meson_steps.specs.declared.spans.ListSpot.{ListSpot}
-use Rattle.meson_steps.specs.declared.step.ListEdit.{ListEdit}
-use Rattle.meson_steps.specs.declared.step.ListStep.{ListStep}
-use Rattle.meson_steps.specs.declared.work.Work.{Work}
-use Rattle.meson_steps.specs.inside.Held.{IsHeld, settled}
-use Rattle.meson_steps.specs.inside.Journal.{settled_tree}
-use Rattle.meson_steps.specs.inside.Laying.{AreLaid}
-use Rattle.meson_steps.specs.ListSteps.{bare}
-use Rattle.meson_steps.specs.inside.ListSteps.{edits_list}
-use Rattle.meson_steps.specs.Steps.{Step, effective}
-use Rattle.meson_steps.specs.Working.{HasReached, MayChangeList, Standing}
-use Rattle.meson_steps.specs.inside.Working.{IsChanged, list_again, looked_at, placed_edit, placed_in}
 use Rattle.meson_steps.proofs.HeldLists.{held_found, held_spot_is}
 use Rattle.meson_steps.proofs.ListTaken.{no_tree}
 use Rattle.meson_steps.proofs.PlacedEdits.{placed_at}

@@ -1,31 +1,12 @@
 -- The work with a list that is held back in its tree, and once it is there.
-use Rattle.std.proofs.Common.{◌≡◌, ◌≢◌, ℕ, ◌+◌, inl, inr, Bool, true, List, ◌∷◌, length, get_or, Some, refl, sym, ap, ap₂, ◌∙◌, subst}
-use Rattle.std.specs.Prelude.{All, ◌≤◌, ◌||◌, if◌then◌else◌, slice_set}
-use Rattle.std.proofs.lemmas.Bool.{cases_eq, eq-eqb}
-use Rattle.std.proofs.lemmas.Bool.Decides.{eqb_tells}
-use Rattle.std.proofs.lemmas.List.{set-set}
-use Rattle.meson_splice.specs.declared.splice.Splice.{Splice}
-use Rattle.meson_splice.specs.Files.{IsDistinct, bytes_at}
-use Rattle.meson_syntax.specs.declared.source.Limits.{Limits}
+use Rattle.meson_steps.proofs.Words.{◌≡◌, ◌≢◌, ℕ, ◌+◌, inl, inr, Bool, true, List, ◌∷◌, length, get_or, Some, refl, sym, ap, ap₂, ◌∙◌, subst, All, ◌≤◌, ◌||◌}
+use Rattle.meson_steps.proofs.Words.{if◌then◌else◌, slice_set, cases_eq, eq-eqb, eqb_tells, set-set, IsDistinct, bytes_at, Splice, IsSpannedWithin, of_files}
+use Rattle.meson_steps.proofs.Words.{wide, view, Limits, Parsed, HasFileName, Loaded, max_files, CallRef, changed_tree, saved_file, is_saved, AreDoable}
+use Rattle.meson_steps.proofs.Words.{plain_trees, saturated, Step, StepsMake, AreKnown, HasReached, MayChangeList, Reached, so_far, spot_at, standing, stood}
+use Rattle.meson_steps.proofs.Words.{HeldList, Saved, ListSpot, Work, IsHeldOf, IsReadAgain, IsSettled, settled, IsSavedToo, settled_tree, IsChanged}
+use Rattle.meson_steps.proofs.Words.{list_again}
 use Rattle.meson_syntax.specs.declared.tree.List as rust
-use Rattle.meson_syntax.specs.declared.tree.Parsed.{Parsed}
-use Rattle.meson_syntax.specs.Reads.{IsSpannedWithin, of_files, wide}
-use Rattle.meson_syntax.specs.View.{view}
-use Rattle.meson_calls.specs.declared.call.CallRef.{CallRef}
-use Rattle.meson_calls.specs.Loading.{HasFileName, Loaded, max_files}
-use Rattle.meson_steps.specs.declared.held.HeldList.{HeldList}
-use Rattle.meson_steps.specs.declared.journal.Saved.{Saved}
 use Rattle.meson_steps.specs.declared.journal.Saved.TheVariants as saved
-use Rattle.meson_steps.specs.declared.spans.ListSpot.{ListSpot}
-use Rattle.meson_steps.specs.declared.work.Work.{Work}
-use Rattle.meson_steps.specs.inside.Held.{IsHeldOf, IsReadAgain, IsSettled, settled}
-use Rattle.meson_steps.specs.Journal.{changed_tree, saved_file, is_saved}
-use Rattle.meson_steps.specs.inside.Journal.{IsSavedToo, settled_tree}
-use Rattle.meson_steps.specs.ListSteps.{AreDoable}
-use Rattle.meson_steps.specs.ResultLimits.{plain_trees, saturated}
-use Rattle.meson_steps.specs.Steps.{Step, StepsMake}
-use Rattle.meson_steps.specs.Working.{AreKnown, HasReached, MayChangeList, Reached, so_far, spot_at, standing, stood}
-use Rattle.meson_steps.specs.inside.Working.{IsChanged, list_again}
 use Rattle.meson_steps.proofs.HeldLists.{again_again, again_held, again_read, again_spot, first_again, first_held, first_read, held_spot}
 use Rattle.meson_steps.proofs.ListChanged.{at_spot}
 use Rattle.meson_steps.proofs.Restoring.{changed_is}

@@ -1,18 +1,13 @@
 -- An array or a dictionary that is the value of an element of a list: where it stands, and that another one in its place is that value exchanged.
-use Rattle.std.proofs.Common.{◌≡◌, ℕ, zero, suc, true, false, List, [], ◌∷◌, ◌++◌, take, drop, Option, Some, refl, sym, ap, ◌∙◌, subst}
-use Rattle.std.specs.Prelude.{Bool, if◌then◌else◌, option_map, option_and_then}
-use Rattle.meson_lex.specs.Significant.{Word}
-use Rattle.meson_syntax.specs.declared.operator.Bracket.{Bracket}
+use Rattle.meson_steps.proofs.Words.{◌≡◌, ℕ, zero, suc, true, false, List, [], ◌∷◌, ◌++◌, take, drop, Option, Some, refl, sym, ap, ◌∙◌, subst, Bool}
+use Rattle.meson_steps.proofs.Words.{if◌then◌else◌, option_map, option_and_then, Word, LevelArguments, LevelListing, LevelFile, expression_depth, listing_depth}
+use Rattle.meson_steps.proofs.Words.{holds_pairs, Sort, of_expression, of_statement, of_block, Node, Hole, around, expression_in, arguments_children}
+use Rattle.meson_steps.proofs.Words.{listing_children, nth_hole, nth, reach, block_of, with_block, ListIn, list_in, ListAt, list_within, list_of_node, list_at}
+use Rattle.meson_steps.proofs.Words.{value_of, Nowhere, Plain, Expression, array, dictionary, call, Listing, listing, Argument, plain, named, pair, Arguments}
+use Rattle.meson_steps.proofs.Words.{no_arguments, argument, argument_list, arguments_of, Block, Bracket, some-injective, map-some, and-then-some, list-fits}
+use Rattle.meson_steps.proofs.Words.{elements, is_empty, with_elements, with_value, nth_map}
 use Rattle.meson_syntax.specs.declared.operator.Bracket.TheVariants as bracket
-use Rattle.meson_syntax.specs.Operators.{holds_pairs}
-use Rattle.meson_syntax.specs.Tree.{Nowhere, Plain, Expression, array, dictionary, call, Listing, listing, Argument, plain, named, pair, Arguments, no_arguments, argument, argument_list, arguments_of, Block}
-use Rattle.meson_syntax.specs.Grammar.{LevelArguments, LevelListing, LevelFile, expression_depth, listing_depth}
-use Rattle.meson_syntax.specs.Paths.{Sort, of_expression, of_statement, of_block, Node, Hole, around, expression_in, arguments_children, listing_children, nth_hole, nth, reach, block_of, with_block, ListIn, list_in, ListAt, list_within, list_of_node, list_at, value_of}
 use Rattle.meson_syntax.proofs.parsing.Complete.{list-of-arguments}
-use Rattle.meson_syntax.proofs.parsing.Steps.{some-injective}
-use Rattle.meson_syntax.proofs.paths.Reaching.{map-some, and-then-some, list-fits}
-use Rattle.meson_edit.specs.Edits.{elements, is_empty, with_elements, with_value}
-use Rattle.meson_edit.proofs.paths.Mapped.{nth_map}
 
 -- ---- the child of a node that is an expression
 

@@ -1,15 +1,9 @@
 -- A list with an element without a name, behind which strings are put one after another.
-use Rattle.std.proofs.Common.{◌≡◌, ℕ, zero, suc, ◌≤◌, false, List, [], ◌∷◌, ◌++◌, take, drop, Some, refl, ap, ◌∙◌, true}
-use Rattle.std.specs.Prelude.{option_map, option_and_then}
-use Rattle.meson_syntax.specs.declared.operator.Bracket.{Bracket}
+use Rattle.meson_steps.proofs.Words.{◌≡◌, ℕ, zero, suc, ◌≤◌, false, List, [], ◌∷◌, ◌++◌, take, drop, Some, refl, ap, ◌∙◌, true, option_map, option_and_then}
+use Rattle.meson_steps.proofs.Words.{LevelExpression, LevelArgument, LevelFile, argument_depth, file_depth, holds_values, ListAt, list_at, nth, Nowhere, Plain}
+use Rattle.meson_steps.proofs.Words.{Expression, Listing, listing, Argument, plain, is_named, argument_list, arguments_of, Bracket, Written, Edit, First, After}
+use Rattle.meson_steps.proofs.Words.{elements, with_elements, element_added, first_element, edited, edited_elements, MayFollow, StaysThere, lists-stay}
 use Rattle.meson_syntax.specs.declared.operator.Bracket.TheVariants as bracket
-use Rattle.meson_syntax.specs.Operators.{holds_values}
-use Rattle.meson_syntax.specs.Tree.{Nowhere, Plain, Expression, Listing, listing, Argument, plain, is_named, argument_list, arguments_of}
-use Rattle.meson_syntax.specs.Grammar.{LevelExpression, LevelArgument, LevelFile, argument_depth, file_depth}
-use Rattle.meson_syntax.specs.Paths.{ListAt, list_at, nth}
-use Rattle.meson_edit.specs.Edits.{Written, Edit, First, After, elements, with_elements, element_added, first_element, edited, edited_elements}
-use Rattle.meson_edit.specs.Sequences.{MayFollow, StaysThere}
-use Rattle.meson_edit.proofs.paths.PutThere.{lists-stay}
 use Rattle.meson_edit.proofs.sequences.Deepened.{firsts-stay-within, insertions-stay-within}
 use Rattle.meson_edit.proofs.sequences.Levelled.{firsts-keep-levels, insertions-keep-levels}
 

@@ -1,11 +1,6 @@
 -- Steps keep what their edits do not touch.
-use Rattle.std.proofs.Common.{List, subst}
-use Rattle.meson_splice.specs.declared.file_set.File.{File}
-use Rattle.meson_splice.specs.declared.splice.Splice.{Splice}
-use Rattle.meson_splice.specs.Files.{with_bytes}
+use Rattle.meson_steps.proofs.Words.{List, subst, with_bytes, File, Splice, name_of_file, Step, Laid}
 use Rattle.meson_edit.proofs.Keeping.{edits-keep}
-use Rattle.meson_calls.specs.Loading.{name_of_file}
-use Rattle.meson_steps.specs.Steps.{Step, Laid}
 use Rattle.meson_steps.specs.Steps as making
 use Rattle.meson_steps.specs.Keeping.{StepKeeps, StepsKeep, MakingKeeps}
 use Rattle.meson_steps.specs.Keeping as keeping

@@ -1,3 +1,4 @@
+mod Words
 pub mod BlockNodes
 mod StatementsThere
 pub mod ArgumentValues
@@ -29,6 +30,10 @@ pub mod SameRead
 pub mod Distincts
 pub mod Insertable
 pub mod PlainTrees
+pub mod Between
+pub mod Identifiers
+pub mod KeyedWritten
+pub mod WrittenArrays
 pub mod SetLiterals
 pub mod StepsDoable
 pub mod WentWell

@@ -1,24 +1,9 @@
 -- The new text of a list, where the splices of a step made it, and the list that is read there.
-use Rattle.std.proofs.Common.{◌≡◌, ℕ, ◌+◌, ◌-◌, ◌<◌, ◌≤◌, List, ◌++◌, length, length-append, Option, Some, None, sym, ap, ◌∙◌, subst, arith}
-use Rattle.std.specs.List.{slice_range}
-use Rattle.std.specs.Prelude.{◌^◌, Ok, option_map}
-use Rattle.meson_splice.specs.declared.file_set.File.{File}
-use Rattle.meson_splice.specs.declared.splice.Splice.{Splice}
-use Rattle.meson_splice.specs.Files.{bytes_at}
-use Rattle.meson_splice.specs.Patch.{patched_all}
+use Rattle.meson_steps.proofs.Words.{◌≡◌, ℕ, ◌+◌, ◌-◌, ◌<◌, ◌≤◌, List, ◌++◌, length, length-append, Option, Some, None, sym, ap, ◌∙◌, subst, arith, slice_range}
+use Rattle.meson_steps.proofs.Words.{◌^◌, Ok, option_map, bytes_at, patched_all, File, Splice, furthest_list, list_at, IsSpannedListWithin, ReadsListWithin}
+use Rattle.meson_steps.proofs.Words.{erase_listing, list_view, view, Parsed, some-injective, CallRef, wide_depth, MayChangeList, MayReadList, spot_at, ListSpot}
 use Rattle.meson_syntax.specs.declared.tree.List as rust
-use Rattle.meson_syntax.specs.declared.tree.Parsed.{Parsed}
-use Rattle.meson_syntax.specs.Furthest.{furthest_list}
-use Rattle.meson_syntax.specs.Paths.{list_at}
-use Rattle.meson_syntax.specs.ReadsList.{IsSpannedListWithin, ReadsListWithin}
-use Rattle.meson_syntax.specs.Tree.{erase_listing}
-use Rattle.meson_syntax.specs.View.{list_view, view}
-use Rattle.meson_syntax.proofs.parsing.Steps.{some-injective}
 use Rattle.meson_syntax.proofs.Slices.{slice_range-part}
-use Rattle.meson_calls.specs.declared.call.CallRef.{CallRef}
-use Rattle.meson_steps.specs.declared.spans.ListSpot.{ListSpot}
-use Rattle.meson_steps.specs.ListSteps.{wide_depth}
-use Rattle.meson_steps.specs.Working.{MayChangeList, MayReadList, spot_at}
 use Rattle.meson_steps.proofs.ListTaken.{list_ends}
 use Rattle.meson_steps.proofs.PatchedFiles.{same_files}
 

@@ -1,16 +1,8 @@
 -- A list that is saved is put back for every list that had its place since.
-use Rattle.std.proofs.Common.{◌≡◌, ℕ, ◌<◌, List, length, get_or, sym, ap, subst, ◌∙◌}
+use Rattle.meson_steps.proofs.Words.{◌≡◌, ℕ, ◌<◌, List, length, get_or, sym, ap, subst, ◌∙◌, list_exchanged, wide, Parsed, tree_with, CallRef, MayPut, MayShift}
+use Rattle.meson_steps.proofs.Words.{changed_tree, put_one, Saved, SavedList, IsPutBackFor, MayTakeMoved, settled_tree}
 use Rattle.meson_syntax.specs.declared.tree.List as rust
-use Rattle.meson_syntax.specs.declared.tree.Parsed.{Parsed}
-use Rattle.meson_syntax.specs.ListPut.{list_exchanged}
-use Rattle.meson_syntax.specs.Reads.{wide}
-use Rattle.meson_edit.specs.ExchangedTrees.{tree_with}
-use Rattle.meson_calls.specs.declared.call.CallRef.{CallRef}
-use Rattle.meson_steps.specs.declared.journal.Saved.{Saved}
 use Rattle.meson_steps.specs.declared.journal.Saved.TheVariants as saved
-use Rattle.meson_steps.specs.declared.journal.SavedList.{SavedList}
-use Rattle.meson_steps.specs.inside.Journal.{IsPutBackFor, MayTakeMoved, settled_tree}
-use Rattle.meson_steps.specs.Journal.{MayPut, MayShift, changed_tree, put_one}
 use Rattle.meson_steps.proofs.Restoring.{changed_there, changed_twice}
 use Rattle.meson_steps.proofs.ListTaken.{may_go_on, settled_is, taken_is, unmoved}
 use Rattle.meson_steps.proofs.ExchangedTwice.{twice}

@@ -1,16 +1,10 @@
 -- The elements of a list that a path names, and the array that is the value of one.
-use Rattle.std.proofs.Common.{◌≡◌, ℕ, zero, suc, Bool, true, false, List, [], ◌∷◌, ◌++◌, Some, refl, sym, ap, ◌∙◌, subst}
-use Rattle.meson_syntax.specs.declared.operator.Bracket.{Bracket}
+use Rattle.meson_steps.proofs.Words.{◌≡◌, ℕ, zero, suc, Bool, true, false, List, [], ◌∷◌, ◌++◌, Some, refl, sym, ap, ◌∙◌, subst, an_expression, arguments_parts}
+use Rattle.meson_steps.proofs.Words.{LevelArguments, LevelListing, LevelFile, holds_pairs, nth, ListIn, list_in, ListAt, list_at, value_of, Expression, array}
+use Rattle.meson_steps.proofs.Words.{dictionary, call, Listing, listing, Argument, plain, named, pair, Arguments, no_arguments, argument, argument_list}
+use Rattle.meson_steps.proofs.Words.{Bracket, expression_parts, some-injective, list-fits, elements}
 use Rattle.meson_syntax.specs.declared.operator.Bracket.TheVariants as bracket
-use Rattle.meson_syntax.specs.Operators.{holds_pairs}
-use Rattle.meson_syntax.specs.Tree.{Expression, array, dictionary, call, Listing, listing, Argument, plain, named, pair, Arguments, no_arguments, argument, argument_list, File}
-use Rattle.meson_syntax.specs.Grammar.{LevelArguments, LevelListing, LevelFile}
-use Rattle.meson_syntax.specs.Children.{an_expression, arguments_parts}
-use Rattle.meson_syntax.specs.inside.Children.{expression_parts}
-use Rattle.meson_syntax.specs.Paths.{nth, ListIn, list_in, ListAt, list_at, value_of}
-use Rattle.meson_syntax.proofs.parsing.Steps.{some-injective}
-use Rattle.meson_syntax.proofs.paths.Reaching.{list-fits}
-use Rattle.meson_edit.specs.Edits.{elements}
+use Rattle.meson_syntax.specs.Tree.{File}
 use Rattle.meson_calls.proofs.ListNodes.{ListOf, list_node, list_of, value_below}
 
 module _ (S : Type 0) where

@@ -1,12 +1,8 @@
 -- The brackets and the span of a list that a path names.
-use Rattle.std.proofs.Common.{◌≡◌, ℕ, Bool, true, false, List, Option, Some, None, refl, ap}
-use Rattle.std.specs.Prelude.{if◌then◌else◌, option_map, option_and_then}
-use Rattle.meson_lex.specs.declared.kinds.Span.{Span}
-use Rattle.meson_lex.specs.Significant.{Word}
-use Rattle.meson_syntax.specs.Paths.{Hole, ListAt, ListIn, Node, Sort, block_of, expression_on_path, expression_of, list_at, list_in, list_of_node, list_span, list_within, of_block, of_expression, of_statement, reach}
-use Rattle.meson_syntax.specs.Tree.{Block, Expression, File}
-use Rattle.meson_steps.specs.declared.spans.ListSpot.{ListSpot}
-use Rattle.meson_steps.specs.Working.{spot_at}
+use Rattle.meson_steps.proofs.Words.{◌≡◌, ℕ, Bool, true, false, List, Option, Some, None, refl, ap, if◌then◌else◌, option_map, option_and_then, Word, Span}
+use Rattle.meson_steps.proofs.Words.{Hole, ListAt, ListIn, Node, Sort, block_of, expression_on_path, expression_of, list_at, list_in, list_of_node, list_span}
+use Rattle.meson_steps.proofs.Words.{list_within, of_block, of_expression, of_statement, reach, Block, Expression, spot_at, ListSpot}
+use Rattle.meson_syntax.specs.Tree.{File}
 
 abbrev pub spot_in : Expression Span → Option ListSpot
 spot_in e = option_map (λ (l : ListIn Span). record { bracket = l.bracket; span = list_span l.list }) (list_in e)

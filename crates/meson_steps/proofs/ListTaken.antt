@@ -1,34 +1,16 @@
 -- A list that is read alone in the place of another one: the borders that move stay in their text, and the old list undoes it.
-use Rattle.std.proofs.Common.{◌≡◌, ℕ, ◌+◌, ◌-◌, ◌<◌, ◌≤◌, List, [], ◌++◌, length, length-append, sym, ap, ap₂, ◌∙◌, subst, arith}
-use Rattle.std.specs.Prelude.{◌^◌, Some}
-use Rattle.meson_lex.specs.declared.kinds.Span.{Span}
-use Rattle.meson_lex.specs.Items.{joined}
-use Rattle.meson_lex.specs.Significant.{Word, start}
-use Rattle.meson_syntax.specs.declared.operator.Bracket.{Bracket}
-use Rattle.meson_syntax.specs.declared.source.Limits.{Limits}
+use Rattle.meson_steps.proofs.Words.{◌≡◌, ℕ, ◌+◌, ◌-◌, ◌<◌, ◌≤◌, List, [], ◌++◌, length, length-append, sym, ap, ap₂, ◌∙◌, subst, arith, ◌^◌, Some, joined}
+use Rattle.meson_steps.proofs.Words.{Word, start, Span, furthest_list, listing_depth, list_exchanged, moved_list, moved_parsed, moved, ListAt, list_at}
+use Rattle.meson_steps.proofs.Words.{list_span, IsSpannedWithin, wide, IsListText, IsSpannedListWithin, list_items, list_view, view, Bracket, Limits, Parsed}
+use Rattle.meson_steps.proofs.Words.{tree_with, open-long, old-lists-look, trees-exchange, trees-exchange-back, MayShift, MayTake, SavedList, MayTakeMoved}
+use Rattle.meson_steps.proofs.Words.{settled_tree}
 use Rattle.meson_syntax.specs.declared.tree.List as rust
-use Rattle.meson_syntax.specs.declared.tree.Parsed.{Parsed}
-use Rattle.meson_syntax.specs.ReadsList.{IsListText, IsSpannedListWithin, list_items}
-use Rattle.meson_syntax.specs.Furthest.{furthest_list}
-use Rattle.meson_syntax.specs.Grammar.{listing_depth}
-use Rattle.meson_syntax.specs.ListPut.{list_exchanged}
-use Rattle.meson_syntax.specs.MovedCode.{moved_list, moved_parsed}
-use Rattle.meson_syntax.specs.Moving.{moved}
-use Rattle.meson_syntax.specs.Paths.{ListAt, list_at, list_span}
-use Rattle.meson_syntax.specs.Reads.{IsSpannedWithin, wide}
 use Rattle.meson_syntax.specs.Tree.{File}
-use Rattle.meson_syntax.specs.View.{list_view, view}
 use Rattle.meson_edit.proofs.borders.Files.{trees-end}
 use Rattle.meson_edit.proofs.borders.Tokens.{spots-within}
 use Rattle.meson_edit.proofs.borders.Trees.{at_most, listing-ends}
 use Rattle.meson_edit.proofs.kept.ListsAlone.{lists-alone}
 use Rattle.meson_syntax.proofs.Told.{list_told}
-use Rattle.meson_edit.proofs.kept.Tokens.{open-long}
-use Rattle.meson_edit.specs.ExchangedTrees.{tree_with}
-use Rattle.meson_edit.proofs.paths.ExchangedTrees.{old-lists-look, trees-exchange, trees-exchange-back}
-use Rattle.meson_steps.specs.declared.journal.SavedList.{SavedList}
-use Rattle.meson_steps.specs.Journal.{MayShift, MayTake}
-use Rattle.meson_steps.specs.inside.Journal.{MayTakeMoved, settled_tree}
 
 -- a tree of nothing
 pub no_tree : Parsed

@@ -1,24 +1,9 @@
 -- What steps make of files is determined by both: a text has one item list and one tree with its places, and an edit of it one layout.
-use Rattle.std.proofs.Common.{◌≡◌, ℕ, ◌+◌, List, [], ◌∷◌, ◌++◌, length, None, Result, Ok, refl, sym, ap, ap₂, ◌∙◌, subst, arith}
-use Rattle.meson_lex.specs.declared.kinds.Span.{Span}
-use Rattle.meson_lex.specs.Located.{located}
-use Rattle.meson_lex.proofs.OneList.{one_list}
-use Rattle.meson_splice.specs.declared.fault.SpliceFault.{SpliceFault}
-use Rattle.meson_splice.specs.declared.file_set.File.{File}
-use Rattle.meson_splice.specs.declared.splice.Splice.{Splice}
-use Rattle.meson_splice.specs.Files.{bytes_at}
-use Rattle.meson_splice.specs.Patch.{patched_all}
-use Rattle.meson_layout.specs.Layout.{layout_of}
-use Rattle.meson_syntax.specs.declared.source.Limits.{Limits}
+use Rattle.meson_steps.proofs.Words.{◌≡◌, ℕ, ◌+◌, List, [], ◌∷◌, ◌++◌, length, None, Result, Ok, refl, sym, ap, ap₂, ◌∙◌, subst, arith, bytes_at, patched_all}
+use Rattle.meson_steps.proofs.Words.{SpliceFault, File, Splice, located, Span, one_list, layout_of, IsSourceWithin, IsSpannedWithin, SpellsFile, Limits}
+use Rattle.meson_steps.proofs.Words.{whole-complete, some-injective, other_limits, primitive_of, name_of_file, Step, StepsMake, none, step, Laid, effective}
+use Rattle.meson_steps.proofs.Words.{read_again}
 use Rattle.meson_syntax.specs.Tree as tree
-use Rattle.meson_syntax.specs.Spelling.{SpellsFile}
-use Rattle.meson_syntax.specs.Reads.{IsSourceWithin, IsSpannedWithin}
-use Rattle.meson_syntax.proofs.parsing.Steps.{some-injective}
-use Rattle.meson_syntax.proofs.parsing.CompleteFiles.{whole-complete}
-use Rattle.meson_edit.specs.Places.{primitive_of}
-use Rattle.meson_calls.specs.Loading.{name_of_file}
-use Rattle.meson_steps.specs.Steps.{Step, StepsMake, none, step, Laid, effective, read_again}
-use Rattle.meson_syntax.proofs.parsing.WithinFiles.{other_limits}
 
 -- ---- one tree, within whatever limits
 

@@ -1,14 +1,7 @@
 -- One more step behind those that are done.
-use Rattle.std.proofs.Common.{◌≡◌, ℕ, ◌+◌, List, [], ◌∷◌, ◌++◌, append-nil, refl, sym, ap, ◌∙◌, subst, arith}
-use Rattle.std.specs.Prelude.{Option, Some, None, Ok, option_and_then}
-use Rattle.std.proofs.lemmas.List.{append_assoc}
-use Rattle.meson_splice.specs.declared.file_set.File.{File}
-use Rattle.meson_splice.specs.declared.splice.Splice.{Splice}
-use Rattle.meson_splice.specs.Files.{bytes_at}
-use Rattle.meson_splice.specs.Patch.{patched_all}
-use Rattle.meson_syntax.specs.Tree.{Plain}
-use Rattle.meson_steps.specs.ResultLimits.{saturated}
-use Rattle.meson_steps.specs.Steps.{Step, Laid, StepsMake, none, step, all_stepped, stepped, read_again}
+use Rattle.meson_steps.proofs.Words.{◌≡◌, ℕ, ◌+◌, List, [], ◌∷◌, ◌++◌, refl, sym, ap, ◌∙◌, subst, arith, Option, Some, None, Ok, option_and_then, append_assoc}
+use Rattle.meson_steps.proofs.Words.{bytes_at, patched_all, File, Splice, Plain, saturated, Step, Laid, StepsMake, none, step, all_stepped, stepped, read_again}
+use Rattle.std.proofs.Common.{append-nil}
 
 -- ---- trees
 

@@ -1,15 +1,7 @@
 -- Between two steps of a command stands one thing: a text has one tree with its places, within whatever limits.
-use Rattle.std.proofs.Common.{◌≡◌, ℕ, suc, ◌<◌, List, [], ◌∷◌, length, slice_index_or, refl, sym, ap, ap₂, ◌∙◌, subst, arith}
-use Rattle.meson_splice.specs.declared.file_set.File.{File}
-use Rattle.meson_splice.specs.Files.{bytes_at}
-use Rattle.meson_syntax.specs.declared.source.Limits.{Limits}
-use Rattle.meson_syntax.specs.declared.tree.Parsed.{Parsed}
-use Rattle.meson_syntax.specs.Reads.{IsSpannedWithin}
-use Rattle.meson_syntax.specs.View.{view}
-use Rattle.meson_calls.specs.Loading.{views}
+use Rattle.meson_steps.proofs.Words.{◌≡◌, ℕ, suc, ◌<◌, List, [], ◌∷◌, length, slice_index_or, refl, sym, ap, ap₂, ◌∙◌, subst, arith, bytes_at, File}
+use Rattle.meson_steps.proofs.Words.{IsSpannedWithin, view, Limits, Parsed, views, saturated, AreKnown, limits_of}
 use Rattle.meson_steps.specs.OneStanding.{OneStanding}
-use Rattle.meson_steps.specs.ResultLimits.{saturated}
-use Rattle.meson_steps.specs.Working.{AreKnown, limits_of}
 use Rattle.meson_steps.proofs.OneMaking.{one-making, one_spanned}
 
 abbrev Read : List File → List Parsed → Type 0

@@ -1,46 +1,19 @@
 -- One step of those that may be done one after another.
-use Rattle.std.proofs.Common.{◌≡◌, ℕ, ◌+◌, ◌<◌, ◌≤◌, List, [], ◌∷◌, ◌++◌, length, get_or, append-nil, refl, sym, ap, ap₂, ◌∙◌, subst, arith}
-use Rattle.std.specs.Prelude.{All, Bool, true, false, None, Some, Ok, if◌then◌else◌, option_and_then, slice_set}
-use Rattle.std.specs.Str.{IsUtf8}
-use Rattle.std.proofs.lemmas.List.{set-get_or}
-use Rattle.meson_lex.specs.declared.kinds.Span.{Span}
-use Rattle.meson_lex.specs.Items.{Lexeme, IsItemList}
-use Rattle.meson_layout.specs.declared.primitive.Primitive.{Primitive}
-use Rattle.meson_layout.specs.Edited.{patched_by}
-use Rattle.meson_layout.specs.Laws.{AreTexts}
-use Rattle.meson_layout.specs.Local.{IsReadyIn}
-use Rattle.meson_layout.specs.Layout.{IsPlaced, IsReady, layout_of, pieces}
-use Rattle.meson_splice.specs.declared.file_set.File.{File}
-use Rattle.meson_splice.specs.declared.splice.Splice.{Splice}
-use Rattle.meson_splice.specs.Files.{IsDistinct, bytes_at, with_bytes}
-use Rattle.meson_splice.specs.Patch.{patched_all}
-use Rattle.meson_syntax.specs.declared.source.Limits.{Limits}
-use Rattle.meson_syntax.specs.declared.tree.Parsed.{Parsed}
-use Rattle.meson_syntax.specs.Grammar.{file_depth}
-use Rattle.meson_syntax.specs.Paths.{list_at, list_span}
-use Rattle.meson_syntax.specs.Reads.{IsSpannedWithin, ReadsWithin, Spells, of_files, wide}
-use Rattle.meson_syntax.specs.ReadsList.{ReadsListWithin}
+use Rattle.meson_steps.proofs.Words.{◌≡◌, ℕ, ◌+◌, ◌<◌, ◌≤◌, List, [], ◌∷◌, ◌++◌, length, get_or, refl, sym, ap, ap₂, ◌∙◌, subst, arith, All, Bool, true, false}
+use Rattle.meson_steps.proofs.Words.{None, Some, Ok, if◌then◌else◌, option_and_then, slice_set, IsUtf8, set-get_or, IsDistinct, bytes_at, with_bytes}
+use Rattle.meson_steps.proofs.Words.{patched_all, File, Splice, Lexeme, IsItemList, Span, patched_by, AreTexts, IsPlaced, IsReady, layout_of, pieces, IsReadyIn}
+use Rattle.meson_steps.proofs.Words.{Primitive, file_depth, list_at, list_span, IsSpannedWithin, ReadsWithin, Spells, of_files, wide, ReadsListWithin, Plain}
+use Rattle.meson_steps.proofs.Words.{erase, view, Limits, Parsed, some-injective, other_limits, Edit, edited, edited_list, IsEditOf, MakesText, WritesList}
+use Rattle.meson_steps.proofs.Words.{HasFileName, Loaded, max_files, name_of_file, CallRef, is_saved, AreDoable, MayStandBetween, bare, wide_depth, plain_trees}
+use Rattle.meson_steps.proofs.Words.{saturated, Step, StepsMake, Laid, bytes_again, effective, list_of, read_again, AreKnown, HasReached, MayChangeList}
+use Rattle.meson_steps.proofs.Words.{Standing, limits_of, stood, ListStep, IsChanged, MayChange, placed_edit}
+use Rattle.std.proofs.Common.{append-nil}
 use Rattle.meson_syntax.specs.Tree as tree
-use Rattle.meson_syntax.specs.Tree.{Plain, erase}
-use Rattle.meson_syntax.specs.View.{view}
 use Rattle.meson_edit.proofs.exchange.Standing.{spelled-reads}
-use Rattle.meson_syntax.proofs.parsing.WithinFiles.{other_limits}
 use Rattle.meson_syntax.proofs.parsing.Answers.{reads-found}
-use Rattle.meson_syntax.proofs.parsing.Steps.{some-injective}
-use Rattle.meson_edit.specs.Edits.{Edit, edited, edited_list}
-use Rattle.meson_edit.specs.Laws.{IsEditOf, MakesText, WritesList}
 use Rattle.meson_edit.proofs.lists.Answers.{list-edits-look, list-edits-write}
 use Rattle.meson_edit.proofs.lists.Found.{Found, found}
 use Rattle.meson_edit.proofs.lists.ReadAlone.{written-lists-read}
-use Rattle.meson_calls.specs.declared.call.CallRef.{CallRef}
-use Rattle.meson_steps.specs.declared.step.ListStep.{ListStep}
-use Rattle.meson_steps.specs.Journal.{is_saved}
-use Rattle.meson_steps.specs.ListSteps.{AreDoable, MayStandBetween, bare, wide_depth}
-use Rattle.meson_calls.specs.Loading.{HasFileName, Loaded, max_files, name_of_file}
-use Rattle.meson_steps.specs.ResultLimits.{plain_trees, saturated}
-use Rattle.meson_steps.specs.Steps.{Step, StepsMake, Laid, bytes_again, effective, list_of, read_again}
-use Rattle.meson_steps.specs.Working.{AreKnown, HasReached, MayChangeList, Standing, limits_of, stood}
-use Rattle.meson_steps.specs.inside.Working.{IsChanged, MayChange, placed_edit}
 use Rattle.meson_steps.proofs.PatchedFiles.{OfFile, all_patched, distinct_with, effective_of_file, effective_patches, effective_texts, of_file}
 use Rattle.meson_steps.proofs.StepPlaces.{every_edit, list_there, next_doable, step_code, NextDoable, IsCode}
 use Rattle.meson_steps.proofs.OneMoreStep.{saturated_more, stepped_more, steps_more}

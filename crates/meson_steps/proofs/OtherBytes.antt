@@ -1,13 +1,6 @@
 -- Files of which one has other bytes, and their trees of which one is another one.
-use Rattle.std.proofs.Common.{◌≡◌, ◌≢◌, ℕ, zero, suc, ◌<◌, List, [], ◌∷◌, map, length, get_or, refl, ap, arith}
-use Rattle.std.specs.Prelude.{All, slice_set}
-use Rattle.std.proofs.lemmas.List.Elements.{All-cons, All-head, All-tail}
-use Rattle.meson_splice.specs.declared.file_set.File.{File}
-use Rattle.meson_splice.specs.Files.{bytes_at, with_bytes}
-use Rattle.meson_syntax.specs.declared.tree.Parsed.{Parsed}
-use Rattle.meson_syntax.specs.Tree.{Plain, erase}
-use Rattle.meson_syntax.specs.View.{view}
-use Rattle.meson_calls.specs.Loading.{HasFileName, views}
+use Rattle.meson_steps.proofs.Words.{◌≡◌, ◌≢◌, ℕ, zero, suc, ◌<◌, List, [], ◌∷◌, map, length, get_or, refl, ap, arith, All, slice_set, All-cons, All-head}
+use Rattle.meson_steps.proofs.Words.{All-tail, bytes_at, with_bytes, File, Plain, erase, view, Parsed, HasFileName, views}
 
 -- ---- files
 

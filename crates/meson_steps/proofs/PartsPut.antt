@@ -1,17 +1,18 @@
 -- The parts of a node with another node in the place of one: all others are as they were.
-use Rattle.std.proofs.Common.{◌≡◌, ℕ, zero, suc, ◌+◌, Bool, List, [], ◌∷◌, ◌++◌, length, Some, refl, ap, subst, ◌∙◌, arith, length-append}
-use Rattle.std.proofs.lemmas.List.{append-nil}
-use Rattle.meson_lex.specs.declared.kinds.Kind.{Kind}
+use Rattle.meson_steps.proofs.Words.{◌≡◌, ℕ, zero, suc, ◌+◌, Bool, List, [], ◌∷◌, ◌++◌, length, Some, refl, ap, subst, ◌∙◌, arith, length-append, append-nil}
+use Rattle.meson_steps.proofs.Words.{Word, new_line, Kind, Any, an_expression, a_statement, a_block, argument_parts, arguments_parts, listing_parts, tail_parts}
+use Rattle.meson_steps.proofs.Words.{branches_parts, mark, comma_words, operator_words, expression_words, tails_words, tail_words, argument_words}
+use Rattle.meson_steps.proofs.Words.{arguments_words, statement_words, branches_words, otherwise_words, block_words, opens, closes, Sort, of_expression}
+use Rattle.meson_steps.proofs.Words.{of_statement, of_block, Node, Hole, around, all_around, nth, children, argument_children, arguments_children}
+use Rattle.meson_steps.proofs.Words.{listing_children, operands_children, tail_children, tails_children, expression_children, branches_children}
+use Rattle.meson_steps.proofs.Words.{otherwise_children, statement_children, statements_children, block_children, Expression}
+use Rattle.meson_steps.proofs.Words.{paren, array, dictionary, call, unary, row, postfix, conditional, Operands, no_operands, operand, Tail, method}
+use Rattle.meson_steps.proofs.Words.{index, Tails, no_tails, tail, Listing, listing, Argument, plain, named, pair, Arguments, no_arguments, argument, Statement}
+use Rattle.meson_steps.proofs.Words.{evaluate, assign, selection, iteration, Branches, no_branches, branch, Otherwise, nothing_else}
+use Rattle.meson_steps.proofs.Words.{otherwise, Statements, no_statements, statement, Block, block, Bracket, any_of, operands_parts, tails_parts}
+use Rattle.meson_steps.proofs.Words.{expression_parts, otherwise_parts, statement_parts, statements_parts, block_parts, child_nodes}
 use Rattle.meson_lex.specs.declared.kinds.Kind.TheVariants as k
-use Rattle.meson_lex.specs.Significant.{Word, new_line}
-use Rattle.meson_syntax.specs.declared.operator.Bracket.{Bracket}
 use Rattle.meson_syntax.specs.declared.operator.Bracket.TheVariants as bracket
-use Rattle.meson_syntax.specs.Operators.{opens, closes}
-use Rattle.meson_syntax.specs.Tree.{Expression, identifier, boolean, integer, string, paren, array, dictionary, call, unary, row, postfix, conditional, Operands, no_operands, operand, Tail, method, index, Tails, no_tails, tail, Listing, listing, Argument, plain, named, pair, Arguments, no_arguments, argument, Statement, evaluate, assign, selection, iteration, breaks, continues, Branches, no_branches, branch, Otherwise, nothing_else, otherwise, Statements, no_statements, statement, Block, block}
-use Rattle.meson_syntax.specs.Grammar.{mark, comma_words, operator_words, expression_words, tails_words, tail_words, argument_words, arguments_words, statement_words, branches_words, otherwise_words, block_words}
-use Rattle.meson_syntax.specs.Paths.{Sort, of_expression, of_statement, of_block, Node, Hole, around, all_around, nth, children, argument_children, arguments_children, listing_children, operands_children, tail_children, tails_children, expression_children, branches_children, otherwise_children, statement_children, statements_children, block_children}
-use Rattle.meson_syntax.specs.Children.{Any, an_expression, a_statement, a_block, argument_parts, arguments_parts, listing_parts, tail_parts, branches_parts}
-use Rattle.meson_syntax.specs.inside.Children.{any_of, operands_parts, tails_parts, expression_parts, otherwise_parts, statement_parts, statements_parts, block_parts, child_nodes}
 use Rattle.meson_edit.proofs.paths.Positions.{EveryAt, every-at-append, length-around}
 
 -- ---- lists

@@ -1,20 +1,8 @@
 -- Splices of one file in a set of files, without those that change nothing.
-use Rattle.std.proofs.Common.{◌≡◌, ℕ, zero, suc, ◌+◌, ◌<◌, List, [], ◌∷◌, length, get_or, refl, sym, ap, ◌∙◌, subst, arith, cond}
-use Rattle.std.specs.Prelude.{Bool, true, false, not, bytes_eq, Result, Ok, Err}
-use Rattle.std.specs.List.{AllByRecursion}
-use Rattle.std.specs.Str.{IsUtf8}
-use Rattle.std.proofs.lemmas.Slice.Eq.{bytes_eq-Decides}
-use Rattle.meson_lex.specs.Items.{joined}
-use Rattle.meson_layout.specs.Pieces.{Piece, Keep, Change, splices}
-use Rattle.meson_layout.specs.Edited.{patched_by}
-use Rattle.meson_layout.specs.Laws.{AreTexts}
-use Rattle.meson_splice.specs.declared.fault.SpliceFault.{SpliceFault}
-use Rattle.meson_splice.specs.declared.file_set.File.{File}
-use Rattle.meson_splice.specs.declared.splice.Splice.{Splice}
-use Rattle.meson_splice.specs.Files.{IsDistinct, bytes_at, with_bytes}
-use Rattle.meson_splice.specs.Patch.{patched, patched_in, patched_all, then_ok}
-use Rattle.meson_calls.specs.Loading.{name_of_file}
-use Rattle.meson_steps.specs.Steps.{effective}
+use Rattle.meson_steps.proofs.Words.{◌≡◌, ℕ, zero, suc, ◌+◌, ◌<◌, List, [], ◌∷◌, length, get_or, refl, sym, ap, ◌∙◌, subst, arith, cond, Bool, true, false, not}
+use Rattle.meson_steps.proofs.Words.{bytes_eq, Result, Ok, Err, AllByRecursion, IsUtf8, bytes_eq-Decides, IsDistinct, bytes_at, with_bytes, patched, patched_in}
+use Rattle.meson_steps.proofs.Words.{patched_all, then_ok, SpliceFault, File, Splice, joined, patched_by, AreTexts, Piece, Keep, Change, splices, name_of_file}
+use Rattle.meson_steps.proofs.Words.{effective}
 use Rattle.meson_steps.proofs.Spliced.{patched_named, same_text}
 use Rattle.meson_steps.proofs.OtherBytes.{bytes_there, as_many_files}
 

@@ -1,17 +1,9 @@
 -- An edit of a list that a path names is laid out by that list.
-use Rattle.std.proofs.Common.{◌≡◌, ℕ, true, List, Option, Some, None, refl, sym, ap, ◌∙◌}
-use Rattle.std.specs.Prelude.{option_and_then, option_map}
-use Rattle.meson_lex.specs.declared.kinds.Span.{Span}
-use Rattle.meson_layout.specs.declared.primitive.Primitive.{Primitive}
+use Rattle.meson_steps.proofs.Words.{◌≡◌, ℕ, true, List, Option, Some, None, refl, sym, ap, ◌∙◌, option_and_then, option_map, Span, Primitive, ListAt, list_at}
+use Rattle.meson_steps.proofs.Words.{list_span, value_of, Listing, element_there, argument_span, expression_span, ListEdit, edits_list, placed_edit, placed_in}
 use Rattle.meson_layout.specs.declared.primitive.Primitive.TheVariants as layout
-use Rattle.meson_syntax.specs.Paths.{ListAt, list_at, list_span, value_of}
-use Rattle.meson_edit.specs.Standing.{argument_span, expression_span}
-use Rattle.meson_syntax.specs.Tree.{File, Listing}
-use Rattle.meson_edit.specs.Places.{element_there}
-use Rattle.meson_steps.specs.declared.step.ListEdit.{ListEdit}
+use Rattle.meson_syntax.specs.Tree.{File}
 use Rattle.meson_steps.specs.declared.step.ListEdit.TheVariants as code
-use Rattle.meson_steps.specs.inside.ListSteps.{edits_list}
-use Rattle.meson_steps.specs.inside.Working.{placed_edit, placed_in}
 
 -- by what the path names
 abbrev placed_by : Option (ListAt Span) → ListEdit → Option Primitive

@@ -1,26 +1,14 @@
 -- The trees of a project without spans: they may stand, and the lists in them are those with spans.
-use Rattle.std.proofs.Common.{◌≡◌, ℕ, zero, suc, List, [], ◌∷◌, map, Some, refl, ap, ◌∙◌, arith}
-use Rattle.std.specs.Prelude.{◌≤◌, All, option_map}
-use Rattle.std.proofs.lemmas.List.Elements.{All-cons, All-nil}
-use Rattle.meson_lex.specs.declared.kinds.Span.{Span}
+use Rattle.meson_steps.proofs.Words.{◌≡◌, ℕ, zero, suc, List, [], ◌∷◌, map, Some, refl, ap, ◌∙◌, arith, ◌≤◌, All, option_map, All-cons, All-nil, Span}
+use Rattle.meson_steps.proofs.Words.{file_depth, ListAt, list_at, nth, value_of, max_depth, Nowhere, Plain, Expression, Listing, listing, Arguments}
+use Rattle.meson_steps.proofs.Words.{no_arguments, argument, Argument, plain, named, pair, argument_list, erase, erase_expression, erase_argument}
+use Rattle.meson_steps.proofs.Words.{erase_arguments, erase_listing, view, Parsed, map-some, elements, nth_map, Loaded, AreParsed, named_trees, project, views}
+use Rattle.meson_steps.proofs.Words.{BuildFile, nth_file, CallRef, MayStandBetween, AreShallow, plain_trees}
 use Rattle.meson_splice.specs.declared.file_set.File as files
-use Rattle.meson_syntax.specs.declared.tree.Parsed.{Parsed}
-use Rattle.meson_syntax.specs.Grammar.{file_depth}
 use Rattle.meson_edit.specs.Holes.{ListFront, list_front, erase_list_front}
-use Rattle.meson_syntax.specs.Paths.{ListAt, list_at, nth, value_of}
-use Rattle.meson_syntax.specs.Reads.{max_depth}
-use Rattle.meson_syntax.specs.Tree.{Nowhere, Plain, Expression, Listing, listing, Arguments, no_arguments, argument, Argument, plain, named, pair, argument_list, File, erase, erase_expression, erase_argument, erase_arguments, erase_listing}
-use Rattle.meson_syntax.specs.View.{view}
+use Rattle.meson_syntax.specs.Tree.{File}
 use Rattle.meson_edit.proofs.paths.Erased.{lists-erase}
-use Rattle.meson_edit.proofs.paths.Mapped.{nth_map}
-use Rattle.meson_syntax.proofs.paths.Reaching.{map-some}
-use Rattle.meson_edit.specs.Edits.{elements}
-use Rattle.meson_steps.specs.ListSteps.{MayStandBetween}
-use Rattle.meson_calls.specs.declared.call.CallRef.{CallRef}
 use Rattle.meson_calls.specs.CallPlaces.{ListThere}
-use Rattle.meson_calls.specs.Loading.{Loaded, AreParsed, named_trees, project, views}
-use Rattle.meson_steps.specs.ResultLimits.{AreShallow, plain_trees}
-use Rattle.meson_calls.specs.Project.{BuildFile, nth_file}
 
 -- ---- trees
 

@@ -1,13 +1,7 @@
 -- What a step on a list has read again.
-use Rattle.std.proofs.Common.{◌≡◌, ℕ, zero, suc, ◌<◌, ◌≤◌, List, [], ◌∷◌, ◌++◌, Some, length, length-append, sym, ap, ◌∙◌, arith}
-use Rattle.std.specs.Prelude.{option_and_then}
-use Rattle.meson_lex.specs.declared.kinds.Span.{Span}
-use Rattle.meson_splice.specs.declared.file_set.File.{File}
-use Rattle.meson_splice.specs.Files.{bytes_at, with_bytes}
-use Rattle.meson_syntax.specs.Paths.{ListAt, list_at, list_span}
-use Rattle.meson_edit.specs.Edits.{Edit, First, After, Remove, Replace, Wrap, RemoveStatement, Append}
-use Rattle.meson_edit.specs.Laws.{IsEditOf}
-use Rattle.meson_steps.specs.Steps.{ListsAreReadAgain, bytes_again, list_of}
+use Rattle.meson_steps.proofs.Words.{◌≡◌, ℕ, zero, suc, ◌<◌, ◌≤◌, List, [], ◌∷◌, ◌++◌, Some, length, length-append, sym, ap, ◌∙◌, arith, option_and_then}
+use Rattle.meson_steps.proofs.Words.{bytes_at, with_bytes, File, Span, ListAt, list_at, list_span, Edit, First, After, Remove, Replace, Wrap, RemoveStatement}
+use Rattle.meson_steps.proofs.Words.{Append, IsEditOf, ListsAreReadAgain, bytes_again, list_of}
 use Rattle.meson_steps.proofs.ListTaken.{old_list_some}
 use Rattle.meson_steps.proofs.OtherBytes.{bytes_there}
 use Rattle.meson_steps.proofs.PatchedFiles.{same_files}

@@ -1,11 +1,6 @@
 -- The kinds of the items that a lexer gives.
-use Rattle.std.proofs.Common.{◌≡◌, ℕ, List, [], ◌∷◌, map, Result, Ok, Err, refl, ap, ◌∙◌}
-use Rattle.meson_lex.specs.declared.fault.LexFault.{LexFault}
-use Rattle.meson_lex.specs.declared.kinds.Item.{Item}
-use Rattle.meson_lex.specs.declared.kinds.Kind.{Kind}
-use Rattle.meson_lex.specs.Items.{IsItemList, Lexeme}
-use Rattle.meson_lex.specs.Lexed.{IsLexed}
-use Rattle.meson_layout.proofs.ReadItems.{read, read-all}
+use Rattle.meson_steps.proofs.Words.{◌≡◌, ℕ, List, [], ◌∷◌, map, Result, Ok, Err, refl, ap, ◌∙◌, IsItemList, Lexeme, IsLexed, LexFault, Item, Kind, read}
+use Rattle.meson_steps.proofs.Words.{read-all}
 
 abbrev pub given_kinds : List (Result Item LexFault) → List Kind
 given_kinds [] = []

@@ -1,11 +1,7 @@
 -- Putting back undoes what was exchanged since.
-use Rattle.std.proofs.Common.{◌≡◌, ℕ, zero, suc, ◌<◌, ◌≤◌, List, [], ◌∷◌, ◌++◌, length, get_or, refl, sym, ap, ◌∙◌, subst, arith}
-use Rattle.std.specs.Prelude.{slice_set}
-use Rattle.std.proofs.lemmas.List.{set-set, set-get_or}
-use Rattle.meson_syntax.specs.declared.tree.Parsed.{Parsed}
-use Rattle.meson_steps.specs.declared.journal.Saved.{Saved}
+use Rattle.meson_steps.proofs.Words.{◌≡◌, ℕ, zero, suc, ◌<◌, ◌≤◌, List, [], ◌∷◌, ◌++◌, length, get_or, refl, sym, ap, ◌∙◌, subst, arith, slice_set, set-set}
+use Rattle.meson_steps.proofs.Words.{set-get_or, Parsed, MayPut, MayPutBack, PutsBack, changed_tree, put_back, put_one, Saved}
 use Rattle.meson_steps.specs.declared.journal.Saved.TheVariants as saved
-use Rattle.meson_steps.specs.Journal.{MayPut, MayPutBack, PutsBack, changed_tree, put_back, put_one}
 
 -- ---- trees of which one is changed
 

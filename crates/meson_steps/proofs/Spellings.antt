@@ -1,9 +1,5 @@
 -- A text that is none of the words that are reserved.
-use Rattle.std.proofs.Common.{◌≡◌, ◌≢◌, ℕ, true, false, List, [], ◌∷◌, refl}
-use Rattle.std.specs.Prelude.{Bool, ◌||◌, bytes_eq}
-use Rattle.std.proofs.lemmas.Slice.Eq.{bytes_eq-Decides}
-use Rattle.meson_lex.specs.declared.kinds.Kind.{Kind}
-use Rattle.meson_lex.specs.Kinds.{IsNoneOf, spelling}
+use Rattle.meson_steps.proofs.Words.{◌≡◌, ◌≢◌, ℕ, true, false, List, [], ◌∷◌, refl, Bool, ◌||◌, bytes_eq, bytes_eq-Decides, IsNoneOf, spelling, Kind}
 
 pub differs : (x y : List ℕ) → bytes_eq x y ≡ false → x ≢ y
 differs x y other = λ same. let alike : bytes_eq x y ≡ true = (bytes_eq-Decides x y).1 same in cc

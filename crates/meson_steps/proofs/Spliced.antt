@@ -1,14 +1,8 @@
 -- One splice of a file of a set, where names are distinct; and a splice that changes nothing.
-use Rattle.std.proofs.Common.{◌≡◌, ◌≢◌, ℕ, zero, suc, ◌<◌, List, [], ◌∷◌, ◌++◌, length, refl, sym, ap, ◌∙◌, arith}
-use Rattle.std.specs.Prelude.{slice_index_or, true, false, bytes_eq, Ok}
-use Rattle.std.proofs.lemmas.Bool.{false_from_ne_true}
-use Rattle.std.proofs.lemmas.Slice.Eq.{bytes_eq-Decides}
-use Rattle.meson_splice.specs.declared.file_set.File.{File}
-use Rattle.meson_splice.specs.declared.splice.Splice.{Splice}
-use Rattle.meson_splice.specs.Files.{IsDistinct, bytes_at, with_bytes}
-use Rattle.meson_splice.specs.Patch.{patched, patched_in, then_ok}
+use Rattle.meson_steps.proofs.Words.{◌≡◌, ◌≢◌, ℕ, zero, suc, ◌<◌, List, [], ◌∷◌, ◌++◌, length, refl, sym, ap, ◌∙◌, arith, slice_index_or, true, false, bytes_eq}
+use Rattle.meson_steps.proofs.Words.{Ok, false_from_ne_true, bytes_eq-Decides, IsDistinct, bytes_at, with_bytes, patched, patched_in, then_ok, File, Splice}
+use Rattle.meson_steps.proofs.Words.{name_of_file}
 use Rattle.meson_splice.proofs.Inverses.{patched-means-patches}
-use Rattle.meson_calls.specs.Loading.{name_of_file}
 
 -- ---- a splice of the i-th file
 

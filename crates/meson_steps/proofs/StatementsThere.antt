@@ -1,22 +1,13 @@
 -- The blocks of a selection over a source, and the statements of a block.
-use Rattle.std.proofs.Common.{rules, ◌≡◌, ℕ, zero, suc, ◌+◌, ◌<◌, ◌≤◌, List, [], ◌∷◌, ◌++◌, drop, length, get_or, Option, Some, None, refl, sym, ap, ◌∙◌, arith}
-use Rattle.std.specs.Prelude.{option_map, option_and_then}
-use Rattle.std.proofs.lemmas.List.{at_drop_more}
-use Rattle.meson_lex.specs.declared.kinds.Span.{Span}
+use Rattle.meson_steps.proofs.Words.{rules, ◌≡◌, ℕ, zero, suc, ◌+◌, ◌<◌, ◌≤◌, List, [], ◌∷◌, ◌++◌, drop, length, get_or, Option, Some, None, refl, sym, ap, ◌∙◌}
+use Rattle.meson_steps.proofs.Words.{arith, option_map, option_and_then, at_drop_more, Span, Any, nth, Statement, evaluate, Block, statement_list}
+use Rattle.meson_steps.proofs.Words.{statements_of, expr_view, stmt_view, stmts_view, block_view, Expr, rust_branches_parts, BlockAt, statement_in, block_any}
 use Rattle.meson_syntax.specs.declared.tree.Block as rust_block
 use Rattle.meson_syntax.specs.declared.tree.Branch.{Branch}
-use Rattle.meson_syntax.specs.declared.tree.Expr.{Expr}
 use Rattle.meson_syntax.specs.declared.tree.Stmt.{Stmt}
 use Rattle.meson_syntax.specs.declared.tree.Stmt.TheVariants as stmt
 use Rattle.meson_syntax.specs.declared.tree.Stmt.TheFolds.{the_lemmas}
-use Rattle.meson_syntax.specs.Tree.{Statement, evaluate, Block, statement_list, statements_of}
-use Rattle.meson_edit.specs.Blocks.{BlockAt, statement_in}
-use Rattle.meson_syntax.specs.Children.{Any}
-use Rattle.meson_syntax.specs.inside.Children.{rust_branches_parts}
-use Rattle.meson_syntax.specs.Paths.{nth}
-use Rattle.meson_syntax.specs.View.{expr_view, stmt_view, stmts_view, block_view}
 use Rattle.meson_syntax.proofs.PartsOf.{view-block}
-use Rattle.meson_steps.specs.inside.Layers.{block_any}
 use Rattle.meson_calls.proofs.StatementParts.{branch_block}
 
 -- ---- the blocks of a selection

@@ -1,22 +1,12 @@
 -- The code of a step is laid out where its edit is, and each edit makes the text of the edited tree.
-use Rattle.std.proofs.Common.{◌≡◌, ℕ, List, ◌∷◌, refl, sym, ap, subst}
-use Rattle.std.specs.Prelude.{Bool, true, false, None, Some, option_map, All}
-use Rattle.meson_lex.specs.declared.kinds.Span.{Span}
-use Rattle.meson_syntax.specs.Tree.{File, Plain, erase}
-use Rattle.meson_syntax.proofs.parsing.Steps.{some-injective}
-use Rattle.meson_edit.specs.Edits.{Edit, First, After, Remove, Replace, Wrap, RemoveStatement, Append, edited, edited_list}
-use Rattle.meson_edit.specs.Places.{Writes, primitive_of}
-use Rattle.meson_edit.specs.Laws.{IsEditOf, Spelled}
+use Rattle.meson_steps.proofs.Words.{◌≡◌, ℕ, List, ◌∷◌, refl, sym, ap, subst, Bool, true, false, None, Some, option_map, All, Span, Plain, erase}
+use Rattle.meson_steps.proofs.Words.{some-injective, Edit, First, After, Remove, Replace, Wrap, RemoveStatement, Append, edited, edited_list, IsEditOf, Spelled}
+use Rattle.meson_steps.proofs.Words.{Writes, primitive_of, place, AreDoable, MayStandBetween, one, bare, bare_edit, path_of, Step, list_of, stepped, ListEdit}
+use Rattle.meson_steps.proofs.Words.{ListStep, edits_list, placed_edit}
+use Rattle.meson_syntax.specs.Tree.{File}
 use Rattle.meson_edit.proofs.lists.Answers as lists
 use Rattle.meson_edit.proofs.statements.Appended as appended
 use Rattle.meson_edit.proofs.statements.Removed as removed
-use Rattle.meson_steps.specs.declared.step.ListEdit.{ListEdit}
-use Rattle.meson_steps.specs.declared.step.ListStep.{ListStep}
-use Rattle.meson_steps.specs.ListSteps.{AreDoable, MayStandBetween, one, bare, bare_edit, path_of}
-use Rattle.meson_steps.specs.inside.ListSteps.{edits_list}
-use Rattle.meson_calls.specs.Project.{place}
-use Rattle.meson_steps.specs.Steps.{Step, list_of, stepped}
-use Rattle.meson_steps.specs.inside.Working.{placed_edit}
 
 -- ---- the code of a step
 

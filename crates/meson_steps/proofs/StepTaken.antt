@@ -1,32 +1,13 @@
 -- One step as the code takes it: by the number of its file and the tree that it reads there.
-use Rattle.std.proofs.Common.{◌≡◌, ℕ, ◌<◌, List, [], ◌∷◌, ◌++◌, length, get_or, refl, sym, ap, ◌∙◌, subst, arith}
-use Rattle.std.specs.Prelude.{Bool, true, false, ◌==◌, IfOk, OnOk, Option, Result, Some, None, Ok, Err, option_and_then, option_map}
-use Rattle.std.proofs.lemmas.Bool.{eqb-true}
-use Rattle.meson_lex.specs.declared.kinds.Span.{Span}
-use Rattle.meson_lex.specs.Items.{Lexeme, IsItemList}
-use Rattle.meson_layout.specs.declared.primitive.Primitive.{Primitive}
-use Rattle.meson_layout.specs.Layout.{IsReady, layout_of}
-use Rattle.meson_layout.specs.Local.{IsReadyIn}
-use Rattle.meson_splice.specs.declared.file_set.File.{File}
-use Rattle.meson_splice.specs.declared.splice.Splice.{Splice}
-use Rattle.meson_splice.specs.Files.{bytes_at}
-use Rattle.meson_syntax.specs.declared.tree.Parsed.{Parsed}
-use Rattle.meson_syntax.specs.Paths.{ListAt, list_at, list_span}
-use Rattle.meson_syntax.specs.View.{view}
-use Rattle.meson_steps.specs.declared.step.ListEdit.{ListEdit}
-use Rattle.meson_steps.specs.declared.step.ListStep.{ListStep}
-use Rattle.meson_steps.specs.ListSteps.{bare, bare_edit, path_of}
-use Rattle.meson_steps.specs.inside.ListSteps.{edits_list}
-use Rattle.meson_calls.specs.Loading.{Loaded, name_of_file}
-use Rattle.meson_calls.specs.Project.{place}
-use Rattle.meson_steps.specs.inside.Laying.{AreLaid}
-use Rattle.meson_steps.specs.Steps.{Step, bytes_again, effective}
-use Rattle.meson_steps.specs.Working.{HasReached, MayChangeList, Standing}
-use Rattle.meson_steps.specs.inside.Working.{IsChanged, MayBeLaid, MayChange, list_again, looked_at, placed_edit}
+use Rattle.meson_steps.proofs.Words.{◌≡◌, ℕ, ◌<◌, List, [], ◌∷◌, ◌++◌, length, get_or, refl, sym, ap, ◌∙◌, subst, arith, Bool, true, false, ◌==◌, IfOk, OnOk}
+use Rattle.meson_steps.proofs.Words.{Option, Result, Some, None, Ok, Err, option_and_then, option_map, eqb-true, bytes_at, File, Splice, Lexeme, IsItemList}
+use Rattle.meson_steps.proofs.Words.{Span, IsReady, layout_of, IsReadyIn, Primitive, ListAt, list_at, list_span, view, Parsed, Loaded, name_of_file, place}
+use Rattle.meson_steps.proofs.Words.{nth_name, bare, bare_edit, path_of, Step, bytes_again, effective, HasReached, MayChangeList, Standing, ListEdit, ListStep}
+use Rattle.meson_steps.proofs.Words.{AreLaid, edits_list, IsChanged, MayBeLaid, MayChange, list_again, looked_at, placed_edit}
 use Rattle.meson_steps.proofs.SameRead.{same_read}
 use Rattle.meson_steps.proofs.StepPlaces.{step_list, step_none}
-use Rattle.meson_calls.proofs.Loads.{nth_name}
-use Rattle.meson_steps.proofs.OneStep.{in_files, in_trees, is_ready, is_ready_in, items, laid_is, list_found, list_is, made, may_change, may_change_list, new_reached, same_reached, splices_are}
+use Rattle.meson_steps.proofs.OneStep.{in_files, in_trees, is_ready, is_ready_in, items, laid_is, list_found, list_is, made, may_change, may_change_list}
+use Rattle.meson_steps.proofs.OneStep.{new_reached, same_reached, splices_are}
 
 pub when_ok : {X E P Q : Type 0} (r : Result X E) → (P → Q) → OnOk r P → OnOk r Q
 when_ok (Ok x) then p = then p

@@ -1,18 +1,7 @@
 -- Steps that may be done one after another in the trees of a project: one that changes a tree; and that a string is written.
-use Rattle.std.proofs.Common.{◌≡◌, ℕ, List, ◌∷◌, Some, refl, sym, ap, subst}
-use Rattle.std.specs.Prelude.{All, Ok, slice_set}
-use Rattle.std.specs.Str.{IsUtf8}
-use Rattle.std.proofs.lemmas.List.Elements.{All-set}
-use Rattle.meson_lex.specs.Literals.{literal}
-use Rattle.meson_syntax.specs.Tree.{Nowhere, Plain, Expression}
-use Rattle.meson_syntax.specs.Grammar.{expression_words}
-use Rattle.meson_syntax.specs.Paths.{nth}
-use Rattle.meson_edit.specs.Edits.{Written, edited}
-use Rattle.meson_edit.specs.Places.{IsWritten, Writes}
-use Rattle.meson_steps.specs.ListSteps.{MayStandBetween, AreDoable, one}
-use Rattle.meson_steps.specs.inside.WrittenValues.{IsSet}
-use Rattle.meson_steps.specs.WrittenTexts.{string_of, written_text}
-use Rattle.meson_steps.specs.Steps.{Step}
+use Rattle.meson_steps.proofs.Words.{◌≡◌, ℕ, List, ◌∷◌, Some, refl, sym, ap, subst, All, Ok, slice_set, IsUtf8, All-set, literal, expression_words, nth}
+use Rattle.meson_steps.proofs.Words.{Nowhere, Plain, Expression, Written, edited, IsWritten, Writes, MayStandBetween, AreDoable, one, Step, string_of}
+use Rattle.meson_steps.proofs.Words.{written_text, IsSet}
 use Rattle.meson_steps.proofs.SetLiterals.{text_set}
 use Rattle.meson_steps.proofs.WithOne.{change_there}
 

@@ -1,17 +1,8 @@
 -- What is told of the parts of a node, one after another: it is the same at places that are alike.
-use Rattle.std.specs.Prelude.{⊤}
-use Rattle.std.proofs.Common.{◌≡◌, ℕ, ◌+◌, List, [], ◌∷◌, ◌++◌, Option, refl, sym, ap, ap₂, ◌∙◌}
-use Rattle.std.specs.List.{cons_option, filter_map}
-use Rattle.std.proofs.lemmas.List.Elements.{filter_map-append}
-use Rattle.meson_syntax.specs.Children.{Any, an_expression, a_statement, a_block}
-use Rattle.meson_syntax.specs.inside.Children.{child_nodes}
-use Rattle.meson_syntax.proofs.paths.Every.{Every}
-use Rattle.meson_calls.specs.declared.call.CallRef.{CallRef}
-use Rattle.meson_calls.specs.Parts.{Part}
+use Rattle.meson_steps.proofs.Words.{⊤, ◌≡◌, ℕ, ◌+◌, List, [], ◌∷◌, ◌++◌, Option, refl, sym, ap, ap₂, ◌∙◌, cons_option, filter_map, filter_map-append, Any}
+use Rattle.meson_steps.proofs.Words.{an_expression, a_statement, a_block, child_nodes, Every, Part, Placed, child, placed, CallRef, Each, by_children}
+use Rattle.meson_steps.proofs.Words.{each_of_nth, any, itself, parts_are, parts_below, parts_of}
 use Rattle.meson_calls.specs.Parts as part
-use Rattle.meson_calls.specs.Project.{Placed, child, placed}
-use Rattle.meson_calls.proofs.nodes.Induction.{Each, by_children, each_of_nth}
-use Rattle.meson_calls.proofs.nodes.PartsBelow.{any, itself, parts_are, parts_below, parts_of}
 
 module _ {S Y : Type 0} (tell : Placed (Part S) → Option Y) where
   abbrev pub told : List (Placed (Part S)) → List Y

@@ -1,22 +1,10 @@
 -- Steps of which some are done: from the start, over each step, to the end.
-use Rattle.std.proofs.Common.{◌≡◌, ℕ, ◌<◌, ◌≤◌, List, [], ◌∷◌, ◌++◌, length, append-nil, refl, sym, ap, ◌∙◌, subst}
-use Rattle.std.specs.Prelude.{IfErr, Result, Ok, Err, Some}
-use Rattle.std.proofs.lemmas.List.{append_assoc}
-use Rattle.meson_splice.specs.declared.file_set.File.{File}
-use Rattle.meson_splice.specs.Files.{bytes_at}
-use Rattle.meson_syntax.specs.Reads.{max_len}
-use Rattle.meson_calls.specs.declared.refusal.Refusal.{Refusal}
-use Rattle.meson_calls.specs.declared.refusal.Refusal.TheVariants.{TooDeep, TooLarge}
-use Rattle.meson_calls.specs.Loading.{Loaded}
-use Rattle.meson_steps.specs.declared.step.ListStep.{ListStep}
-use Rattle.meson_steps.specs.declared.work.Work.{Work}
-use Rattle.meson_steps.specs.Done.{IsDone, MayNotBeDone, Meaning, deep, large}
-use Rattle.meson_steps.specs.ListSteps.{AreBare, AreDoable, bare}
+use Rattle.meson_steps.proofs.Words.{◌≡◌, ℕ, ◌<◌, ◌≤◌, List, [], ◌∷◌, ◌++◌, length, refl, sym, ap, ◌∙◌, subst, IfErr, Result, Ok, Err, Some, append_assoc}
+use Rattle.meson_steps.proofs.Words.{bytes_at, File, max_len, Loaded, Refusal, TooDeep, TooLarge, IsDone, MayNotBeDone, Meaning, deep, large, AreBare}
+use Rattle.meson_steps.proofs.Words.{AreDoable, bare, AreShallow, plain_trees, Step, StepsMake, none, AreKnown, HasDeep, HasLarge, IsFresh, IsUnderWay, Reached}
+use Rattle.meson_steps.proofs.Words.{Standing, AreUnderWay, HasReached, so_far, ListStep, Work, AreShallowSoFar, IsNext}
+use Rattle.std.proofs.Common.{append-nil}
 use Rattle.meson_steps.specs.Plans.{Doable}
-use Rattle.meson_steps.specs.ResultLimits.{AreShallow, plain_trees}
-use Rattle.meson_steps.specs.Steps.{Step, StepsMake, none}
-use Rattle.meson_steps.specs.Working.{AreKnown, HasDeep, HasLarge, IsFresh, IsUnderWay, Reached, Standing, AreUnderWay, HasReached, so_far}
-use Rattle.meson_steps.specs.inside.Working.{AreShallowSoFar, IsNext}
 use Rattle.meson_steps.proofs.WorkKnown.{known_first}
 use Rattle.meson_steps.proofs.WorkLimits.{all_small, known_parsed, known_shallow, not_shallow, not_small}
 

@@ -1,7 +1,5 @@
 -- Results that went well, one after another.
-use Rattle.std.proofs.Common.{◌≡◌, ℕ, List, [], ◌∷◌, refl}
-use Rattle.std.specs.Prelude.{Result, Ok, Err}
-use Rattle.meson_splice.specs.Patch.{then_ok}
+use Rattle.meson_steps.proofs.Words.{◌≡◌, ℕ, List, [], ◌∷◌, refl, Result, Ok, Err, then_ok}
 use Rattle.meson_calls.specs.NamedArguments.{once}
 
 pub then_was : {X Y E : Type 0} (r : Result X E) (f : X → Result Y E) (y : Y) → then_ok r f ≡ Ok y → (x : X) × (r ≡ Ok x) × (f x ≡ Ok y)

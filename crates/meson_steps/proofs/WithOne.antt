@@ -1,12 +1,6 @@
 -- Lists with another value in one place.
-use Rattle.std.specs.Prelude.{All, None, option_map, slice_set}
-use Rattle.std.proofs.Common.{◌≡◌, ℕ, zero, suc, ◌<◌, List, [], ◌∷◌, length, get_or, Option, Some, refl, sym, ap, ◌∙◌, subst, arith}
-use Rattle.std.proofs.lemmas.List.Elements.{All-head, All-tail}
-use Rattle.std.proofs.lemmas.List.{get_or-set_same, length-set}
-use Rattle.meson_syntax.specs.Paths.{nth}
-use Rattle.meson_syntax.proofs.parsing.Steps.{some-injective}
-use Rattle.meson_syntax.proofs.paths.Reaching.{map-some}
-use Rattle.meson_steps.specs.Steps.{changed_at}
+use Rattle.meson_steps.proofs.Words.{All, None, option_map, slice_set, ◌≡◌, ℕ, zero, suc, ◌<◌, List, [], ◌∷◌, length, get_or, Option, Some, refl, sym, ap, ◌∙◌}
+use Rattle.meson_steps.proofs.Words.{subst, arith, get_or-set_same, length-set, All-head, All-tail, nth, some-injective, map-some, changed_at}
 
 -- ---- what stands at a number
 

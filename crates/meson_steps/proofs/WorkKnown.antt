@@ -1,21 +1,8 @@
 -- Files that are known between two steps.
-use Rattle.std.proofs.Common.{◌≡◌, ℕ, ◌<◌, inl, inr, Bool, List, [], length, get_or, sym, ap, ◌∙◌, subst, arith}
-use Rattle.std.specs.Prelude.{if◌then◌else◌, slice_set}
-use Rattle.std.proofs.lemmas.Bool.{cases_eq}
-use Rattle.std.proofs.lemmas.List.{get_or-set_other, get_or-set_same, length-set}
-use Rattle.meson_splice.specs.declared.file_set.File.{File}
-use Rattle.meson_splice.specs.Files.{bytes_at, with_bytes}
-use Rattle.meson_syntax.specs.declared.source.Limits.{Limits}
-use Rattle.meson_syntax.specs.declared.tree.Parsed.{Parsed}
-use Rattle.meson_syntax.specs.Reads.{IsSpannedWithin, of_files, wide}
-use Rattle.meson_syntax.specs.View.{view}
-use Rattle.meson_calls.specs.Loading.{AreParsed}
+use Rattle.meson_steps.proofs.Words.{◌≡◌, ℕ, ◌<◌, inl, inr, Bool, List, [], length, get_or, sym, ap, ◌∙◌, subst, arith, if◌then◌else◌, slice_set, cases_eq}
+use Rattle.meson_steps.proofs.Words.{get_or-set_other, get_or-set_same, length-set, bytes_at, with_bytes, File, IsSpannedWithin, of_files, wide, view, Limits}
+use Rattle.meson_steps.proofs.Words.{Parsed, AreParsed, as_many, is_saved, AreKnown, limits_of, Saved, IsSavedToo}
 use Rattle.meson_calls.proofs.CallsAt.{spanned_at}
-use Rattle.meson_calls.proofs.Loads.{as_many}
-use Rattle.meson_steps.specs.declared.journal.Saved.{Saved}
-use Rattle.meson_steps.specs.Journal.{is_saved}
-use Rattle.meson_steps.specs.inside.Journal.{IsSavedToo}
-use Rattle.meson_steps.specs.Working.{AreKnown, limits_of}
 use Rattle.meson_steps.proofs.OtherBytes.{as_many_files, bytes_elsewhere, bytes_there}
 
 -- ---- none of them changed

@@ -1,25 +1,10 @@
 -- Files that are known within the limits, and those that pass one.
-use Rattle.std.proofs.Common.{◌≡◌, ℕ, suc, ◌<◌, ◌≤◌, Bool, true, false, List, [], ◌∷◌, length, get_or, map, refl, sym, ap, ◌∙◌, subst, arith}
-use Rattle.std.specs.Prelude.{All, if◌then◌else◌, nat_le}
-use Rattle.std.proofs.lemmas.Bool.Decides.{nat_tests}
-use Rattle.meson_lex.specs.declared.kinds.Span.{Span}
-use Rattle.meson_splice.specs.declared.file_set.File.{File}
-use Rattle.meson_splice.specs.Files.{bytes_at}
-use Rattle.meson_syntax.specs.declared.tree.Parsed.{Parsed}
-use Rattle.meson_syntax.specs.Grammar.{file_depth}
-use Rattle.meson_syntax.specs.Reads.{IsSpanned, IsSpannedWithin, max_depth, max_len, of_files, wide}
+use Rattle.meson_steps.proofs.Words.{◌≡◌, ℕ, suc, ◌<◌, ◌≤◌, Bool, true, false, List, [], ◌∷◌, length, get_or, map, refl, sym, ap, ◌∙◌, subst, arith, All}
+use Rattle.meson_steps.proofs.Words.{if◌then◌else◌, nat_le, nat_tests, bytes_at, File, Span, file_depth, IsSpanned, IsSpannedWithin, max_depth, max_len}
+use Rattle.meson_steps.proofs.Words.{of_files, wide, Plain, erase, view, Parsed, other_limits, AreParsed, views, nth_bytes, is_saved, AreShallow, AreSmall}
+use Rattle.meson_steps.proofs.Words.{AreKnown, HasDeep, HasLarge, Saved, AreShallowSoFar}
 use Rattle.meson_syntax.specs.Tree as tree
-use Rattle.meson_syntax.specs.Tree.{Plain, erase}
-use Rattle.meson_syntax.specs.View.{view}
 use Rattle.meson_syntax.proofs.parsing.FileErased.{file-depth-erased}
-use Rattle.meson_syntax.proofs.parsing.WithinFiles.{other_limits}
-use Rattle.meson_calls.specs.Loading.{AreParsed, views}
-use Rattle.meson_calls.proofs.Loads.{nth_bytes}
-use Rattle.meson_steps.specs.declared.journal.Saved.{Saved}
-use Rattle.meson_steps.specs.Journal.{is_saved}
-use Rattle.meson_steps.specs.ResultLimits.{AreShallow, AreSmall}
-use Rattle.meson_steps.specs.Working.{AreKnown, HasDeep, HasLarge}
-use Rattle.meson_steps.specs.inside.Working.{AreShallowSoFar}
 use Rattle.meson_steps.proofs.OtherBytes.{as_many_plain, plain_at}
 
 -- ---- from each file to all

@@ -9,6 +9,7 @@ pub mod Working
 pub mod OneStanding
 pub mod Meanings
 pub mod Names
+pub mod Identifiers
 pub mod WrittenTexts
 pub mod Code
 pub mod GivenWords

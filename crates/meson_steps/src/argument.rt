@@ -21,7 +21,8 @@ pub enum PlaceName {
     Call { callee: Callee, id: Text },
     /// The value to which the variable of this name is set.
     Variable(Text),
-    /// What begins on a line of the file of this name, counted from 1: an assigned value, or a call by its opening bracket.
+    /// What begins on a line of the file of this name, counted from 1: an assigned value, or a call by its opening bracket. If there is neither, the first array
+    /// or dictionary that opens on the line.
     Line { file: Text, line: usize },
 }
 
@@ -46,6 +47,8 @@ pub enum ValueChange {
     Set(Given),
     /// The elements of its array become these values, or it becomes the array of them.
     SetAll(Many<Given>),
+    /// Those of these values that it does not have yet are added to its last list.
+    Add(Many<Given>),
     /// Its argument, entry or element is removed.
     Delete,
 }
@@ -78,6 +81,7 @@ impl Drop for ValueChange {
         match self {
             ValueChange::Set(_) => {}
             ValueChange::SetAll(_) => {}
+            ValueChange::Add(_) => {}
             ValueChange::Delete => {}
         }
     }

@@ -1,38 +1,15 @@
 -- A target that is added is the one that its name names.
-use Rattle.std.proofs.Common.{◌≡◌, ℕ, zero, suc, ◌+◌, true, false, List, [], ◌∷◌, ◌++◌, append-nil, append_assoc, map, Option, Some, None, refl, sym, ap, ap₂, ◌∙◌, arith}
-use Rattle.std.specs.Prelude.{Bool, ◌&&◌, bytes_eq, codes, if◌then◌else◌, not, option_and_then, option_map, Result, Ok, Err}
-use Rattle.std.specs.List.{cons_option}
-use Rattle.std.specs.Str.{IsUtf8}
-use Rattle.std.proofs.lemmas.List.Elements.{filter_map-append}
-use Rattle.std.proofs.lemmas.Slice.Eq.{bytes_eq-Decides}
-use Rattle.meson_lex.proofs.Written.{literal_value}
-use Rattle.meson_splice.specs.Patch.{then_ok}
-use Rattle.meson_splice.specs.declared.file_set.File.{File}
-use Rattle.meson_syntax.specs.declared.tree.Parsed.{Parsed}
-use Rattle.meson_edit.specs.Blocks.{and_last, file_and_last}
-use Rattle.meson_syntax.specs.Tree.{Nowhere, Plain, plain, Statement, Statements, no_statements, statement, block, file, arguments_of, erase}
-use Rattle.meson_syntax.specs.View.{view}
-use Rattle.meson_edit.specs.Edits.{Append, Written, edited}
-use Rattle.meson_calls.specs.declared.call.CallRef.{CallRef}
+use Rattle.meson_targets.proofs.Words.{◌≡◌, ℕ, zero, suc, ◌+◌, true, false, List, [], ◌∷◌, ◌++◌, append-nil, append_assoc, map, Option, Some, None, refl, sym}
+use Rattle.meson_targets.proofs.Words.{ap, ap₂, ◌∙◌, arith, Bool, ◌&&◌, bytes_eq, codes, if◌then◌else◌, not, option_and_then, option_map, Result, Ok, Err}
+use Rattle.meson_targets.proofs.Words.{cons_option, IsUtf8, filter_map-append, bytes_eq-Decides, then_ok, File, literal_value, Nowhere, Plain, plain, Statement}
+use Rattle.meson_targets.proofs.Words.{Statements, no_statements, statement, block, file, arguments_of, erase, view, Parsed, some-injective, and_last}
+use Rattle.meson_targets.proofs.Words.{file_and_last, Append, Written, edited, Call, call_of, all_chosen, chosen, is, part_call, only_one, named_trees, project}
+use Rattle.meson_targets.proofs.Words.{views, assigned_values, or_else, with_name, Part, parts_of_arguments, parts_of_file, parts, parts_from}
+use Rattle.meson_targets.proofs.Words.{parts_of_statement, parts_of_statements, Placed, Project, child, place, placed, one_of, target_functions, with_role}
+use Rattle.meson_targets.proofs.Words.{CallRef, Refusal, WrongKind, checked_names, distinct, plain_trees, Step, all_stepped, changed_at, string_of, named_alike}
+use Rattle.meson_targets.proofs.Words.{named_among, parts_erased, then_was, AddedTargetsAreNamed, call_with_texts, append_steps, checked_kind, kind_key}
+use Rattle.meson_targets.proofs.Words.{not_taken, number_in, target_statement, targets_named, written_target}
 use Rattle.meson_calls.specs.declared.call.Role.TheVariants as role
-use Rattle.meson_calls.specs.declared.refusal.Refusal.{Refusal}
-use Rattle.meson_calls.specs.declared.refusal.Refusal.TheVariants.{WrongKind}
-use Rattle.meson_calls.specs.Calls.{Call, call_of, all_chosen, chosen, is, part_call}
-use Rattle.meson_calls.specs.Finding.{only_one}
-use Rattle.meson_calls.specs.Loading.{named_trees, project, views}
-use Rattle.meson_calls.specs.Parts.{Part, parts_of_arguments, parts_of_file, parts, parts_from, parts_of_statement, parts_of_statements}
-use Rattle.meson_calls.specs.Project.{Placed, Project, child, place, placed}
-use Rattle.meson_calls.specs.Naming.{assigned_values, or_else, with_name}
-use Rattle.meson_calls.specs.Roles.{one_of, target_functions, with_role}
-use Rattle.meson_steps.proofs.WentWell.{then_was}
-use Rattle.meson_syntax.proofs.parsing.Steps.{some-injective}
-use Rattle.meson_steps.specs.Names.{checked_names, distinct}
-use Rattle.meson_steps.specs.ResultLimits.{plain_trees}
-use Rattle.meson_steps.specs.Steps.{Step, all_stepped, changed_at}
-use Rattle.meson_steps.specs.WrittenTexts.{string_of}
-use Rattle.meson_targets.specs.Effects.{AddedTargetsAreNamed, call_with_texts}
-use Rattle.meson_targets.specs.TargetEdits.{append_steps, checked_kind, kind_key, not_taken, number_in, target_statement, targets_named, written_target}
-use Rattle.meson_steps.proofs.ErasedParts.{named_alike, named_among, parts_erased}
 
 -- ---- lists that are joined
 

@@ -1,9 +1,6 @@
 -- What is chosen of parts, told at once; and lists from which a part has gone.
-use Rattle.std.proofs.Common.{◌≡◌, List, [], ◌∷◌, ◌++◌, map, Option, Some, None, refl, sym, ap, ◌∙◌}
-use Rattle.std.specs.Prelude.{option_and_then, option_map}
-use Rattle.std.specs.List.{cons_option, filter_map}
-use Rattle.meson_calls.specs.Calls.{all_chosen}
-use Rattle.meson_calls.specs.Project.{Placed, placed}
+use Rattle.meson_targets.proofs.Words.{◌≡◌, List, [], ◌∷◌, ◌++◌, map, Option, Some, None, refl, sym, ap, ◌∙◌, option_and_then, option_map, cons_option}
+use Rattle.meson_targets.proofs.Words.{filter_map, all_chosen, Placed, placed}
 
 -- ---- what is chosen, told at once
 

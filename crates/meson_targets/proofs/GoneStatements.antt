@@ -1,18 +1,10 @@
 -- A statement that is removed is gone from its block, and all else stays.
-use Rattle.std.proofs.Common.{◌≡◌, ℕ, zero, suc, List, [], ◌∷◌, ◌++◌, length, Option, Some, None, refl, sym, ap, ◌∙◌, subst}
-use Rattle.std.specs.Prelude.{option_and_then, option_map}
-use Rattle.meson_lex.specs.Significant.{Word}
-use Rattle.meson_edit.specs.Blocks.{BlockAt, all_but, block_at, block_of_node, block_without, statement_in}
-use Rattle.meson_syntax.specs.Paths.{Sort, of_expression, of_statement, of_block, Node, nth, reach}
-use Rattle.meson_syntax.specs.Tree.{Nowhere, Plain, Statement, Statements, no_statements, statement, statement_list, Block, block, file}
-use Rattle.meson_syntax.proofs.parsing.Steps.{some-injective}
-use Rattle.meson_syntax.proofs.paths.Reaching.{and-then-some, map-some}
-use Rattle.meson_edit.specs.Edits.{RemoveStatement, edited}
+use Rattle.meson_targets.proofs.Words.{◌≡◌, ℕ, zero, suc, List, [], ◌∷◌, ◌++◌, length, Option, Some, None, refl, sym, ap, ◌∙◌, subst, option_and_then}
+use Rattle.meson_targets.proofs.Words.{option_map, Word, Sort, of_expression, of_statement, of_block, Node, nth, reach, Nowhere, Plain, Statement, Statements}
+use Rattle.meson_targets.proofs.Words.{no_statements, statement, statement_list, Block, block, file, some-injective, and-then-some, map-some, BlockAt, all_but}
+use Rattle.meson_targets.proofs.Words.{block_at, block_of_node, block_without, statement_in, RemoveStatement, edited, Step, all_stepped, changed_at, ChangeMade}
+use Rattle.meson_targets.proofs.Words.{change_made, StatementGone, block_statements, StatementPlace, statement_removal}
 use Rattle.meson_edit.proofs.paths.PutThere.{PutThere, reach-stays}
-use Rattle.meson_steps.specs.Steps.{Step, all_stepped, changed_at}
-use Rattle.meson_steps.proofs.WithOne.{ChangeMade, change_made}
-use Rattle.meson_targets.specs.Effects.{StatementGone, block_statements}
-use Rattle.meson_targets.specs.TargetEdits.{StatementPlace, statement_removal}
 
 -- ---- the statements of a block without one
 

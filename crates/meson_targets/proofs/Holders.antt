@@ -1,10 +1,6 @@
 -- The statement that holds the call at a place.
-use Rattle.std.proofs.Common.{◌≡◌, Option, Some, None, ap, ◌∙◌}
-use Rattle.std.specs.Prelude.{option_map, option_and_then}
-use Rattle.meson_lex.specs.declared.kinds.Span.{Span}
-use Rattle.meson_calls.specs.declared.call.CallRef.{CallRef}
-use Rattle.meson_calls.specs.Project.{Project}
-use Rattle.meson_targets.specs.TargetEdits.{StatementPlace, Held, Holder, held_by, holder, statement_of, statement_there}
+use Rattle.meson_targets.proofs.Words.{◌≡◌, Option, Some, None, ap, ◌∙◌, option_map, option_and_then, Span, Project, CallRef, StatementPlace, Held, Holder}
+use Rattle.meson_targets.proofs.Words.{held_by, holder, statement_of, statement_there}
 
 module _ (p : Project Span) (call : CallRef) where
   abbrev on_held : StatementPlace → Option Held → Option Holder

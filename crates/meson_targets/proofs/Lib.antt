@@ -1,3 +1,4 @@
+mod Words
 pub mod AddedTargets
 mod ChosenParts
 mod ToldParts

@@ -1,25 +1,11 @@
 -- A target to be: whether its name is taken, the file of its folder, and what is written.
-use Rattle.std.proofs.Common.{◌≡◌, ℕ, suc, ◌+◌, ◌<◌, List, [], ◌∷◌, ◌++◌, map, take, length, get_or, codes, Option, Some, None, refl, sym, ap, ap₂, ◌∙◌, append_assoc, arith}
-use Rattle.std.specs.Prelude.{All, not, cond, nat_lt, bytes_eq, ok_or, option_and_then, Result, Ok, Err, IfOk, OnOk}
-use Rattle.std.specs.List.{position_or_len}
-use Rattle.std.specs.Str.{IsUtf8}
+use Rattle.meson_targets.proofs.Words.{◌≡◌, ℕ, suc, ◌+◌, ◌<◌, List, [], ◌∷◌, ◌++◌, map, take, length, get_or, codes, Option, Some, None, refl, sym, ap, ap₂}
+use Rattle.meson_targets.proofs.Words.{◌∙◌, append_assoc, arith, All, not, cond, nat_lt, bytes_eq, ok_or, option_and_then, Result, Ok, Err, IfOk, OnOk}
+use Rattle.meson_targets.proofs.Words.{position_or_len, IsUtf8, All-cons, position_of_file, File, literal, Span, Parsed, Call, named_trees, views, BuildFile}
+use Rattle.meson_targets.proofs.Words.{Placed, places, CallRef, NameTaken, NoFile, comma_between, more_between, not_taken, file_of_folder, file_number}
+use Rattle.meson_targets.proofs.Words.{number_in}
 use Rattle.std.proofs.lemmas.List.{map-append, take_more}
-use Rattle.std.proofs.lemmas.List.Elements.{All-cons}
-use Rattle.meson_lex.specs.declared.kinds.Span.{Span}
-use Rattle.meson_lex.specs.Literals.{literal}
-use Rattle.meson_splice.specs.declared.file_set.File.{File}
-use Rattle.meson_splice.specs.Files.{position_of_file}
-use Rattle.meson_syntax.specs.declared.tree.Parsed.{Parsed}
-use Rattle.meson_calls.specs.declared.call.CallRef.{CallRef}
-use Rattle.meson_calls.specs.declared.refusal.Refusal.TheVariants.{NameTaken, NoFile}
-use Rattle.meson_calls.specs.Calls.{Call}
 use Rattle.meson_calls.specs.Folders.{build_file, file_in}
-use Rattle.meson_calls.specs.Loading.{named_trees, views}
-use Rattle.meson_calls.specs.Project.{BuildFile, Placed}
-use Rattle.meson_calls.specs.Roles.{places}
-use Rattle.meson_steps.specs.WrittenTexts.{comma_between}
-use Rattle.meson_targets.specs.TargetEdits.{not_taken, file_of_folder, file_number, number_in}
-use Rattle.meson_steps.proofs.SetLiterals.{more_between}
 
 -- ---- names
 

@@ -1,40 +1,22 @@
 -- A target that is removed is gone with its statement: no target has its name, and the other targets stay.
-use Rattle.std.proofs.Common.{◌≡◌, ℕ, zero, suc, true, false, List, [], ◌∷◌, ◌++◌, map, Option, Some, None, refl, sym, ap, ◌∙◌, subst, inl, inr}
-use Rattle.std.specs.Prelude.{Bool, ◌⊎◌, if◌then◌else◌, ok_or, option_and_then, option_map, Ok}
-use Rattle.std.specs.List.{cons_option}
-use Rattle.meson_lex.specs.declared.kinds.Span.{Span}
-use Rattle.meson_splice.specs.Patch.{then_ok}
-use Rattle.meson_splice.specs.declared.file_set.File.{File}
-use Rattle.meson_edit.specs.Blocks.{BlockAt, block_at, statement_in}
+use Rattle.meson_targets.proofs.Words.{◌≡◌, ℕ, zero, suc, true, false, List, [], ◌∷◌, ◌++◌, map, Option, Some, None, refl, sym, ap, ◌∙◌, subst, inl, inr, Bool}
+use Rattle.meson_targets.proofs.Words.{◌⊎◌, if◌then◌else◌, ok_or, option_and_then, option_map, Ok, cons_option, then_ok, File, Span, Nowhere, Plain, Expression}
+use Rattle.meson_targets.proofs.Words.{call, Statement, selection, iteration, Branches, Otherwise, Block, erase, erase_block, erase_expression, erase_listing}
+use Rattle.meson_targets.proofs.Words.{erase_statement, some-injective, Every, and-then-some, map-some, BlockAt, block_at, statement_in, RemoveStatement}
+use Rattle.meson_targets.proofs.Words.{blocks-erase, Call, all_chosen, call_of, first_literal, part_call, only_one, Loaded, named_trees, project, views}
+use Rattle.meson_targets.proofs.Words.{or_else, with_name, Part, parts_of_expression, parts_of_listing, parts, parts_of_statement, BuildFile, Placed, Project}
+use Rattle.meson_targets.proofs.Words.{nth_file, place, placed, role_calls, with_role, CallRef, NotStatement, every_chosen, plain_trees, all_stepped, bare_call}
+use Rattle.meson_targets.proofs.Words.{name_alike, named_alike, named_among, parts_erased, role_alike, tree_there, then_was, CallsGone, RemovedTargetsAreGone}
+use Rattle.meson_targets.proofs.Words.{StatementGone, Held, Holder, StatementPlace, held_by, holder, not_in_use, statement_of, statement_removal}
+use Rattle.meson_targets.proofs.Words.{statement_there, targets_named}
 use Rattle.meson_syntax.specs.Paths as paths
-use Rattle.meson_syntax.specs.Tree.{Nowhere, Plain, Expression, call, Statement, selection, iteration, Branches, Otherwise, Block, erase, erase_block, erase_expression, erase_listing, erase_statement}
 use Rattle.meson_syntax.specs.Tree as tree
-use Rattle.meson_syntax.proofs.parsing.Steps.{some-injective}
-use Rattle.meson_edit.proofs.paths.Erased.{blocks-erase}
-use Rattle.meson_syntax.proofs.paths.Every.{Every}
-use Rattle.meson_syntax.proofs.paths.Reaching.{and-then-some, map-some}
-use Rattle.meson_edit.specs.Edits.{RemoveStatement}
-use Rattle.meson_calls.specs.declared.call.CallRef.{CallRef}
 use Rattle.meson_calls.specs.declared.call.Role.TheVariants as role
-use Rattle.meson_calls.specs.Calls.{Call, all_chosen, call_of, first_literal, part_call}
 use Rattle.meson_calls.specs.Calls as calls
-use Rattle.meson_calls.specs.Finding.{only_one, the_call}
-use Rattle.meson_calls.specs.Loading.{Loaded, named_trees, project, views}
-use Rattle.meson_calls.specs.Parts.{Part, a_statement, parts_of_expression, parts_of_listing, parts, parts_of_statement}
-use Rattle.meson_calls.specs.Project.{BuildFile, Placed, Project, nth_file, place, placed}
-use Rattle.meson_calls.specs.Naming.{or_else, with_name}
-use Rattle.meson_calls.specs.Roles.{role_calls, with_role}
+use Rattle.meson_calls.specs.Finding.{the_call}
+use Rattle.meson_calls.specs.Parts.{a_statement}
 use Rattle.meson_calls.proofs.CallsFound.{role_found}
-use Rattle.meson_calls.proofs.CallsReached.{every_chosen}
-use Rattle.meson_steps.specs.ResultLimits.{plain_trees}
-use Rattle.meson_steps.specs.Steps.{all_stepped}
-use Rattle.meson_steps.proofs.PlainTrees.{tree_there}
-use Rattle.meson_steps.proofs.WentWell.{then_was}
-use Rattle.meson_calls.specs.declared.refusal.Refusal.TheVariants.{NotStatement}
-use Rattle.meson_targets.specs.Effects.{CallsGone, RemovedTargetsAreGone, StatementGone}
-use Rattle.meson_targets.specs.TargetEdits.{Held, Holder, StatementPlace, held_by, holder, not_in_use, statement_of, statement_removal, statement_there, targets_named}
 use Rattle.meson_targets.proofs.ChosenParts.{chosen_its, chosen_told, nothing_left, only_it, unmapped}
-use Rattle.meson_steps.proofs.ErasedParts.{bare_call, name_alike, named_alike, named_among, parts_erased, role_alike}
 use Rattle.meson_targets.proofs.GoneStatements.{gone, made, only_step, removed}
 use Rattle.meson_targets.proofs.SetTargets.{SetAt, all_set, set_targets, set_tells, set_told, tell_set, told_alike}
 use Rattle.meson_targets.proofs.StatementTargets.{IsOf, alone, holds_it, line_of, set}

@@ -1,32 +1,19 @@
 -- The variable that a statement of a file sets is an identifier.
-use Rattle.std.proofs.Common.{◌≡◌, ℕ, zero, suc, List, [], ◌∷◌, ◌++◌, Some, sym, ap, ◌∙◌, subst}
-use Rattle.std.specs.Prelude.{option_and_then, option_map}
-use Rattle.meson_lex.specs.Kinds.{IsIdentifier}
-use Rattle.meson_lex.specs.Significant.{new_line}
-use Rattle.meson_lex.specs.declared.kinds.Span.{Span}
-use Rattle.meson_splice.specs.declared.file_set.File.{File}
+use Rattle.meson_targets.proofs.Words.{◌≡◌, ℕ, zero, suc, List, [], ◌∷◌, ◌++◌, Some, sym, ap, ◌∙◌, subst, option_and_then, option_map, File, IsIdentifier}
+use Rattle.meson_targets.proofs.Words.{new_line, Span, statement_words, statements_words, block_words, file_words, Sort, of_expression, of_statement, of_block}
+use Rattle.meson_targets.proofs.Words.{Node, node_words, reach, nth, Statement, evaluate, assign, selection, iteration, breaks, continues, Statements}
+use Rattle.meson_targets.proofs.Words.{no_statements, statement, statement_list, Block, block, file, erase, view, Parsed, some-injective, and-then-some}
+use Rattle.meson_targets.proofs.Words.{map-some, reach-fits, BlockAt, block_of_node, block_at, statement_in, AreParsed, named_trees, views, Project, BuildFile}
+use Rattle.meson_targets.proofs.Words.{nth_file, AreGood, CallRef, StatementPlace, Held, Holder, set_to, held_by, holder, statement_of, statement_there}
+use Rattle.meson_targets.proofs.Words.{held_view, holder_view, IsNamed}
 use Rattle.meson_syntax.specs.declared.operator.Assignment.TheVariants as assignment
-use Rattle.meson_syntax.specs.declared.tree.Parsed.{Parsed}
-use Rattle.meson_edit.specs.Blocks.{BlockAt, block_of_node, block_at, statement_in}
-use Rattle.meson_syntax.specs.Grammar.{statement_words, statements_words, block_words, file_words}
-use Rattle.meson_syntax.specs.Paths.{Sort, of_expression, of_statement, of_block, Node, node_words, reach, nth}
-use Rattle.meson_syntax.specs.Tree.{Statement, evaluate, assign, selection, iteration, breaks, continues, Statements, no_statements, statement, statement_list, Block, block, file, erase}
 use Rattle.meson_syntax.specs.Tree as tree
-use Rattle.meson_syntax.specs.View.{view}
 use Rattle.meson_syntax.proofs.parsing.FileErased.{file-words-erased}
-use Rattle.meson_syntax.proofs.parsing.Steps.{some-injective}
-use Rattle.meson_syntax.proofs.paths.Reaching.{and-then-some, map-some, reach-fits}
-use Rattle.meson_calls.specs.declared.call.CallRef.{CallRef}
-use Rattle.meson_calls.specs.Loading.{AreParsed, named_trees, views}
-use Rattle.meson_calls.specs.Project.{Project, BuildFile, nth_file}
-use Rattle.meson_calls.specs.Strings.{AreGood}
 use Rattle.meson_calls.proofs.GoodParts.{good_left, good_right}
 use Rattle.meson_calls.proofs.GoodTexts.{text_good}
 use Rattle.meson_targets.specs.declared.holder.Held as code_held
 use Rattle.meson_targets.specs.declared.holder.Held.TheVariants as code
 use Rattle.meson_targets.specs.declared.holder.Holder as code_holder
-use Rattle.meson_targets.specs.TargetEdits.{StatementPlace, Held, Holder, set_to, held_by, holder, statement_of, statement_there}
-use Rattle.meson_targets.specs.inside.TargetViews.{held_view, holder_view, IsNamed}
 use Rattle.meson_targets.proofs.StatementsRemoved.{in_build_file}
 
 -- ---- words that are of their kinds

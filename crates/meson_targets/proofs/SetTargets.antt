@@ -1,28 +1,16 @@
 -- A target that its variable names: with the statement that sets the variable the target is gone from what the variable names.
-use Rattle.std.proofs.Common.{◌≡◌, ℕ, true, false, List, [], ◌∷◌, ◌++◌, map, Option, Some, None, refl, sym, ap, ap₂, ◌∙◌, subst, arith}
-use Rattle.std.specs.Prelude.{Bool, if◌then◌else◌, bytes_eq, option_and_then, option_map}
-use Rattle.std.specs.List.{cons_option, filter_map}
-use Rattle.meson_lex.specs.declared.kinds.Span.{Span}
+use Rattle.meson_targets.proofs.Words.{◌≡◌, ℕ, true, false, List, [], ◌∷◌, ◌++◌, map, Option, Some, None, refl, sym, ap, ap₂, ◌∙◌, subst, arith, Bool}
+use Rattle.meson_targets.proofs.Words.{if◌then◌else◌, bytes_eq, option_and_then, option_map, cons_option, filter_map, Span, block_of, Nowhere, Name, Expression}
+use Rattle.meson_targets.proofs.Words.{call, Statement, assign, erase_expression, erase_statement, some-injective, Every, BlockAt, block_at, statement_in, Call}
+use Rattle.meson_targets.proofs.Words.{all_chosen, call_of, assigned_values, part_set_to, value_of_assignment, Part, parts_of_expression, parts}
+use Rattle.meson_targets.proofs.Words.{parts_of_statement, BuildFile, Placed, Project, child, nth_file, place, placed, has_role, with_role, CallRef, InProject}
+use Rattle.meson_targets.proofs.Words.{every_chosen, every_part, any, bare_call, bare_part, bare_placed, role_alike, StatementPlace}
 use Rattle.meson_syntax.specs.declared.operator.Assignment.TheVariants as assignment
-use Rattle.meson_edit.specs.Blocks.{BlockAt, block_at, statement_in}
 use Rattle.meson_syntax.specs.Children as syntax
 use Rattle.meson_syntax.specs.inside.Children as tree_nodes
-use Rattle.meson_syntax.specs.Paths.{block_of}
-use Rattle.meson_syntax.specs.Tree.{Nowhere, Name, Expression, call, Statement, assign, erase_expression, erase_statement}
-use Rattle.meson_syntax.proofs.parsing.Steps.{some-injective}
-use Rattle.meson_syntax.proofs.paths.Every.{Every}
-use Rattle.meson_calls.specs.declared.call.CallRef.{CallRef}
 use Rattle.meson_calls.specs.declared.call.Role.TheVariants as role
-use Rattle.meson_calls.specs.Calls.{Call, all_chosen, call_of}
-use Rattle.meson_calls.specs.Parts.{Part, a_statement, parts_of_expression, parts, parts_of_statement}
-use Rattle.meson_calls.specs.Project.{BuildFile, Placed, Project, child, nth_file, place, placed}
-use Rattle.meson_calls.specs.Naming.{assigned_values, part_set_to, value_of_assignment}
-use Rattle.meson_calls.specs.Roles.{has_role, with_role}
-use Rattle.meson_calls.proofs.CallsReached.{InProject, every_chosen, every_part}
-use Rattle.meson_calls.proofs.nodes.PartsBelow.{any}
-use Rattle.meson_targets.specs.TargetEdits.{StatementPlace}
+use Rattle.meson_calls.specs.Parts.{a_statement}
 use Rattle.meson_targets.proofs.ChosenParts.{chosen_its, chosen_told}
-use Rattle.meson_steps.proofs.ErasedParts.{bare_call, bare_part, bare_placed, role_alike}
 use Rattle.meson_targets.proofs.StatementTargets.{LineOf, statement_node}
 use Rattle.meson_targets.proofs.ToldParts.{told}
 

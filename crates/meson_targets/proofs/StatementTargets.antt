@@ -1,23 +1,14 @@
 -- The statement of a target's call, by which the target is removed: it is that call, or sets a variable to it.
-use Rattle.std.proofs.Common.{◌≡◌, ℕ, zero, suc, List, [], ◌∷◌, ◌++◌, append_assoc, Some, sym, ap, ◌∙◌, subst}
-use Rattle.std.specs.Prelude.{option_and_then, option_map}
-use Rattle.meson_lex.specs.declared.kinds.Span.{Span}
+use Rattle.meson_targets.proofs.Words.{◌≡◌, ℕ, zero, suc, List, [], ◌∷◌, ◌++◌, append_assoc, Some, sym, ap, ◌∙◌, subst, option_and_then, option_map, Span, Any}
+use Rattle.meson_targets.proofs.Words.{an_expression, a_statement, a_block, block_of, nth, Name, Expression, Statement, evaluate, assign, Statements}
+use Rattle.meson_targets.proofs.Words.{no_statements, statement, statement_list, Block, block, expression_any, node_at, child_nodes, statement_parts}
+use Rattle.meson_targets.proofs.Words.{statements_parts, some-injective, and-then-some, map-some, BlockAt, block_at, statement_in, place, CallRef, block_any}
+use Rattle.meson_targets.proofs.Words.{block_reached, Held, StatementPlace, held_by, statement_of, statement_path}
 use Rattle.meson_syntax.specs.declared.operator.Assignment.TheVariants as assignment
-use Rattle.meson_edit.specs.Blocks.{BlockAt, block_at, statement_in}
-use Rattle.meson_syntax.specs.Children.{Any, an_expression, a_statement, a_block}
-use Rattle.meson_syntax.specs.inside.Children.{expression_any, node_at, child_nodes, statement_parts, statements_parts}
-use Rattle.meson_syntax.specs.Paths.{block_of, nth}
 use Rattle.meson_syntax.specs.Paths as paths
-use Rattle.meson_syntax.specs.Tree.{Name, Expression, Statement, evaluate, assign, Statements, no_statements, statement, statement_list, Block, block, File}
+use Rattle.meson_syntax.specs.Tree.{File}
 use Rattle.meson_syntax.proofs.PathNodes.{expression-reached}
-use Rattle.meson_syntax.proofs.parsing.Steps.{some-injective}
-use Rattle.meson_syntax.proofs.paths.Reaching.{and-then-some, map-some}
-use Rattle.meson_calls.specs.declared.call.CallRef.{CallRef}
-use Rattle.meson_calls.specs.Project.{place}
 use Rattle.meson_calls.proofs.ListNodes.{node_below}
-use Rattle.meson_steps.specs.inside.Layers.{block_any}
-use Rattle.meson_steps.proofs.BlockNodes.{block_reached}
-use Rattle.meson_targets.specs.TargetEdits.{Held, StatementPlace, held_by, statement_of, statement_path}
 
 -- ---- the path of a statement in that of its call
 

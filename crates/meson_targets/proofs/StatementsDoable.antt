@@ -1,22 +1,14 @@
 -- A statement put at the end of a file or taken out of it leaves a tree with its levels, no deeper than before or than the statement: the step may be done.
-use Rattle.std.specs.Prelude.{All, option_map}
-use Rattle.std.proofs.Common.{◌≡◌, ℕ, zero, suc, ◌+◌, ◌≤◌, List, [], ◌∷◌, Some, refl, subst, arith}
-use Rattle.std.proofs.lemmas.List.Elements.{All-set}
-use Rattle.meson_lex.specs.Significant.{Word}
-use Rattle.meson_syntax.specs.Grammar.{statement_depth, statements_depth, block_depth, file_depth, LevelStatement, LevelBlock, LevelFile}
-use Rattle.meson_syntax.specs.Tree.{Nowhere, Plain, Statement, Statements, no_statements, statement, Block, block, file}
-use Rattle.meson_syntax.specs.Paths.{Sort, of_expression, of_statement, of_block, Node, reach, nth}
-use Rattle.meson_edit.specs.Blocks.{BlockAt, block_of_node, block_at, statement_in, all_but, block_without, and_last, file_and_last}
-use Rattle.meson_syntax.proofs.parsing.Steps.{some-injective}
-use Rattle.meson_syntax.proofs.paths.Reaching.{Reaches, and-then-some, map-some, reach-fits}
+use Rattle.meson_targets.proofs.Words.{All, option_map, ◌≡◌, ℕ, zero, suc, ◌+◌, ◌≤◌, List, [], ◌∷◌, Some, refl, subst, arith, All-set, Word, statement_depth}
+use Rattle.meson_targets.proofs.Words.{statements_depth, block_depth, file_depth, LevelStatement, LevelBlock, LevelFile, Sort, of_expression, of_statement}
+use Rattle.meson_targets.proofs.Words.{of_block, Node, reach, nth, Nowhere, Plain, Statement, Statements, no_statements, statement, Block, block, file}
+use Rattle.meson_targets.proofs.Words.{some-injective, Reaches, and-then-some, map-some, reach-fits, BlockAt, block_of_node, block_at, statement_in, all_but}
+use Rattle.meson_targets.proofs.Words.{block_without, and_last, file_and_last, Written, Edit, RemoveStatement, Append, edited, Writes, AreDoable}
+use Rattle.meson_targets.proofs.Words.{MayStandBetween, one, none, change_there, all_nth}
 use Rattle.meson_edit.proofs.exchange.AmongStatements.{without-level}
 use Rattle.meson_edit.proofs.exchange.Appended.{file-last-level}
-use Rattle.meson_edit.specs.Edits.{Written, Edit, RemoveStatement, Append, edited}
-use Rattle.meson_edit.specs.Places.{Writes}
 use Rattle.meson_edit.proofs.paths.Depths.{node_depth, Grows}
 use Rattle.meson_edit.proofs.paths.DeepLists.{reach-grows}
-use Rattle.meson_steps.specs.ListSteps.{AreDoable, MayStandBetween, one, none}
-use Rattle.meson_steps.proofs.WithOne.{change_there, all_nth}
 
 -- ---- a statement that goes
 

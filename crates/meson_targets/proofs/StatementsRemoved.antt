@@ -1,26 +1,12 @@
 -- The statement of a target, and the step that removes it.
-use Rattle.std.proofs.Common.{◌≡◌, ℕ, zero, suc, ◌+◌, ◌<◌, ◌≤◌, List, [], ◌∷◌, take, length, get_or, map, Option, Some, None, refl, sym, ap, ◌∙◌, arith}
-use Rattle.std.specs.Prelude.{ok_or, option_map, option_and_then, Result, Ok, Err, IfOk}
-use Rattle.meson_lex.specs.declared.kinds.Span.{Span}
-use Rattle.meson_splice.specs.Patch.{then_ok}
-use Rattle.meson_splice.specs.declared.file_set.File.{File}
-use Rattle.meson_splice.specs.Files.{bytes_at}
-use Rattle.meson_syntax.specs.declared.tree.Parsed.{Parsed}
-use Rattle.meson_edit.specs.Blocks.{block_at, statement_in}
-use Rattle.meson_syntax.specs.Tree.{Statement}
-use Rattle.meson_syntax.specs.View.{view}
-use Rattle.meson_calls.specs.declared.call.CallRef.{CallRef}
+use Rattle.meson_targets.proofs.Words.{◌≡◌, ℕ, zero, suc, ◌+◌, ◌<◌, ◌≤◌, List, [], ◌∷◌, take, length, get_or, map, Option, Some, None, refl, sym, ap, ◌∙◌}
+use Rattle.meson_targets.proofs.Words.{arith, ok_or, option_map, option_and_then, Result, Ok, Err, IfOk, bytes_at, then_ok, File, Span, Statement, view, Parsed}
+use Rattle.meson_targets.proofs.Words.{block_at, statement_in, named_trees, views, Project, BuildFile, nth_file, place, CallRef, Refusal, NotStatement}
+use Rattle.meson_targets.proofs.Words.{AreMeant, Step, ListStep, StatementPlace, Holder, statement_path, statement_of, statement_there, held_by, holder}
+use Rattle.meson_targets.proofs.Words.{named_removed, not_in_use, call_removed, statement_removal, target_removed}
 use Rattle.meson_calls.specs.declared.call.Role.TheVariants as role
-use Rattle.meson_calls.specs.declared.refusal.Refusal.{Refusal}
-use Rattle.meson_calls.specs.declared.refusal.Refusal.TheVariants.{NotStatement}
 use Rattle.meson_steps.specs.declared.step.ListEdit.TheVariants as code
-use Rattle.meson_steps.specs.declared.step.ListStep.{ListStep}
-use Rattle.meson_calls.specs.Loading.{named_trees, views}
 use Rattle.meson_calls.specs.Finding.{the_call}
-use Rattle.meson_calls.specs.Project.{Project, BuildFile, nth_file, place}
-use Rattle.meson_steps.specs.Steps.{Step}
-use Rattle.meson_targets.specs.TargetEdits.{StatementPlace, Holder, statement_path, statement_of, statement_there, held_by, holder, named_removed, not_in_use, call_removed, statement_removal, target_removed}
-use Rattle.meson_steps.specs.Meanings.{AreMeant}
 use Rattle.meson_calls.proofs.Standing.{nth_there}
 use Rattle.meson_calls.proofs.OneCall.{placed_at, call_there}
 

@@ -1,28 +1,21 @@
 -- What is written for a new target, `KIND('NAME', 'SOURCE', ..)`, spells its statement.
-use Rattle.std.proofs.Common.{◌≡◌, ℕ, Bool, true, false, List, [], ◌∷◌, ◌++◌, map, codes, IsUtf8, refl, ap, ◌∙◌, subst, arith}
-use Rattle.std.specs.Prelude.{◌≤◌, ◌||◌, ◌&&◌, None, not, bytes_eq}
-use Rattle.std.specs.List.{list_all}
+use Rattle.meson_targets.proofs.Words.{◌≡◌, ℕ, Bool, true, false, List, [], ◌∷◌, ◌++◌, map, codes, refl, ap, ◌∙◌, subst, arith, ◌≤◌, ◌||◌, ◌&&◌, None, not}
+use Rattle.meson_targets.proofs.Words.{bytes_eq, list_all, bytes_eq-Decides, IsNoneOf, IsWord, reserved, literal, literal_string, literal_return}
+use Rattle.meson_targets.proofs.Words.{statement_words, LevelStatement, LevelArguments, statement_depth, IsWrittenStatement, one_of, target_functions}
+use Rattle.meson_targets.proofs.Words.{comma_between, Texts, behind, flagged, inner, inner_items, inner_joined, inner_words, strings, strings_flat, texts_text}
+use Rattle.meson_targets.proofs.Words.{is_target_kind, target_statement, written_target}
+use Rattle.std.proofs.Common.{IsUtf8}
 use Rattle.std.specs.Char.{encode_utf8}
-use Rattle.std.proofs.lemmas.Slice.Eq.{bytes_eq-Decides}
 use Rattle.std.proofs.lemmas.Str.{IsUtf8-append}
 use Rattle.meson_lex.specs.declared.kinds.Kind.TheVariants as k
 use Rattle.meson_lex.specs.Items.{Lexeme, joined, IsItem, AreItems}
 use Rattle.meson_lex.specs.Bytes.{first_bare_return, is_word_byte}
-use Rattle.meson_lex.specs.Kinds.{IsNoneOf, IsWord, reserved}
-use Rattle.meson_lex.specs.Literals.{literal}
 use Rattle.meson_lex.specs.Words.{IsTight}
 use Rattle.meson_lex.proofs.Seams.{joined-append, AreItems-append}
-use Rattle.meson_lex.proofs.Written.{literal_string, literal_return}
 use Rattle.meson_syntax.specs.declared.operator.Bracket.TheVariants as bracket
 use Rattle.meson_edit.specs.Lines.{HasNoLineEnd}
-use Rattle.meson_syntax.specs.Grammar.{statement_words, LevelStatement, LevelArguments, statement_depth}
 use Rattle.meson_edit.proofs.exchange.Standing.{line-text}
-use Rattle.meson_edit.specs.Places.{IsWrittenStatement}
-use Rattle.meson_calls.specs.Roles.{one_of, target_functions}
-use Rattle.meson_steps.specs.WrittenTexts.{comma_between}
-use Rattle.meson_targets.specs.TargetEdits.{is_target_kind, target_statement, written_target}
 use Rattle.meson_steps.proofs.Spellings.{differs, none_of}
-use Rattle.meson_steps.proofs.SetLiterals.{Texts, behind, flagged, inner, inner_items, inner_joined, inner_words, strings, strings_flat, texts_text}
 use Rattle.meson_calls.proofs.IdentifierTexts.{key_text}
 
 -- ---- the function

@@ -1,41 +1,21 @@
 -- A target may be put at the end of the file of its folder, and taken out with its statement.
-use Rattle.std.proofs.Common.{◌≡◌, ℕ, zero, suc, ◌<◌, List, [], ◌∷◌, map, length, true, false, Option, Some, None, refl, ap, ◌∙◌, subst, arith}
-use Rattle.std.specs.Prelude.{All, Bool, bytes_eq, if◌then◌else◌, position, ok_or, option_map, option_and_then, Result, Ok, Err, IfOk}
-use Rattle.std.specs.Str.{IsUtf8}
-use Rattle.std.proofs.lemmas.List.Elements.{All-head, All-tail, All-cons}
+use Rattle.meson_targets.proofs.Words.{◌≡◌, ℕ, zero, suc, ◌<◌, List, [], ◌∷◌, map, length, true, false, Option, Some, None, refl, ap, ◌∙◌, subst, arith, All}
+use Rattle.meson_targets.proofs.Words.{Bool, bytes_eq, if◌then◌else◌, position, ok_or, option_map, option_and_then, Result, Ok, Err, IfOk, IsUtf8, All-head}
+use Rattle.meson_targets.proofs.Words.{All-tail, All-cons, then_ok, File, Span, nth, Nowhere, Plain, Statement, Statements, no_statements, statement}
+use Rattle.meson_targets.proofs.Words.{statement_list, Block, block, erase, erase_statement, erase_statements, erase_block, Parsed, map-some, and-then-some}
+use Rattle.meson_targets.proofs.Words.{BlockAt, block_at, statement_in, block_without, RemoveStatement, edited, blocks-erase, Call, Loaded, IsProject}
+use Rattle.meson_targets.proofs.Words.{named_trees, views, project, Project, BuildFile, Placed, nth_file, Refusal, WrongKind, NoFile, NotStatement, as_many}
+use Rattle.meson_targets.proofs.Words.{AreDoable, AreMeant, checked_names, distinct, plain_trees, Step, ListStep, trees_stand, all_texts, then_was}
+use Rattle.meson_targets.proofs.Words.{StatementPlace, Holder, is_target_kind, kind_key, checked_kind, targets_named, not_taken, file_number, file_of_folder}
+use Rattle.meson_targets.proofs.Words.{number_in, append_steps, target_added, statement_there, held_by, holder, statement_of, not_in_use, statement_removal}
+use Rattle.meson_targets.proofs.Words.{target_removed, written_target}
 use Rattle.std.proofs.lemmas.List.Quantifiers.{position-Some}
-use Rattle.meson_lex.specs.declared.kinds.Span.{Span}
-use Rattle.meson_splice.specs.Patch.{then_ok}
-use Rattle.meson_splice.specs.declared.file_set.File.{File}
-use Rattle.meson_syntax.specs.declared.tree.Parsed.{Parsed}
-use Rattle.meson_edit.specs.Blocks.{BlockAt, block_at, statement_in, block_without}
-use Rattle.meson_syntax.specs.Paths.{nth}
-use Rattle.meson_syntax.specs.Tree.{Nowhere, Plain, Statement, Statements, no_statements, statement, statement_list, Block, block, erase, erase_statement, erase_statements, erase_block}
 use Rattle.meson_syntax.specs.Tree as tree
-use Rattle.meson_edit.proofs.paths.Erased.{blocks-erase}
-use Rattle.meson_syntax.proofs.paths.Reaching.{map-some, and-then-some}
-use Rattle.meson_edit.specs.Edits.{RemoveStatement, edited}
 use Rattle.meson_calls.specs.declared.call.Role.TheVariants as role
-use Rattle.meson_calls.specs.declared.refusal.Refusal.{Refusal}
-use Rattle.meson_calls.specs.declared.refusal.Refusal.TheVariants.{WrongKind, NoFile, NotStatement}
-use Rattle.meson_steps.specs.declared.step.ListStep.{ListStep}
-use Rattle.meson_calls.specs.Calls.{Call}
-use Rattle.meson_steps.specs.ListSteps.{AreDoable}
-use Rattle.meson_calls.specs.Loading.{Loaded, IsProject, named_trees, views, project}
-use Rattle.meson_steps.specs.ResultLimits.{plain_trees}
 use Rattle.meson_calls.specs.Finding.{the_call}
 use Rattle.meson_steps.specs.Plans.{ArePlanned}
-use Rattle.meson_calls.specs.Project.{Project, BuildFile, Placed, nth_file}
-use Rattle.meson_steps.specs.Names.{checked_names, distinct}
-use Rattle.meson_steps.specs.Steps.{Step}
-use Rattle.meson_targets.specs.TargetEdits.{StatementPlace, Holder, is_target_kind, kind_key, checked_kind, targets_named, not_taken, file_number, file_of_folder, number_in, append_steps, target_added, statement_there, held_by, holder, statement_of, not_in_use, statement_removal, target_removed, written_target}
-use Rattle.meson_steps.specs.Meanings.{AreMeant}
-use Rattle.meson_calls.proofs.Loads.{as_many}
 use Rattle.meson_targets.proofs.NewTargets.{as_many_named}
-use Rattle.meson_steps.proofs.PlainTrees.{trees_stand}
-use Rattle.meson_steps.proofs.SetLiterals.{all_texts}
 use Rattle.meson_steps.proofs.Distincts.{distinct_texts}
-use Rattle.meson_steps.proofs.WentWell.{then_was}
 use Rattle.meson_targets.proofs.StatementsDoable.{append_doable, removal_doable}
 use Rattle.meson_targets.proofs.TargetText.{target_written, target_level, target_depth}
 use Rattle.meson_steps.proofs.OtherBytes.{as_many_plain}

@@ -1,7 +1,5 @@
 -- Paths that are too short to go through what another path names.
-use Rattle.std.proofs.Common.{◌≡◌, ℕ, ◌≤◌, List, [], ◌∷◌, ◌++◌, length, true, false, refl, ap, ◌∙◌, arith}
-use Rattle.std.specs.Prelude.{Bool, ◌&&◌, nat_eq}
-use Rattle.meson_targets.specs.TargetEdits.{goes_through}
+use Rattle.meson_targets.proofs.Words.{◌≡◌, ℕ, ◌≤◌, List, [], ◌∷◌, ◌++◌, length, true, false, refl, ap, ◌∙◌, arith, Bool, ◌&&◌, nat_eq, goes_through}
 
 and_false : (b : Bool) → b && false ≡ false
 and_false true = refl

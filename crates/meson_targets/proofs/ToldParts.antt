@@ -1,33 +1,18 @@
 -- What is told of the parts of a file, one after another: between what is told of all else stands what is told of a block in it, and of a statement of that.
-use Rattle.std.proofs.Common.{◌≡◌, ℕ, zero, suc, ◌+◌, List, [], ◌∷◌, ◌++◌, append-nil, append_assoc, Option, Some, None, refl, sym, ap, ap₂, ◌∙◌, subst, arith}
-use Rattle.std.specs.Prelude.{option_and_then, option_map}
-use Rattle.std.specs.List.{cons_option}
-use Rattle.meson_splice.specs.declared.file_set.File.{File}
-use Rattle.meson_edit.specs.Blocks.{BlockAt, all_but, block_at, block_of_node, block_without, statement_in}
-use Rattle.meson_syntax.specs.Children.{Any, an_expression, a_statement, a_block}
-use Rattle.meson_syntax.specs.inside.Children.{any_of, block_parts, child_nodes, statements_parts}
-use Rattle.meson_syntax.specs.Paths.{Sort, of_expression, of_statement, of_block, Node, Hole, around, reach}
+use Rattle.meson_targets.proofs.Words.{◌≡◌, ℕ, zero, suc, ◌+◌, List, [], ◌∷◌, ◌++◌, append-nil, append_assoc, Option, Some, None, refl, sym, ap, ap₂, ◌∙◌}
+use Rattle.meson_targets.proofs.Words.{subst, arith, option_and_then, option_map, cons_option, File, Any, an_expression, a_statement, a_block, Sort}
+use Rattle.meson_targets.proofs.Words.{of_expression, of_statement, of_block, Node, Hole, around, reach, Nowhere, Plain, Name, Expression, Statement, evaluate}
+use Rattle.meson_targets.proofs.Words.{assign, selection, iteration, Branches, Otherwise, Statements, no_statements, statement, statement_list, Block, block}
+use Rattle.meson_targets.proofs.Words.{file, any_of, block_parts, child_nodes, statements_parts, some-injective, every-nth, and-then-some, map-some, reach-fits}
+use Rattle.meson_targets.proofs.Words.{BlockAt, all_but, block_at, block_of_node, block_without, statement_in, RemoveStatement, edited, named_trees, Part}
+use Rattle.meson_targets.proofs.Words.{parts_of_file, parts_from, BuildFile, Placed, Project, child, nth_file, place, CallRef, itself, parts_are, parts_below}
+use Rattle.meson_targets.proofs.Words.{parts_of, IsExpression, may_stand, changed_at, block_any, no_block_reached, StatementPlace}
 use Rattle.meson_syntax.specs.Paths as paths
-use Rattle.meson_syntax.specs.Tree.{Nowhere, Plain, Name, Expression, Statement, evaluate, assign, selection, iteration, Branches, Otherwise, Statements, no_statements, statement, statement_list, Block, block, file}
-use Rattle.meson_syntax.proofs.parsing.Steps.{some-injective}
-use Rattle.meson_syntax.proofs.paths.Every.{every-nth}
-use Rattle.meson_syntax.proofs.paths.Reaching.{and-then-some, map-some, reach-fits}
-use Rattle.meson_edit.specs.Edits.{RemoveStatement, edited}
 use Rattle.meson_edit.proofs.paths.Positions.{every-at-nth}
-use Rattle.meson_calls.specs.declared.call.CallRef.{CallRef}
-use Rattle.meson_calls.specs.Loading.{named_trees}
-use Rattle.meson_calls.specs.Parts.{Part, parts_of_file, parts_from}
 use Rattle.meson_calls.specs.Parts as part
-use Rattle.meson_calls.specs.Project.{BuildFile, Placed, Project, child, nth_file, place}
-use Rattle.meson_calls.proofs.nodes.PartsBelow.{itself, parts_are, parts_below, parts_of}
-use Rattle.meson_calls.proofs.nodes.Sorts.{IsExpression, may_stand}
-use Rattle.meson_steps.specs.inside.Layers.{block_any}
-use Rattle.meson_steps.specs.Steps.{changed_at}
-use Rattle.meson_steps.proofs.BlockNodes.{no_block_reached}
 use Rattle.meson_steps.proofs.ToldAlike as alike
 use Rattle.meson_steps.proofs.ToldAlike.{anywhere}
 use Rattle.meson_steps.proofs.PartsPut.{Differ, PutsAmong, children_put, differ_new, here, there}
-use Rattle.meson_targets.specs.TargetEdits.{StatementPlace}
 
 module _ {Y : Type 0} (tell : Part Nowhere → Option Y) where
   abbrev pub told : List (Placed (Part Nowhere)) → List Y

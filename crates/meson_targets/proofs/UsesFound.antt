@@ -1,17 +1,10 @@
 -- The uses of a variable outside a statement are those that the notes tell, and the places where it is read.
-use Rattle.std.proofs.Common.{◌≡◌, ℕ, List, [], ◌∷◌, true, false, refl, sym, ap, ◌∙◌}
-use Rattle.std.specs.Prelude.{Bool, ◌&&◌, ◌||◌, bytes_eq, if◌then◌else◌, Some, None, option_map}
-use Rattle.std.specs.List.{list_any, cons_option}
-use Rattle.meson_lex.specs.declared.kinds.Span.{Span}
-use Rattle.meson_syntax.specs.Tree.{identifier, call, assign, iteration}
-use Rattle.meson_calls.specs.declared.call.CallRef.{CallRef}
-use Rattle.meson_calls.specs.Project.{Project, Placed, placed}
-use Rattle.meson_calls.specs.Parts.{Part, an_expression, a_statement, parts}
-use Rattle.meson_calls.specs.Notes.{Note, note_of, noted, notes}
+use Rattle.meson_targets.proofs.Words.{◌≡◌, ℕ, List, [], ◌∷◌, true, false, refl, sym, ap, ◌∙◌, Bool, ◌&&◌, ◌||◌, bytes_eq, if◌then◌else◌, Some, None}
+use Rattle.meson_targets.proofs.Words.{option_map, list_any, cons_option, Span, identifier, call, assign, iteration, Note, note_of, noted, notes, Part, parts}
+use Rattle.meson_targets.proofs.Words.{Project, Placed, placed, part_reads, read_in, CallRef, StatementPlace, call_uses, part_uses, is_used_outside, is_outside}
+use Rattle.meson_targets.proofs.Words.{is_noted_outside, is_read_outside}
+use Rattle.meson_calls.specs.Parts.{an_expression, a_statement}
 use Rattle.meson_variables.specs.Variables.{one_of_names}
-use Rattle.meson_targets.specs.TargetEdits.{StatementPlace, call_uses, part_uses, is_used_outside}
-use Rattle.meson_calls.specs.Walks.{part_reads, read_in}
-use Rattle.meson_targets.specs.inside.Uses.{is_outside, is_noted_outside, is_read_outside}
 
 -- ---- tests joined
 

@@ -1,24 +1,12 @@
 -- The value of a statement that sets a variable has that variable.
-use Rattle.std.proofs.Common.{◌≡◌, ℕ, zero, suc, ◌+◌, List, [], ◌∷◌, ◌++◌, Option, Some, None, refl, sym, ap, ◌∙◌, arith}
-use Rattle.std.specs.Prelude.{option_map, option_and_then}
-use Rattle.meson_lex.specs.declared.kinds.Span.{Span}
+use Rattle.meson_targets.proofs.Words.{◌≡◌, ℕ, zero, suc, ◌+◌, List, [], ◌∷◌, ◌++◌, Option, Some, None, refl, sym, ap, ◌∙◌, arith, option_map, option_and_then}
+use Rattle.meson_targets.proofs.Words.{Span, Any, an_expression, a_statement, a_block, block_of, nth, Name, Expression, Statement, assign, Statements}
+use Rattle.meson_targets.proofs.Words.{no_statements, statement, statement_list, Block, block, child_nodes, node_at, statements_parts, every-nth, and-then-some}
+use Rattle.meson_targets.proofs.Words.{BlockAt, block_at, statement_in, Part, Project, BuildFile, Placed, child, nth_file, place, InProject, any, IsExpression}
+use Rattle.meson_targets.proofs.Words.{IsOther, may_stand, block_any, block_reached, Holder, StatementPlace, held_by, name_set, set_to, statement_of}
+use Rattle.meson_targets.proofs.Words.{statement_path, statement_there, variable_of}
 use Rattle.meson_syntax.specs.declared.operator.Assignment.TheVariants as assignment
-use Rattle.meson_edit.specs.Blocks.{BlockAt, block_at, statement_in}
-use Rattle.meson_syntax.specs.Children.{Any, an_expression, a_statement, a_block}
-use Rattle.meson_syntax.specs.inside.Children.{child_nodes, node_at, statements_parts}
-use Rattle.meson_syntax.specs.Paths.{block_of, nth}
-use Rattle.meson_syntax.specs.Tree.{Name, Expression, Statement, assign, Statements, no_statements, statement, statement_list, Block, block}
-use Rattle.meson_syntax.proofs.paths.Every.{every-nth}
-use Rattle.meson_syntax.proofs.paths.Reaching.{and-then-some}
-use Rattle.meson_calls.specs.Parts.{Part}
 use Rattle.meson_calls.specs.Parts as part
-use Rattle.meson_calls.specs.Project.{Project, BuildFile, Placed, child, nth_file, place}
-use Rattle.meson_calls.proofs.CallsReached.{InProject}
-use Rattle.meson_calls.proofs.nodes.PartsBelow.{any}
-use Rattle.meson_calls.proofs.nodes.Sorts.{IsExpression, IsOther, may_stand}
-use Rattle.meson_steps.specs.inside.Layers.{block_any}
-use Rattle.meson_steps.proofs.BlockNodes.{block_reached}
-use Rattle.meson_targets.specs.TargetEdits.{Holder, StatementPlace, held_by, name_set, set_to, statement_of, statement_path, statement_there, variable_of}
 use Rattle.meson_targets.proofs.Holders.{on_line}
 
 -- ---- a statement stands in a block, and in nothing else

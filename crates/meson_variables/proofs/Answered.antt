@@ -1,23 +1,14 @@
 -- What gathered marks say of the sources of a call.
-use Rattle.std.proofs.Common.{◌≡◌, ℕ, suc, ◌+◌, ◌≤◌, List, [], ◌∷◌, ◌++◌, length, map, refl, sym, ap, ◌∙◌, arith, zero-add}
-use Rattle.std.specs.Prelude.{Option, Some, None, Ok}
-use Rattle.std.proofs.lemmas.List.{append_assoc, append-nil}
-use Rattle.meson_lex.specs.declared.kinds.Span.{Span}
+use Rattle.meson_variables.proofs.Words.{◌≡◌, ℕ, suc, ◌+◌, ◌≤◌, List, [], ◌∷◌, ◌++◌, length, map, refl, sym, ap, ◌∙◌, arith, zero-add, Option, Some, None, Ok}
+use Rattle.meson_variables.proofs.Words.{append_assoc, append-nil, Span, Expression, list_view, Call, Numbered, positional, keyword, value_without_name}
+use Rattle.meson_variables.proofs.Words.{value_with_name, call_with, sources_key, kwargs_key, rest, once, kept_args, Project, child, placed, CallRef, list_is}
+use Rattle.meson_variables.proofs.Words.{one_by, arguments_by, with_hidden, all_gathered, Slot, in_list, fixed, Mark, known, opaque, empty, then_expand}
+use Rattle.meson_variables.proofs.Words.{max_followed, Tally, number_of_slot, tally_and, all_marked, Gathered, expanded, no_marks, expand_arguments, hidden}
+use Rattle.meson_variables.proofs.Words.{source_marks, items, opaque_count, or_option, list_of_slot, first_list, first_empty, or_call, source_item}
+use Rattle.meson_variables.proofs.Words.{sources_of_marks, sources_of_call}
 use Rattle.meson_syntax.specs.declared.tree.List as rust
-use Rattle.meson_syntax.specs.Tree.{Expression}
-use Rattle.meson_syntax.specs.View.{list_view}
-use Rattle.meson_calls.specs.declared.call.CallRef.{CallRef}
 use Rattle.meson_variables.specs.declared.source.SourceItem.{SourceItem}
 use Rattle.meson_variables.specs.declared.source.Sources as found
-use Rattle.meson_calls.specs.Project.{Project, child, placed}
-use Rattle.meson_calls.specs.Calls.{Call, Numbered, positional, keyword, value_without_name, value_with_name}
-use Rattle.meson_calls.specs.ChosenNotes.{call_with}
-use Rattle.meson_variables.specs.Expansion.{Slot, in_list, fixed, Mark, known, opaque, empty, then_expand, max_followed}
-use Rattle.meson_calls.specs.NamedArguments.{sources_key, kwargs_key, rest, once, kept_args}
-use Rattle.meson_variables.specs.TargetSources.{expand_arguments, hidden, source_marks, items, opaque_count, or_option, list_of_slot, first_list, first_empty, or_call, source_item, sources_of_marks, sources_of_call}
-use Rattle.meson_variables.specs.ExpandedArguments.{one_by, arguments_by, with_hidden, all_gathered}
-use Rattle.meson_variables.specs.Tallies.{Tally, number_of_slot, tally_and, all_marked, Gathered, expanded, no_marks}
-use Rattle.meson_calls.proofs.Listed.{list_is}
 use Rattle.meson_variables.proofs.Gathers.{all_marked-append, expand_follow}
 use Rattle.meson_calls.proofs.KeywordArguments.{keyword_is}
 

@@ -1,7 +1,5 @@
 -- Tests of lists, one element after another.
-use Rattle.std.proofs.Common.{◌≡◌, ℕ, ◌+◌, ◌<◌, List, [], ◌∷◌, length, get_or, take, map, refl, sym, ap, ◌∙◌}
-use Rattle.std.specs.Prelude.{Bool, true, ◌||◌}
-use Rattle.std.specs.List.{list_any}
+use Rattle.meson_variables.proofs.Words.{◌≡◌, ℕ, ◌+◌, ◌<◌, List, [], ◌∷◌, length, get_or, take, map, refl, sym, ap, ◌∙◌, Bool, true, ◌||◌, list_any}
 use Rattle.std.proofs.lemmas.List.Folds.{list_any_at, list_any_more}
 
 pub any-map : {X Y : Type 0} (f : Y → Bool) (g : X → Y) (xs : List X) → list_any f (map g xs) ≡ list_any (λ x. f (g x)) xs

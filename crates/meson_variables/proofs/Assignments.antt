@@ -1,19 +1,9 @@
 -- The assignments to a variable, met one after another.
-use Rattle.std.proofs.Common.{◌≡◌, ℕ, List, [], ◌∷◌, refl, sym, ap, ◌∙◌}
-use Rattle.std.specs.Prelude.{Bool, true, false, cond, ◌||◌, if◌then◌else◌, bytes_eq, Option, Some, None, option_map}
-use Rattle.std.specs.Option.{option_flatten}
-use Rattle.std.specs.List.{cons_option}
-use Rattle.meson_lex.specs.declared.kinds.Span.{Span}
-use Rattle.meson_syntax.specs.Tree.{Expression}
+use Rattle.meson_variables.proofs.Words.{◌≡◌, ℕ, List, [], ◌∷◌, refl, sym, ap, ◌∙◌, Bool, true, false, cond, ◌||◌, if◌then◌else◌, bytes_eq, Option, Some, None}
+use Rattle.meson_variables.proofs.Words.{option_map, cons_option, option_flatten, Span, Expression, chosen, an_assignment, Placed, placed, place_at, value_view}
+use Rattle.meson_variables.proofs.Words.{taken, looked_up, note_assigned, Assigned, only_value, assignment, merged, with_assigned}
 use Rattle.meson_calls.specs.declared.note.Note as code
 use Rattle.meson_variables.specs.declared.values.Value.{Value}
-use Rattle.meson_calls.specs.Project.{Placed, placed, place_at}
-use Rattle.meson_variables.specs.Variables.{Assigned, only_value}
-use Rattle.meson_calls.specs.Calls.{chosen}
-use Rattle.meson_calls.specs.Notes.{an_assignment}
-use Rattle.meson_variables.specs.Noted.{note_assigned}
-use Rattle.meson_variables.specs.CodeValues.{value_view, taken, looked_up}
-use Rattle.meson_variables.specs.inside.CodeValues.{assignment, merged, with_assigned}
 
 abbrev Found : Type 0
 Found = Option (Option (Placed (Expression Span)))

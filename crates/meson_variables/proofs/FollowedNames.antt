@@ -1,8 +1,6 @@
 -- One more variable that is followed, in the list and in the set.
-use Rattle.std.proofs.Common.{◌≡◌, ℕ, List, [], ◌∷◌, ◌++◌, Bor, map, refl, sym, ap, ◌∙◌}
-use Rattle.std.specs.Prelude.{Bool, true, false, cond, ◌||◌, bytes_eq, reverse}
-use Rattle.std.proofs.lemmas.List.{map-append, reverse-append}
-use Rattle.meson_calls.specs.Roles.{one_of}
+use Rattle.meson_variables.proofs.Words.{◌≡◌, ℕ, List, [], ◌∷◌, ◌++◌, Bor, map, refl, sym, ap, ◌∙◌, Bool, true, false, cond, ◌||◌, bytes_eq, reverse}
+use Rattle.meson_variables.proofs.Words.{map-append, reverse-append, one_of}
 
 either : (b c : Bool) → cond b true c ≡ (b || c)
 either true c = refl

@@ -1,23 +1,16 @@
 -- Marks gathered one after another.
-use Rattle.std.proofs.Common.{◌≡◌, ◌≢◌, ℕ, zero, suc, ◌+◌, ◌<◌, ◌≤◌, List, [], ◌∷◌, ◌++◌, length, drop, get_or, refl, sym, ap, ◌∙◌, subst, arith}
-use Rattle.std.specs.Prelude.{Bool, true, false, ◌&&◌, ◌==◌, if◌then◌else◌, Option, Some, None, Result, OnOk}
+use Rattle.meson_variables.proofs.Words.{◌≡◌, ◌≢◌, ℕ, zero, suc, ◌+◌, ◌<◌, ◌≤◌, List, [], ◌∷◌, ◌++◌, length, drop, get_or, refl, sym, ap, ◌∙◌, subst, arith}
+use Rattle.meson_variables.proofs.Words.{Bool, true, false, ◌&&◌, ◌==◌, if◌then◌else◌, Option, Some, None, Result, OnOk, at_drop_more, at_drop_all, Span}
+use Rattle.meson_variables.proofs.Words.{Expression, identifier, boolean, integer, string, paren, array, dictionary, call, unary, row, postfix, conditional}
+use Rattle.meson_variables.proofs.Words.{Operands, no_operands, operand, operands_of, Listing, listing, Argument, plain, named, pair, Arguments, no_arguments}
+use Rattle.meson_variables.proofs.Words.{argument, arguments_of, expr_view, arg_view, args_view, operand_view, operands_view, Arg, Operand, Project, Placed}
+use Rattle.meson_variables.proofs.Words.{one_of, CallRef, operand_value, fixed, Mark, opaque, empty, Expansion, Stand, met, then_expand, element, operand_at}
+use Rattle.meson_variables.proofs.Words.{or_empty, within, is_files, are_plus, is_list_operand, literal_item, expand_by, expand_operands, expand_listing}
+use Rattle.meson_variables.proofs.Words.{follow_single, of_variable, expand, Tally, tally_and, all_marked, Gathered, expanded, with_mark, follow_of}
+use Rattle.meson_variables.proofs.Words.{expand_left, single, listing_left, each_left, argument_left, operands_left, sum_left}
 use Rattle.std.proofs.lemmas.Bool.Decides.{nat_tests}
-use Rattle.std.proofs.lemmas.List.{at_drop_more, at_drop_all}
-use Rattle.meson_lex.specs.declared.kinds.Span.{Span}
 use Rattle.meson_lex.specs.Literals.{value}
 use Rattle.meson_syntax.specs.Operators.{string_kind}
-use Rattle.meson_syntax.specs.declared.tree.Arg.{Arg}
-use Rattle.meson_syntax.specs.declared.tree.Operand.{Operand}
-use Rattle.meson_syntax.specs.Tree.{Expression, identifier, boolean, integer, string, paren, array, dictionary, call, unary, row, postfix, conditional, Operands, no_operands, operand, operands_of, Listing, listing, Argument, plain, named, pair, Arguments, no_arguments, argument, arguments_of}
-use Rattle.meson_syntax.specs.View.{expr_view, arg_view, args_view, operand_view, operands_view}
-use Rattle.meson_calls.specs.declared.call.CallRef.{CallRef}
-use Rattle.meson_calls.specs.Project.{Project, Placed}
-use Rattle.meson_calls.specs.Roles.{one_of}
-use Rattle.meson_variables.specs.Variables.{single}
-use Rattle.meson_variables.specs.Expansion.{fixed, Mark, opaque, empty, Expansion, Stand, met, then_expand, element, operand_at, or_empty, within, is_files, are_plus, is_list_operand, literal_item, expand_by, expand_operands, expand_listing, follow_single, of_variable, expand}
-use Rattle.meson_variables.specs.Tallies.{Tally, tally_and, all_marked, Gathered, expanded, with_mark, follow_of, expand_left}
-use Rattle.meson_variables.specs.inside.Tallies.{listing_left, each_left, argument_left, operands_left, sum_left}
-use Rattle.meson_calls.proofs.Parted.{operand_value}
 
 pub all_marked-append : (t : Tally) (xs ys : List (Mark Span)) → all_marked t (xs ++ ys) ≡ all_marked (all_marked t xs) ys
 all_marked-append t [] ys = refl

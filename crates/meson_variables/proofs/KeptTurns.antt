@@ -1,17 +1,7 @@
 -- Arguments that a test keeps, expanded one after another.
-use Rattle.std.proofs.Common.{◌≡◌, ℕ, ◌+◌, ◌<◌, List, length, drop, get_or, refl, sym, ap, ◌∙◌}
-use Rattle.std.specs.Prelude.{Option, Some, None}
-use Rattle.std.specs.List.{cons_option}
-use Rattle.meson_lex.specs.declared.kinds.Span.{Span}
-use Rattle.meson_syntax.specs.declared.tree.Arg.{Arg}
-use Rattle.meson_syntax.specs.Tree.{Expression, Argument}
-use Rattle.meson_calls.specs.declared.call.CallRef.{CallRef}
-use Rattle.meson_calls.specs.Project.{Project}
-use Rattle.meson_calls.specs.Calls.{Numbered}
-use Rattle.meson_variables.specs.Expansion.{Slot}
-use Rattle.meson_calls.specs.NamedArguments.{kept_args, kept_arg}
-use Rattle.meson_variables.specs.ExpandedArguments.{one_by, expansion_step, arguments_by}
-use Rattle.meson_variables.specs.Tallies.{Gathered, expanded}
+use Rattle.meson_variables.proofs.Words.{◌≡◌, ℕ, ◌+◌, ◌<◌, List, length, drop, get_or, refl, sym, ap, ◌∙◌, Option, Some, None, cons_option, Span, Expression}
+use Rattle.meson_variables.proofs.Words.{Argument, Arg, Numbered, kept_args, kept_arg, Project, CallRef, one_by, expansion_step, arguments_by, Slot, Gathered}
+use Rattle.meson_variables.proofs.Words.{expanded}
 use Rattle.meson_variables.proofs.Gathers.{expanded_twice}
 use Rattle.meson_calls.proofs.KeptArguments.{kept_here}
 

@@ -1,22 +1,11 @@
 -- The notes of calls that may set any variable are those calls of a project.
-use Rattle.std.proofs.Common.{◌≡◌, ℕ, zero, suc, List, [], ◌∷◌, length, refl, sym, ap, ◌∙◌, arith}
-use Rattle.std.specs.Prelude.{Bool, not, ◌&&◌, ◌||◌, codes, bytes_eq, Option, Some, None, option_map, option_and_then}
-use Rattle.std.specs.List.{list_any, cons_option}
-use Rattle.meson_lex.specs.declared.kinds.Span.{Span}
-use Rattle.meson_splice.specs.declared.file_set.File.{File}
-use Rattle.meson_syntax.specs.declared.tree.Parsed.{Parsed}
+use Rattle.meson_variables.proofs.Words.{◌≡◌, ℕ, zero, suc, List, [], ◌∷◌, length, refl, sym, ap, ◌∙◌, arith, Bool, not, ◌&&◌, ◌||◌, codes, bytes_eq, Option}
+use Rattle.meson_variables.proofs.Words.{Some, None, option_map, option_and_then, list_any, cons_option, File, Span, evaluate, assign, selection, iteration}
+use Rattle.meson_variables.proofs.Words.{breaks, continues, Parsed, Call, call_of, part_call, all_chosen, first_literal, calls_function, is_file, is_entered}
+use Rattle.meson_variables.proofs.Words.{meant_in, named_trees, views, Note, a_call, note_of, noted, notes, Part, an_expression, a_statement, parts, Project}
+use Rattle.meson_variables.proofs.Words.{Placed, placed, nth_file, CallRef, is_unknown_in, has_unknown, sets_unknown, all_known}
 use Rattle.meson_syntax.specs.Paths.{nth}
-use Rattle.meson_syntax.specs.Tree.{evaluate, assign, selection, iteration, breaks, continues}
-use Rattle.meson_calls.specs.declared.call.CallRef.{CallRef}
-use Rattle.meson_calls.specs.Project.{Project, Placed, placed, nth_file}
-use Rattle.meson_calls.specs.Parts.{Part, an_expression, a_statement, parts}
-use Rattle.meson_calls.specs.Calls.{Call, call_of, part_call, all_chosen, first_literal, calls_function}
-use Rattle.meson_calls.specs.Loading.{named_trees, views}
-use Rattle.meson_variables.specs.Variables.{sets_unknown, all_known}
 use Rattle.meson_calls.specs.Subdirs.{has_name, is_there, meant_file, enters_unknown}
-use Rattle.meson_calls.specs.Notes.{Note, a_call, note_of, noted, notes}
-use Rattle.meson_calls.specs.FileNames.{is_file, is_entered, meant_in}
-use Rattle.meson_variables.specs.UnknownSetters.{is_unknown_in, has_unknown}
 
 abbrev named : List File → List Parsed → Project Span
 named files trees = named_trees files (views files trees)

@@ -1,3 +1,4 @@
+mod Words
 pub mod Answered
 pub mod Anys
 pub mod Assignments

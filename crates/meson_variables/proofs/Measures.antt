@@ -1,9 +1,5 @@
 -- How much is left to expand: variables that may still be followed, each of the rank of all values together, and then the rank of what is expanded now.
-use Rattle.std.proofs.Common.{◌≡◌, ℕ, zero, suc, ◌+◌, ◌-◌, ◌*◌, ◌<◌, ◌≤◌, arith, sym, subst, suc-mul}
-use Rattle.meson_variables.specs.declared.variables.Variables.{Variables}
-use Rattle.meson_calls.specs.Notes.{notes}
-use Rattle.meson_variables.specs.inside.Noted.{notes_rank}
-use Rattle.meson_variables.specs.CodeVariables.{project_of}
+use Rattle.meson_variables.proofs.Words.{◌≡◌, ℕ, zero, suc, ◌+◌, ◌-◌, ◌*◌, ◌<◌, ◌≤◌, arith, sym, subst, suc-mul, notes, project_of, Variables, notes_rank}
 
 abbrev pub values_rank : Variables → ℕ
 values_rank v = notes_rank (notes (project_of v))

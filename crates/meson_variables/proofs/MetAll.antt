@@ -1,14 +1,7 @@
 -- What the code gathers of the arguments of a call.
-use Rattle.std.proofs.Common.{◌≡◌, ℕ, ◌<◌, ◌≤◌, List, [], ◌∷◌, length, drop, refl, sym, ap, ◌∙◌, arith}
-use Rattle.meson_lex.specs.declared.kinds.Span.{Span}
-use Rattle.meson_syntax.specs.declared.tree.Arg.{Arg}
-use Rattle.meson_calls.specs.declared.call.CallRef.{CallRef}
-use Rattle.meson_calls.specs.Project.{Project, place}
-use Rattle.meson_calls.specs.Calls.{value_without_name, value_with_name}
-use Rattle.meson_variables.specs.Expansion.{in_list, fixed, opaque}
-use Rattle.meson_calls.specs.NamedArguments.{sources_key, rest, kept_args}
-use Rattle.meson_variables.specs.ExpandedArguments.{arguments_by, with_hidden}
-use Rattle.meson_variables.specs.Tallies.{Gathered, expanded, with_mark, no_marks}
+use Rattle.meson_variables.proofs.Words.{◌≡◌, ℕ, ◌<◌, ◌≤◌, List, [], ◌∷◌, length, drop, refl, sym, ap, ◌∙◌, arith, Span, Arg, value_without_name}
+use Rattle.meson_variables.proofs.Words.{value_with_name, sources_key, rest, kept_args, Project, place, CallRef, arguments_by, with_hidden, in_list, fixed}
+use Rattle.meson_variables.proofs.Words.{opaque, Gathered, expanded, with_mark, no_marks}
 
 pub hidden_some : {Y : Type 0} (g : Gathered) (ks : List Y) → 0 < length ks → with_hidden g ks ≡ with_mark g opaque
 hidden_some g [] some = absurd (omega arith)

@@ -1,12 +1,6 @@
 -- Elements of a list, one after another: whether they have names.
-use Rattle.std.proofs.Common.{◌≡◌, ℕ, ◌+◌, ◌<◌, ◌≤◌, List, length, drop, get_or, sym, ap, ◌∙◌}
-use Rattle.std.specs.Prelude.{Bool, true, false, if◌then◌else◌}
-use Rattle.std.proofs.lemmas.List.{at_drop_more, at_drop_all}
-use Rattle.meson_syntax.specs.declared.tree.Arg.{Arg}
-use Rattle.meson_syntax.specs.Tree.{is_named, arguments_of}
-use Rattle.meson_syntax.specs.View.{arg_view, args_view, list_view}
-use Rattle.meson_variables.specs.Expansion.{has_names, are_named}
-use Rattle.meson_calls.proofs.Listed.{list_is}
+use Rattle.meson_variables.proofs.Words.{◌≡◌, ℕ, ◌+◌, ◌<◌, ◌≤◌, List, length, drop, get_or, sym, ap, ◌∙◌, Bool, true, false, if◌then◌else◌, at_drop_more}
+use Rattle.meson_variables.proofs.Words.{at_drop_all, is_named, arguments_of, arg_view, args_view, list_view, Arg, list_is, has_names, are_named}
 use Rattle.meson_syntax.specs.declared.tree.List as rust
 
 module _ (source : List ℕ) where

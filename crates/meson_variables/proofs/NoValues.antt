@@ -1,11 +1,7 @@
 -- Variables of which none has a value.
-use Rattle.std.proofs.Common.{◌≡◌, ℕ, Bool, List, [], ◌∷◌, Bor, true, false, refl, subst}
-use Rattle.std.specs.Prelude.{◌&&◌, ◌||◌, not, bytes_eq, if◌then◌else◌, is_some, Option, None, Some}
-use Rattle.std.proofs.lemmas.Slice.Eq.{bytes_eq-Decides}
-use Rattle.meson_calls.specs.Setters.{is_among}
+use Rattle.meson_variables.proofs.Words.{◌≡◌, ℕ, Bool, List, [], ◌∷◌, Bor, true, false, refl, subst, ◌&&◌, ◌||◌, not, bytes_eq, if◌then◌else◌, is_some, Option}
+use Rattle.meson_variables.proofs.Words.{None, Some, bytes_eq-Decides, is_among, value_in, has_any}
 use Rattle.meson_variables.specs.declared.values.Values.{Values}
-use Rattle.meson_variables.specs.CodeValues.{value_in}
-use Rattle.meson_variables.specs.inside.CodeValues.{has_any}
 
 is_none : {V : Type 0} (o : Option V) → is_some o ≡ false → o ≡ None
 is_none None is = refl

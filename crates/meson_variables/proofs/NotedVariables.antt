@@ -1,10 +1,6 @@
 -- The variables of the files and trees of a project with its notes.
-use Rattle.std.proofs.Common.{◌≡◌, ap₂}
+use Rattle.meson_variables.proofs.Words.{◌≡◌, ap₂, named_trees, views, project_in, project_of, Variables}
 use Rattle.meson_calls.specs.declared.noted.Noted.{Noted}
-use Rattle.meson_variables.specs.declared.variables.Variables.{Variables}
-use Rattle.meson_calls.specs.Loading.{named_trees, views}
-use Rattle.meson_variables.specs.CodeVariables.{project_of}
-use Rattle.meson_calls.specs.NotedProjects.{project_in}
 
 -- ---- the variables of its files and trees
 

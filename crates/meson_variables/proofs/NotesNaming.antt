@@ -1,17 +1,7 @@
 -- What notes say of some variables, of most files without those that set none of them.
-use Rattle.std.proofs.Common.{◌≡◌, ℕ, List, [], ◌++◌, Bor, false, ap}
-use Rattle.std.specs.Prelude.{◌||◌, true, option_map}
-use Rattle.meson_splice.specs.declared.file_set.File.{File}
-use Rattle.meson_syntax.specs.declared.tree.Parsed.{Parsed}
-use Rattle.meson_calls.specs.Calls.{chosen}
-use Rattle.meson_variables.specs.UnknownSetters.{has_unknown, is_unknown_in}
-use Rattle.meson_calls.specs.Loading.{named_trees, views}
-use Rattle.meson_variables.specs.Noted.{assigned_notes, is_set_by, note_assigned, note_sets}
-use Rattle.meson_calls.specs.Notes.{notes}
-use Rattle.meson_calls.specs.Project.{placed}
-use Rattle.meson_calls.specs.Setters.{AreSetters, is_among}
-use Rattle.meson_calls.proofs.NoteReadings.{Notes, any_gathers, none_passes, chosen_gathers, none_chosen}
-use Rattle.meson_calls.proofs.SetterReadings.{setters_read}
+use Rattle.meson_variables.proofs.Words.{◌≡◌, ℕ, List, [], ◌++◌, Bor, false, ap, ◌||◌, true, option_map, File, Parsed, chosen, named_trees, views, notes}
+use Rattle.meson_variables.proofs.Words.{placed, AreSetters, is_among, Notes, any_gathers, none_passes, chosen_gathers, none_chosen, setters_read}
+use Rattle.meson_variables.proofs.Words.{assigned_notes, is_set_by, note_assigned, note_sets, has_unknown, is_unknown_in}
 use Rattle.meson_variables.proofs.NothingSet.{assigned_none, sets_none, unknown_none}
 
 module _ (names : List (Bor (List ℕ))) (files : List File) (parsed : List Parsed) (ns : Notes) (are : AreSetters names 0 files parsed ns) where

@@ -1,18 +1,8 @@
 -- A note of no setter, which is no call that sets a variable, says nothing of some variables.
-use Rattle.std.proofs.Common.{◌≡◌, ℕ, Bool, List, Bor, true, false, codes, Some, None, refl, sym, ap, ◌∙◌}
-use Rattle.std.specs.Prelude.{◌&&◌, ◌||◌, not, is_none, bytes_eq, if◌then◌else◌}
-use Rattle.std.proofs.lemmas.Slice.Eq.{bytes_eq-Decides}
-use Rattle.meson_lex.specs.declared.kinds.Span.{Span}
-use Rattle.meson_splice.specs.declared.file_set.File.{File}
-use Rattle.meson_calls.specs.declared.call.CallRef.{CallRef}
-use Rattle.meson_calls.specs.Calls.{calls_function, first_literal, is}
-use Rattle.meson_variables.specs.UnknownSetters.{enters_none, is_unknown_in}
-use Rattle.meson_calls.specs.FileNames.{is_entered, meant_in}
-use Rattle.meson_variables.specs.Noted.{note_assigned, note_sets}
-use Rattle.meson_variables.specs.Variables.{Assigned}
-use Rattle.meson_calls.specs.Notes.{Note, a_call, an_assignment, a_loop}
-use Rattle.meson_calls.specs.Setters.{is_among, is_setter, sets_by_call}
-use Rattle.meson_calls.proofs.SetterReadings.{neither}
+use Rattle.meson_variables.proofs.Words.{◌≡◌, ℕ, Bool, List, Bor, true, false, codes, Some, None, refl, sym, ap, ◌∙◌, ◌&&◌, ◌||◌, not, is_none, bytes_eq}
+use Rattle.meson_variables.proofs.Words.{if◌then◌else◌, bytes_eq-Decides, File, Span, calls_function, first_literal, is, is_entered, meant_in, Note, a_call}
+use Rattle.meson_variables.proofs.Words.{an_assignment, a_loop, is_among, is_setter, sets_by_call, CallRef, neither, note_assigned, note_sets, enters_none}
+use Rattle.meson_variables.proofs.Words.{is_unknown_in, Assigned}
 
 pub sets_none : (names : List (Bor (List ℕ))) (x : List ℕ) (n : Note Span) → sets_by_call n ≡ false → is_setter names n ≡ false → note_sets x n ≡ false
 sets_none names x (a_call c) none other = ap (λ b. b && is x (first_literal c)) (neither (calls_function (codes "subdir") c) (calls_function (codes "set_variable") c) none).1

@@ -1,12 +1,7 @@
 -- The rank of elements and operands.
-use Rattle.std.proofs.Common.{◌≡◌, ℕ, zero, suc, ◌<◌, ◌≤◌, List, [], ◌∷◌, length, get_or, ap, arith}
-use Rattle.meson_syntax.specs.declared.tree.Arg.{Arg}
-use Rattle.meson_syntax.specs.declared.tree.Operand.{Operand}
-use Rattle.meson_syntax.specs.Tree.{arguments_of, operands_of}
-use Rattle.meson_syntax.specs.View.{expr_view, list_view, arg_view, args_view, operand_view, operands_view}
-use Rattle.meson_variables.specs.inside.Noted.{rank, operands_rank, argument_rank, arguments_rank, listing_rank}
-use Rattle.meson_calls.proofs.Listed.{list_is}
-use Rattle.meson_calls.proofs.Parted.{operand_value}
+use Rattle.meson_variables.proofs.Words.{◌≡◌, ℕ, zero, suc, ◌<◌, ◌≤◌, List, [], ◌∷◌, length, get_or, ap, arith, arguments_of, operands_of, expr_view, list_view}
+use Rattle.meson_variables.proofs.Words.{arg_view, args_view, operand_view, operands_view, Arg, Operand, list_is, operand_value, rank, operands_rank}
+use Rattle.meson_variables.proofs.Words.{argument_rank, arguments_rank, listing_rank}
 use Rattle.meson_syntax.specs.declared.tree.List as rust
 
 module _ (source : List ℕ) where

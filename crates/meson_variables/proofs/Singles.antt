@@ -1,19 +1,10 @@
 -- The one expression that a variable stands for, by the notes of a project.
-use Rattle.std.proofs.Common.{◌≡◌, ℕ, ◌≤◌, List, [], ◌∷◌, refl, sym, ap, ◌∙◌, subst, arith}
-use Rattle.std.specs.Prelude.{Bool, true, false, not, ◌&&◌, ◌||◌, if◌then◌else◌, bytes_eq, Option, Some, None, option_map}
-use Rattle.std.specs.List.{list_any, cons_option}
-use Rattle.meson_lex.specs.declared.kinds.Span.{Span}
-use Rattle.meson_syntax.specs.Tree.{Expression, evaluate, assign, selection, iteration, breaks, continues}
-use Rattle.meson_syntax.specs.Grammar.{expression_words}
-use Rattle.meson_calls.specs.declared.call.CallRef.{CallRef}
-use Rattle.meson_calls.specs.Project.{Project, child, Placed, placed}
-use Rattle.meson_calls.specs.Parts.{Part, an_expression, a_statement, parts}
-use Rattle.meson_calls.specs.Calls.{Call, call_of, part_call, all_chosen}
-use Rattle.meson_variables.specs.Variables.{Assigned, part_assigned, assignments, is_outermost, only_value, is_iterated, sets_variable, all_known, single, one_of_names}
-use Rattle.meson_calls.specs.Notes.{Note, a_call, an_assignment, a_loop, note_of, noted, notes}
-use Rattle.meson_variables.specs.Noted.{assigned_notes, is_set_by}
-use Rattle.meson_variables.specs.inside.Noted.{by_notes, rank, note_rank, notes_rank}
-use Rattle.meson_calls.specs.Strings.{AreGood, NotesGood}
+use Rattle.meson_variables.proofs.Words.{◌≡◌, ℕ, ◌≤◌, List, [], ◌∷◌, refl, sym, ap, ◌∙◌, subst, arith, Bool, true, false, not, ◌&&◌, ◌||◌, if◌then◌else◌}
+use Rattle.meson_variables.proofs.Words.{bytes_eq, Option, Some, None, option_map, list_any, cons_option, Span, expression_words, Expression, evaluate, assign}
+use Rattle.meson_variables.proofs.Words.{selection, iteration, breaks, continues, Call, call_of, part_call, all_chosen, Note, a_call, an_assignment, a_loop}
+use Rattle.meson_variables.proofs.Words.{note_of, noted, notes, Part, an_expression, a_statement, parts, Project, child, Placed, placed, AreGood, NotesGood}
+use Rattle.meson_variables.proofs.Words.{CallRef, assigned_notes, is_set_by, Assigned, part_assigned, assignments, is_outermost, only_value, is_iterated}
+use Rattle.meson_variables.proofs.Words.{sets_variable, all_known, single, one_of_names, by_notes, rank, note_rank, notes_rank}
 
 module _ (x : List ℕ) where
   -- ---- assignments

@@ -1,22 +1,10 @@
 -- What notes say of variables is what these stand for in the project.
-use Rattle.std.proofs.Common.{◌≡◌, ◌≢◌, ℕ, List, [], ◌∷◌, ◌++◌, length, Bor, ◌∙◌, sym, ap, arith}
-use Rattle.std.specs.Prelude.{true, false, not, ◌&&◌, ◌==◌, if◌then◌else◌, None}
-use Rattle.meson_splice.specs.declared.file_set.File.{File}
-use Rattle.meson_syntax.specs.declared.tree.Parsed.{Parsed}
-use Rattle.meson_syntax.specs.View.{view}
-use Rattle.meson_variables.specs.UnknownSetters.{has_unknown}
-use Rattle.meson_calls.specs.Loading.{AreParsed, named_trees, views}
-use Rattle.meson_variables.specs.Noted.{assigned_notes, is_set_by}
-use Rattle.meson_variables.specs.inside.Noted.{by_notes}
+use Rattle.meson_variables.proofs.Words.{◌≡◌, ◌≢◌, ℕ, List, [], ◌∷◌, ◌++◌, length, Bor, ◌∙◌, sym, ap, arith, true, false, not, ◌&&◌, ◌==◌, if◌then◌else◌, None}
+use Rattle.meson_variables.proofs.Words.{File, view, Parsed, AreParsed, named_trees, views, note_views, noted, notes, parts_of_file, AreSetters, is_among}
+use Rattle.meson_variables.proofs.Words.{AreNotesOf, whole, passed, AreNotesWith, as_many, Notes, notes_after, assigned_notes, is_set_by, has_unknown}
+use Rattle.meson_variables.proofs.Words.{only_value, single, by_notes}
 use Rattle.meson_calls.specs.declared.note.Note as code
-use Rattle.meson_calls.specs.Notes.{note_views, noted, notes}
-use Rattle.meson_calls.specs.Parts.{parts_of_file}
-use Rattle.meson_calls.specs.Setters.{AreSetters, is_among}
-use Rattle.meson_calls.specs.Spelling.{AreNotesOf, whole, passed, AreNotesWith}
-use Rattle.meson_variables.specs.Variables.{only_value, single}
 use Rattle.meson_variables.proofs.KnownCalls.{known_notes}
-use Rattle.meson_calls.proofs.Loads.{as_many}
-use Rattle.meson_calls.proofs.NoteReadings.{Notes, notes_after}
 use Rattle.meson_variables.proofs.NotesNaming.{same_assigned, same_set, same_unknown}
 use Rattle.meson_variables.proofs.Singles.{single_notes}
 

@@ -1,21 +1,8 @@
 -- The sources of the call at a place.
-use Rattle.std.proofs.Common.{◌≡◌, ◌≢◌, ℕ, ◌<◌, List, length, get_or, refl, sym, ap, ◌∙◌}
-use Rattle.std.specs.Prelude.{Option, Some, None, option_map, option_and_then, false, Result, Ok, Err, IfOk, IfErr}
-use Rattle.meson_lex.specs.declared.kinds.Span.{Span}
-use Rattle.meson_splice.specs.declared.file_set.File.{File}
-use Rattle.meson_splice.specs.Files.{bytes_at}
-use Rattle.meson_syntax.specs.declared.tree.Parsed.{Parsed}
-use Rattle.meson_syntax.specs.Tree.{Expression, Listing}
-use Rattle.meson_syntax.specs.View.{view}
-use Rattle.meson_calls.specs.declared.call.CallRef.{CallRef}
+use Rattle.meson_variables.proofs.Words.{◌≡◌, ◌≢◌, ℕ, ◌<◌, List, length, get_or, refl, sym, ap, ◌∙◌, Option, Some, None, option_map, option_and_then, false}
+use Rattle.meson_variables.proofs.Words.{Result, Ok, Err, IfOk, IfErr, bytes_at, File, Span, Expression, Listing, view, Parsed, Call, call_of, call_with}
+use Rattle.meson_variables.proofs.Words.{is_role_call, named_trees, views, Project, placed, CallRef, OutOfMemory, nth_there, sources, sources_of_call}
 use Rattle.meson_calls.specs.declared.refusal.Refusal.{Refusal}
-use Rattle.meson_calls.specs.declared.refusal.Refusal.TheVariants.{OutOfMemory}
-use Rattle.meson_calls.specs.Project.{Project, placed}
-use Rattle.meson_calls.specs.Calls.{Call, call_of}
-use Rattle.meson_calls.specs.Loading.{named_trees, views}
-use Rattle.meson_calls.specs.ChosenNotes.{call_with, is_role_call}
-use Rattle.meson_variables.specs.TargetSources.{sources, sources_of_call}
-use Rattle.meson_calls.proofs.Standing.{nth_there}
 use Rattle.meson_syntax.specs.Tree as tree
 use Rattle.meson_syntax.specs.Paths as paths
 use Rattle.meson_variables.specs.declared.source.Sources as found

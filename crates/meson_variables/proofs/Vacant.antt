@@ -1,16 +1,7 @@
 -- A list without elements, and one with some.
-use Rattle.std.proofs.Common.{◌≡◌, ℕ, List, length, sym, ap, ◌∙◌}
-use Rattle.std.specs.Prelude.{true, false, ◌==◌, Result, OnOk}
-use Rattle.std.proofs.lemmas.Result.{on_ok_weaker}
-use Rattle.meson_lex.specs.declared.kinds.Span.{Span}
-use Rattle.meson_syntax.specs.declared.tree.Arg.{Arg}
+use Rattle.meson_variables.proofs.Words.{◌≡◌, ℕ, List, length, sym, ap, ◌∙◌, true, false, ◌==◌, Result, OnOk, on_ok_weaker, Span, list_view, Arg, Project}
+use Rattle.meson_variables.proofs.Words.{list_is, Stand, empty, within, Gathered, all_marked, expanded, with_mark, listing_left}
 use Rattle.meson_syntax.specs.declared.tree.List as rust
-use Rattle.meson_syntax.specs.View.{list_view}
-use Rattle.meson_calls.specs.Project.{Project}
-use Rattle.meson_variables.specs.Expansion.{Stand, empty, within}
-use Rattle.meson_variables.specs.Tallies.{Gathered, all_marked, expanded, with_mark}
-use Rattle.meson_variables.specs.inside.Tallies.{listing_left}
-use Rattle.meson_calls.proofs.Listed.{list_is}
 use Rattle.meson_variables.proofs.Gathers.{args_left, no_element, some_element}
 
 module _ (p : Project Span) (left : ℕ) (source : List ℕ) (l : rust.List) (s : Stand) (g : Gathered) where

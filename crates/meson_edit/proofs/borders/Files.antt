@@ -1,24 +1,13 @@
 -- No border of a statement lies behind the tokens that spell it, and none of a file behind its text.
-use Rattle.std.proofs.Common.{ℕ, ◌+◌, ◌≤◌, List, [], ◌∷◌, length, Some, None, subst, sym, ap, arith}
-use Rattle.std.proofs.Math.Nat.{max-le}
-use Rattle.meson_lex.specs.declared.kinds.Kind.{Kind}
+use Rattle.meson_edit.proofs.Words.{ℕ, ◌+◌, ◌≤◌, List, [], ◌∷◌, length, Some, None, subst, sym, ap, arith, max-le, joined, Token, located, start, Kind, Span}
+use Rattle.meson_edit.proofs.Words.{places_of_names, code_expression, code_statement, code_branches, code_statements, code_block, code_file, furthest_span}
+use Rattle.meson_edit.proofs.Words.{furthest_spans, furthest_stmt, furthest_stmts, furthest_block, furthest_branches, furthest, furthest_list, max_depth}
+use Rattle.meson_edit.proofs.Words.{list_items, CoversBlock, NewLine, SaysMoreNames, SaysNames, SpellsStatement, SpellsBranches, SpellsStatements, SpellsBlock}
+use Rattle.meson_edit.proofs.Words.{SpellsFile, Name, Statement, evaluate, assign, selection, iteration, breaks, continues, Branches, no_branches, branch}
+use Rattle.meson_edit.proofs.Words.{nothing_else, otherwise, Statements, no_statements, statement, Block, block, File, file, list_view, view, fold-roll-Stmt}
+use Rattle.meson_edit.proofs.Words.{fold-roll-Block, fold-roll-Branch, Stmt-F, list_told, file_told}
 use Rattle.meson_lex.specs.declared.kinds.Kind.TheVariants as k
-use Rattle.meson_lex.specs.declared.kinds.Span.{Span}
-use Rattle.meson_lex.specs.Items.{joined}
-use Rattle.meson_lex.specs.Significant.{start}
-use Rattle.meson_lex.specs.Located.{Token, located}
-use Rattle.meson_syntax.specs.declared.tree.Stmt.TheOpen.{Stmt-F}
-use Rattle.meson_syntax.specs.declared.tree.Stmt.TheFolds.{fold-roll-Stmt, fold-roll-Block, fold-roll-Branch}
-use Rattle.meson_syntax.specs.Tree.{Name, Statement, evaluate, assign, selection, iteration, breaks, continues, Branches, no_branches, branch, nothing_else, otherwise, Statements, no_statements, statement, Block, block, File, file}
-use Rattle.meson_syntax.specs.Spelling.{CoversBlock, NewLine, SaysMoreNames, SaysNames, SpellsStatement, SpellsBranches, SpellsStatements, SpellsBlock, SpellsFile}
-use Rattle.meson_syntax.specs.Furthest.{furthest_span, furthest_spans, furthest_stmt, furthest_stmts, furthest_block, furthest_branches, furthest, furthest_list}
-use Rattle.meson_syntax.specs.Reads.{max_depth}
-use Rattle.meson_syntax.specs.ReadsList.{list_items}
-use Rattle.meson_syntax.specs.View.{list_view, view}
 use Rattle.meson_edit.specs.Borders.{TreesEnd, ListsEnd}
-use Rattle.meson_syntax.specs.Codes.{places_of_names, code_expression, code_statement, code_branches, code_statements, code_block, code_file}
-use Rattle.meson_syntax.proofs.Told.{list_told}
-use Rattle.meson_syntax.proofs.ToldFiles.{file_told}
 use Rattle.meson_edit.proofs.borders.Tokens.{Within, covers-within, parts-within, spots-within, located-within}
 use Rattle.meson_edit.proofs.borders.Trees.{at_most, expression-ends, listing-ends}
 

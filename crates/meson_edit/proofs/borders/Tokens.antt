@@ -1,13 +1,8 @@
 -- Tokens that reach no further than a number.
-use Rattle.std.proofs.Common.{ℕ, ◌+◌, ◌≤◌, Bool, true, false, List, [], ◌∷◌, ◌++◌, length, subst, sym, arith}
+use Rattle.meson_edit.proofs.Words.{ℕ, ◌+◌, ◌≤◌, Bool, true, false, List, [], ◌∷◌, ◌++◌, length, subst, sym, arith, max-le, Lexeme, joined, Token, line_end_at}
+use Rattle.meson_edit.proofs.Words.{spot_by, end_by, spots, end_after, closing_at, located, Role, Gap, Ends, Opens, Closes, Other, role, State, start, step}
+use Rattle.meson_edit.proofs.Words.{after, ends_line, only_if, Span, furthest_span, end_of, Covers, Then}
 use Rattle.std.proofs.lemmas.List.{length-append}
-use Rattle.std.proofs.Math.Nat.{max-le}
-use Rattle.meson_lex.specs.declared.kinds.Span.{Span}
-use Rattle.meson_lex.specs.Items.{Lexeme, joined}
-use Rattle.meson_lex.specs.Significant.{Role, Gap, Ends, Opens, Closes, Other, role, State, start, step, after, ends_line, only_if}
-use Rattle.meson_lex.specs.Located.{Token, line_end_at, spot_by, end_by, spots, end_after, closing_at, located}
-use Rattle.meson_syntax.specs.Furthest.{furthest_span}
-use Rattle.meson_syntax.specs.Spelling.{end_of, Covers, Then}
 
 abbrev pub Within : ℕ → List Token → Type 0
 Within n [] = Unit {0}

@@ -1,17 +1,12 @@
 -- No border of an expression lies behind the tokens that spell it.
-use Rattle.std.proofs.Common.{◌≡◌, ℕ, ◌≤◌, Bool, false, List, subst, sym, arith}
-use Rattle.std.proofs.Math.Nat.{max-le}
-use Rattle.meson_lex.specs.declared.kinds.Span.{Span}
-use Rattle.meson_lex.specs.Located.{Token}
-use Rattle.meson_syntax.specs.declared.operator.Bracket.{Bracket}
+use Rattle.meson_edit.proofs.Words.{◌≡◌, ℕ, ◌≤◌, Bool, false, List, subst, sym, arith, max-le, Token, Span, code_expression, code_operands, code_tail}
+use Rattle.meson_edit.proofs.Words.{code_tails, code_listing, code_argument, code_arguments, furthest_expr, furthest_operands, furthest_tail, furthest_tails}
+use Rattle.meson_edit.proofs.Words.{furthest_list, furthest_arg, furthest_args, row_level, SpellsExpression, SpellsOperands, SpellsTail, SpellsTails}
+use Rattle.meson_edit.proofs.Words.{SpellsListing, SpellsArguments, SpellsArgument, Expression, identifier, boolean, integer, string, paren, array, dictionary}
+use Rattle.meson_edit.proofs.Words.{call, unary, row, postfix, conditional, Operands, no_operands, operand, Tail, method, index, Tails, no_tails, tail, Listing}
+use Rattle.meson_edit.proofs.Words.{listing, Argument, plain, named, pair, is_named, Arguments, no_arguments, argument, Bracket, fold-roll-Arg, fold-roll-Expr}
+use Rattle.meson_edit.proofs.Words.{fold-roll-Tail, fold-roll-List, fold-roll-Operand, Arg-F, Expr-F, Tail-F}
 use Rattle.meson_syntax.specs.declared.operator.Bracket.TheVariants as bracket
-use Rattle.meson_syntax.specs.declared.tree.Arg.TheOpen.{Arg-F, Expr-F, Tail-F}
-use Rattle.meson_syntax.specs.declared.tree.Arg.TheFolds.{fold-roll-Arg, fold-roll-Expr, fold-roll-Tail, fold-roll-List, fold-roll-Operand}
-use Rattle.meson_syntax.specs.Tree.{Expression, identifier, boolean, integer, string, paren, array, dictionary, call, unary, row, postfix, conditional, Operands, no_operands, operand, Tail, method, index, Tails, no_tails, tail, Listing, listing, Argument, plain, named, pair, is_named, Arguments, no_arguments, argument}
-use Rattle.meson_syntax.specs.Grammar.{row_level}
-use Rattle.meson_syntax.specs.Spelling.{SpellsExpression, SpellsOperands, SpellsTail, SpellsTails, SpellsListing, SpellsArguments, SpellsArgument}
-use Rattle.meson_syntax.specs.Furthest.{furthest_expr, furthest_operands, furthest_tail, furthest_tails, furthest_list, furthest_arg, furthest_args}
-use Rattle.meson_syntax.specs.Codes.{code_expression, code_operands, code_tail, code_tails, code_listing, code_argument, code_arguments}
 use Rattle.meson_edit.proofs.borders.Tokens.{Within, covers-within, parts-within}
 
 -- what is at most n is so under another name

@@ -1,21 +1,12 @@
 -- A statement among those of its block, and the block in its file: the words before and behind it, and where its tokens stand.
-use Rattle.std.proofs.Common.{◌≡◌, ℕ, zero, suc, List, [], ◌∷◌, ◌++◌, Some, refl, ap, subst, ◌∙◌, append_assoc}
-use Rattle.std.proofs.lemmas.List.{append-nil}
+use Rattle.meson_edit.proofs.Words.{◌≡◌, ℕ, zero, suc, List, [], ◌∷◌, ◌++◌, Some, refl, ap, subst, ◌∙◌, append_assoc, append-nil, Token, Word, new_line, Span}
+use Rattle.meson_edit.proofs.Words.{statement_words, statements_words, block_words, file_words, LevelStatements, LevelBlock, LevelFile, Sort, of_expression}
+use Rattle.meson_edit.proofs.Words.{of_statement, of_block, Node, nth, reach, block_of, SpellsStatements, SpellsBlock, SpellsFile, Statement, Statements}
+use Rattle.meson_edit.proofs.Words.{no_statements, statement, statement_list, Block, block, File, statement-words, statements-words, some-injective, one-words}
+use Rattle.meson_edit.proofs.Words.{then-words, Reaches, and-then-some, reach-fits, with-words, with-level, of-level, join-words, BlockAt, block_of_node}
+use Rattle.meson_edit.proofs.Words.{block_at, statement_in, all_but, block_without}
 use Rattle.meson_lex.specs.declared.kinds.Kind.TheVariants as k
-use Rattle.meson_lex.specs.declared.kinds.Span.{Span}
-use Rattle.meson_lex.specs.Significant.{Word, new_line}
-use Rattle.meson_lex.specs.Located.{Token}
-use Rattle.meson_syntax.specs.Tree.{Statement, Statements, no_statements, statement, statement_list, Block, block, File}
-use Rattle.meson_syntax.specs.Grammar.{statement_words, statements_words, block_words, file_words, LevelStatements, LevelBlock, LevelFile}
-use Rattle.meson_syntax.specs.Spelling.{SpellsStatements, SpellsBlock, SpellsFile}
-use Rattle.meson_syntax.specs.Paths.{Sort, of_expression, of_statement, of_block, Node, nth, reach, block_of}
-use Rattle.meson_edit.specs.Blocks.{BlockAt, block_of_node, block_at, statement_in, all_but, block_without}
-use Rattle.meson_syntax.proofs.parsing.Steps.{some-injective}
-use Rattle.meson_syntax.proofs.parsing.Words.{one-words, then-words}
-use Rattle.meson_syntax.proofs.parsing.FileWords.{statement-words, statements-words}
-use Rattle.meson_syntax.proofs.paths.Reaching.{Reaches, and-then-some, reach-fits, with-words, with-level, of-level}
 use Rattle.meson_edit.proofs.places.Inside.{Inside, inside-part}
-use Rattle.meson_syntax.proofs.places.Pairs.{join-words}
 use Rattle.meson_edit.proofs.places.InExpressions.{third-of}
 use Rattle.meson_edit.proofs.places.InStatements.{reach-inside}
 use Rattle.meson_edit.proofs.places.Standing.{block-spelled}

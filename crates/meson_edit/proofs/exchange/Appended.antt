@@ -1,19 +1,10 @@
 -- A text with a statement behind it spells, and reads as, the file with that statement at its end.
-use Rattle.std.specs.Str.{IsUtf8}
-use Rattle.std.proofs.Common.{◌≡◌, ℕ, ◌≤◌, List, [], ◌∷◌, ◌++◌, length, refl, sym, ap, ap₂, subst, ◌∙◌, append_assoc, inl, inr, lit<}
-use Rattle.std.proofs.lemmas.Str.{IsUtf8-nil, IsUtf8-append, IsUtf8-from_ascii}
+use Rattle.meson_edit.proofs.Words.{◌≡◌, ℕ, ◌≤◌, List, [], ◌∷◌, ◌++◌, length, refl, sym, ap, ap₂, subst, ◌∙◌, append_assoc, inl, inr, lit<, IsUtf8, append-nil}
+use Rattle.meson_edit.proofs.Words.{IsUtf8-nil, IsUtf8-append, IsUtf8-from_ascii, Lexeme, joined, IsItemList, AreItems, IsLineEnd, Word, new_line, start}
+use Rattle.meson_edit.proofs.Words.{significant, one_list, joined-append, AreItems-append, statement_words, statements_words, file_words, LevelStatement}
+use Rattle.meson_edit.proofs.Words.{LevelStatements, LevelFile, file_depth, Fits, Spells, ReadsWithin, Nowhere, Plain, Statement, Statements, no_statements}
+use Rattle.meson_edit.proofs.Words.{statement, block, File, file, Limits, and_last, file_and_last, IsStatementText, IsBreak}
 use Rattle.std.proofs.lemmas.Str.Ascii.{IsAscii-nil, IsAscii-push}
-use Rattle.std.proofs.lemmas.List.{append-nil}
-use Rattle.meson_lex.specs.Items.{Lexeme, joined, IsItemList, AreItems}
-use Rattle.meson_lex.specs.Kinds.{IsLineEnd}
-use Rattle.meson_lex.specs.Significant.{Word, new_line, start, significant}
-use Rattle.meson_lex.proofs.OneList.{one_list}
-use Rattle.meson_lex.proofs.Seams.{joined-append, AreItems-append}
-use Rattle.meson_syntax.specs.declared.source.Limits.{Limits}
-use Rattle.meson_syntax.specs.Tree.{Nowhere, Plain, Statement, Statements, no_statements, statement, block, File, file}
-use Rattle.meson_syntax.specs.Grammar.{statement_words, statements_words, file_words, LevelStatement, LevelStatements, LevelFile, file_depth}
-use Rattle.meson_syntax.specs.Reads.{Fits, Spells, ReadsWithin}
-use Rattle.meson_edit.specs.Blocks.{and_last, file_and_last, IsStatementText, IsBreak}
 use Rattle.meson_edit.proofs.exchange.StatementLines.{statement-flat, file-lines}
 use Rattle.meson_edit.proofs.exchange.LineWords.{told, told-append, tight-state}
 use Rattle.meson_edit.proofs.exchange.Begun.{line_of, line-item, before-line, Begun, begun}

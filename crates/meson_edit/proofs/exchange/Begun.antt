@@ -1,15 +1,9 @@
 -- A text behind which a line begins: it ends its line, or a line end is put behind it.
-use Rattle.std.proofs.Common.{◌≡◌, ℕ, Bool, true, false, List, [], ◌∷◌, ◌++◌, None, refl, sym, ap, ap₂, subst, ◌∙◌, append_assoc, inl, inr}
-use Rattle.std.proofs.lemmas.List.{append-nil}
+use Rattle.meson_edit.proofs.Words.{◌≡◌, ℕ, Bool, true, false, List, [], ◌∷◌, ◌++◌, None, refl, sym, ap, ap₂, subst, ◌∙◌, append_assoc, inl, inr, append-nil}
+use Rattle.meson_edit.proofs.Words.{begins, first_bare_return, is_blank, Lexeme, joined, IsItem, IsItemList, AreItems, IsLineEnd, Word, new_line, Ends, role}
+use Rattle.meson_edit.proofs.Words.{State, start, fresh_after, step_by, ends_line, only_if, after, emitted, closing, significant, speaks, joined-append}
+use Rattle.meson_edit.proofs.Words.{AreItems-append, after-append, emitted-append, EndsItsLine, IsBreak}
 use Rattle.meson_lex.specs.declared.kinds.Kind.TheVariants as k
-use Rattle.meson_lex.specs.Bytes.{begins, first_bare_return, is_blank}
-use Rattle.meson_lex.specs.Items.{Lexeme, joined, IsItem, IsItemList, AreItems}
-use Rattle.meson_lex.specs.Kinds.{IsLineEnd}
-use Rattle.meson_lex.specs.Significant.{Word, new_line, Ends, role, State, start, fresh_after, step_by, ends_line, only_if, after, emitted, closing, significant}
-use Rattle.meson_lex.proofs.Seams.{joined-append, AreItems-append}
-use Rattle.meson_lex.specs.Words.{speaks}
-use Rattle.meson_edit.specs.Blocks.{EndsItsLine, IsBreak}
-use Rattle.meson_syntax.proofs.places.Spots.{after-append, emitted-append}
 use Rattle.meson_edit.proofs.exchange.States.{after_words, after-words-append, state-is, flat-depth, Lines}
 use Rattle.meson_edit.proofs.exchange.Ends.{other-end, end-changed, silent-stands, line-stands}
 

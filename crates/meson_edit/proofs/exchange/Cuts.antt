@@ -1,12 +1,7 @@
 -- Items cut at the same byte are cut at the same item, and the texts on both sides of a cut are UTF-8.
-use Rattle.std.proofs.Common.{◌≡◌, ℕ, ◌+◌, ◌<◌, List, [], ◌∷◌, ◌++◌, length, refl, sym, ap, ap₂, subst, ◌∙◌, length-append, arith}
-use Rattle.std.specs.Prelude.{drop, get_or}
-use Rattle.std.specs.Str.{IsUtf8}
-use Rattle.std.proofs.lemmas.Str.{IsUtf8-nil, IsUtf8-take, IsUtf8-drop, IsCharBoundary-before_ascii}
-use Rattle.std.proofs.lemmas.List.{append-nil}
-use Rattle.std.proofs.Math.Seq.{get_or-append_seam, take-append_seam, drop-append-add}
-use Rattle.meson_lex.specs.Items.{Lexeme, joined, IsItem, AreItems}
-use Rattle.meson_lex.proofs.Seams.{joined-append, AreItems-split}
+use Rattle.meson_edit.proofs.Words.{◌≡◌, ℕ, ◌+◌, ◌<◌, List, [], ◌∷◌, ◌++◌, length, refl, sym, ap, ap₂, subst, ◌∙◌, length-append, arith, drop, get_or, IsUtf8}
+use Rattle.meson_edit.proofs.Words.{get_or-append_seam, take-append_seam, drop-append-add, append-nil, IsUtf8-nil, IsUtf8-take, IsUtf8-drop}
+use Rattle.meson_edit.proofs.Words.{IsCharBoundary-before_ascii, Lexeme, joined, IsItem, AreItems, joined-append, AreItems-split}
 use Rattle.meson_edit.proofs.exchange.FirstBytes.{begins-with}
 
 -- ---- the same cut

@@ -1,17 +1,10 @@
 -- What stands behind items does not matter to those before the last one; and what may stand behind the last.
-use Rattle.std.proofs.Common.{◌≡◌, ℕ, Bool, true, false, not, ◌&&◌, List, [], ◌∷◌, ◌++◌, None, refl, sym, ap, ◌∙◌, subst, inl, inr, ◌⊎◌}
-use Rattle.std.proofs.lemmas.List.{append-nil}
-use Rattle.std.specs.Prelude.{◌==◌}
-use Rattle.meson_lex.specs.declared.kinds.Kind.{Kind}
-use Rattle.meson_lex.specs.declared.kinds.Kind.TheVariants.{Blank, LineEnd, Comment, Continuation}
-use Rattle.meson_lex.specs.Bytes.{begins, begins_bare_return, first_bare_return, is_blank, is_equals, is_line_byte, is_line_feed, is_quote, is_word_byte}
-use Rattle.meson_lex.specs.Items.{Lexeme, joined, IsItem, AreItems}
-use Rattle.meson_lex.specs.Kinds.{IsLineEnd}
-use Rattle.meson_lex.specs.Neighbours.{MayStand, Shape, StandsBefore, blanks, closed, extendable, format_quoted, name, note, quoted, shape, word}
-use Rattle.meson_lex.specs.Significant.{role}
-use Rattle.meson_lex.proofs.Seams.{AreItems-append, AreItems-split}
+use Rattle.meson_edit.proofs.Words.{◌≡◌, ℕ, Bool, true, false, not, ◌&&◌, List, [], ◌∷◌, ◌++◌, None, refl, sym, ap, ◌∙◌, subst, inl, inr, ◌⊎◌, ◌==◌, append-nil}
+use Rattle.meson_edit.proofs.Words.{begins, begins_bare_return, first_bare_return, is_blank, is_equals, is_line_byte, is_line_feed, is_quote, is_word_byte}
+use Rattle.meson_edit.proofs.Words.{Lexeme, joined, IsItem, AreItems, IsLineEnd, MayStand, Shape, StandsBefore, blanks, closed, extendable, format_quoted, name}
+use Rattle.meson_edit.proofs.Words.{note, quoted, shape, role, speaks, Kind, Blank, LineEnd, Comment, Continuation, AreItems-append, AreItems-split}
+use Rattle.meson_lex.specs.Neighbours.{word}
 use Rattle.meson_lex.proofs.Standing.{none_parts}
-use Rattle.meson_lex.specs.Words.{speaks}
 use Rattle.meson_edit.proofs.exchange.FirstBytes.{begins-with}
 
 -- ---- texts that begin alike

@@ -1,11 +1,9 @@
 -- The text of an item begins with an ASCII character; a line byte begins line ends alone, and a blank begins blanks alone.
-use Rattle.std.proofs.Common.{◌≡◌, ℕ, ◌<◌, ◌≤◌, Bool, true, false, ◌&&◌, List, [], ◌∷◌, ◌++◌, refl, sym, ap, subst, inl, inr, ⊎_elim, leb, leb-true, eqb-true, arith, lit<}
-use Rattle.std.specs.Prelude.{drop, get_or}
-use Rattle.std.proofs.lemmas.Bool.{and_parts, or_from, or_cases}
-use Rattle.meson_lex.specs.declared.kinds.Kind.{Kind}
-use Rattle.meson_lex.specs.declared.kinds.Kind.TheVariants.{Blank, LineEnd, Comment, Continuation, Identifier, Integer, PlainString, MultilineString, FormatString, FormatMultilineString}
-use Rattle.meson_lex.specs.Bytes.{is_blank, is_line_byte, is_word_start, is_digit}
-use Rattle.meson_lex.specs.Kinds.{OfKind, spelling}
+use Rattle.meson_edit.proofs.Words.{◌≡◌, ℕ, ◌<◌, ◌≤◌, Bool, true, false, ◌&&◌, List, [], ◌∷◌, ◌++◌, refl, sym, ap, subst, inl, inr, ⊎_elim, leb, eqb-true}
+use Rattle.meson_edit.proofs.Words.{arith, lit<, drop, get_or, and_parts, or_from, or_cases, is_blank, is_line_byte, is_word_start, is_digit, OfKind, spelling}
+use Rattle.meson_edit.proofs.Words.{Kind, Blank, LineEnd, Comment, Continuation, Identifier, Integer, PlainString, MultilineString, FormatString}
+use Rattle.meson_edit.proofs.Words.{FormatMultilineString}
+use Rattle.std.proofs.Common.{leb-true}
 use Rattle.meson_lex.proofs.FrontComplete.{apart, integer_parts}
 
 pub record Begins (κ : Kind) (text : List ℕ) : Type 0 where

@@ -1,21 +1,9 @@
 -- The items of a statement gone: those before and behind it are items side by side, and give the words before and behind its line.
-use Rattle.std.proofs.Common.{◌≡◌, ℕ, true, false, List, [], ◌∷◌, ◌++◌, refl, sym, ap, ap₂, subst, ◌∙◌, append_assoc, inl, inr, ◌⊎◌}
-use Rattle.std.proofs.lemmas.List.{append-nil}
-use Rattle.meson_lex.specs.declared.kinds.Kind.{Kind}
+use Rattle.meson_edit.proofs.Words.{◌≡◌, ℕ, true, false, List, [], ◌∷◌, ◌++◌, refl, sym, ap, ap₂, subst, ◌∙◌, append_assoc, inl, inr, ◌⊎◌, append-nil, begins}
+use Rattle.meson_edit.proofs.Words.{begins_bare_return, is_blank, is_line_byte, Lexeme, joined, IsItem, AreItems, OfKind, MayStand, Word, new_line, role, State}
+use Rattle.meson_edit.proofs.Words.{start, after, emitted, closing, significant, speaks, Kind, Span, AreItems-append, AreItems-split, Flat, after-append}
+use Rattle.meson_edit.proofs.Words.{BeginsInNoBlank, EndsInNoBlank, IsTrimmed, IsLineRest, in_line, StandsAmongItems}
 use Rattle.meson_lex.specs.declared.kinds.Kind.TheVariants as k
-use Rattle.meson_lex.specs.declared.kinds.Span.{Span}
-use Rattle.meson_lex.specs.Bytes.{begins, begins_bare_return, is_blank, is_line_byte}
-use Rattle.meson_lex.specs.Items.{Lexeme, joined, IsItem, AreItems}
-use Rattle.meson_lex.specs.Kinds.{OfKind}
-use Rattle.meson_lex.specs.Neighbours.{MayStand}
-use Rattle.meson_lex.specs.Significant.{Word, new_line, role, State, start, after, emitted, closing, significant}
-use Rattle.meson_lex.proofs.Seams.{AreItems-append, AreItems-split}
-use Rattle.meson_lex.specs.Words.{speaks}
-use Rattle.meson_edit.specs.Standing.{StandsAmongItems}
-use Rattle.meson_edit.specs.Lines.{in_line}
-use Rattle.meson_edit.specs.Blocks.{BeginsInNoBlank, EndsInNoBlank, IsTrimmed, IsLineRest}
-use Rattle.meson_syntax.proofs.places.Spots.{after-append}
-use Rattle.meson_syntax.proofs.lists.Nesting.{Flat}
 use Rattle.meson_edit.proofs.exchange.States.{after_words, state-is, Lines, lines-state}
 use Rattle.meson_edit.proofs.exchange.FirstBytes.{begins-with}
 use Rattle.meson_edit.proofs.exchange.Ends.{end-changed, no-blank-begins, silent-stands}

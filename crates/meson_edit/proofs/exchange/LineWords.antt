@@ -1,13 +1,8 @@
 -- The tokens of the items behind a statement: a new line, and then those that they give at the start of a line.
-use Rattle.std.proofs.Common.{◌≡◌, true, false, List, [], ◌∷◌, ◌++◌, refl, sym, ap, ap₂, subst, ◌∙◌, append_assoc, inl, inr}
+use Rattle.meson_edit.proofs.Words.{◌≡◌, true, false, List, [], ◌∷◌, ◌++◌, refl, sym, ap, ap₂, subst, ◌∙◌, append_assoc, inl, inr, Lexeme, Word, kept, new_line}
+use Rattle.meson_edit.proofs.Words.{Role, Gap, Ends, Opens, Closes, Other, role, State, start, step_by, emit_by, after, emitted, closing, speaks, IsTight, Flat}
+use Rattle.meson_edit.proofs.Words.{after-append, emitted-append, IsLineRest, in_line}
 use Rattle.meson_lex.specs.declared.kinds.Kind.TheVariants as k
-use Rattle.meson_lex.specs.Items.{Lexeme}
-use Rattle.meson_lex.specs.Significant.{Word, kept, new_line, Role, Gap, Ends, Opens, Closes, Other, role, State, start, step_by, emit_by, after, emitted, closing}
-use Rattle.meson_lex.specs.Words.{speaks, IsTight}
-use Rattle.meson_edit.specs.Blocks.{IsLineRest}
-use Rattle.meson_edit.specs.Lines.{in_line}
-use Rattle.meson_syntax.proofs.places.Spots.{after-append, emitted-append}
-use Rattle.meson_syntax.proofs.lists.Nesting.{Flat}
 use Rattle.meson_edit.proofs.exchange.States.{state-is, flat-depth, same-state}
 
 -- the words that items give at a state, and at their end

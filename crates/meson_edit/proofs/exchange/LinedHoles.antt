@@ -1,19 +1,17 @@
 -- Before a statement or a block that a path names stand whole lines.
-use Rattle.std.specs.Prelude.{⊤, option_map}
-use Rattle.std.proofs.Common.{◌≡◌, ℕ, Bool, List, [], ◌∷◌, ◌++◌, Some, refl, sym, subst}
-use Rattle.meson_lex.specs.declared.kinds.Kind.{Kind}
+use Rattle.meson_edit.proofs.Words.{⊤, option_map, ◌≡◌, ℕ, Bool, List, [], ◌∷◌, ◌++◌, Some, refl, sym, subst, Word, new_line, Other, role, Kind, mark}
+use Rattle.meson_edit.proofs.Words.{comma_words, operator_words, expression_words, tail_words, argument_words, arguments_words, statement_words, branches_words}
+use Rattle.meson_edit.proofs.Words.{otherwise_words, block_words, tails_words, opens, closes, Sort, of_expression, of_statement, of_block, Node, Hole, around}
+use Rattle.meson_edit.proofs.Words.{all_around, argument_children, arguments_children, listing_children, operands_children, tail_children, tails_children}
+use Rattle.meson_edit.proofs.Words.{expression_children, branches_children, otherwise_children, statement_children, statements_children, block_children}
+use Rattle.meson_edit.proofs.Words.{children, nth_hole, reach, Expression, identifier, boolean, integer, string, paren, array, dictionary, call, unary, row}
+use Rattle.meson_edit.proofs.Words.{postfix, conditional, Operands, no_operands, operand, Tail, method, index, Tails, no_tails, tail, Listing, listing}
+use Rattle.meson_edit.proofs.Words.{Argument, plain, named, pair, Arguments, no_arguments, argument, Statement, evaluate, assign, selection, iteration, breaks}
+use Rattle.meson_edit.proofs.Words.{continues, Branches, no_branches, branch, Otherwise, nothing_else, otherwise, Statements, no_statements, statement, Block}
+use Rattle.meson_edit.proofs.Words.{block, Bracket, flat-word, expression-flat, some-injective, Every, every-append, every-around, every-nth, map-some}
+use Rattle.meson_edit.proofs.Words.{and-then-some}
 use Rattle.meson_lex.specs.declared.kinds.Kind.TheVariants as k
-use Rattle.meson_lex.specs.Significant.{Word, new_line, Other, role}
-use Rattle.meson_syntax.specs.declared.operator.Bracket.{Bracket}
 use Rattle.meson_syntax.specs.declared.operator.Bracket.TheVariants as bracket
-use Rattle.meson_syntax.specs.Operators.{opens, closes}
-use Rattle.meson_syntax.specs.Tree.{Expression, identifier, boolean, integer, string, paren, array, dictionary, call, unary, row, postfix, conditional, Operands, no_operands, operand, Tail, method, index, Tails, no_tails, tail, Listing, listing, Argument, plain, named, pair, Arguments, no_arguments, argument, Statement, evaluate, assign, selection, iteration, breaks, continues, Branches, no_branches, branch, Otherwise, nothing_else, otherwise, Statements, no_statements, statement, Block, block}
-use Rattle.meson_syntax.specs.Grammar.{mark, comma_words, operator_words, expression_words, tail_words, argument_words, arguments_words, statement_words, branches_words, otherwise_words, block_words, tails_words}
-use Rattle.meson_syntax.specs.Paths.{Sort, of_expression, of_statement, of_block, Node, Hole, around, all_around, argument_children, arguments_children, listing_children, operands_children, tail_children, tails_children, expression_children, branches_children, otherwise_children, statement_children, statements_children, block_children, children, nth_hole, reach}
-use Rattle.meson_syntax.proofs.parsing.Steps.{some-injective}
-use Rattle.meson_syntax.proofs.paths.Every.{Every, every-append, every-around, every-nth}
-use Rattle.meson_syntax.proofs.paths.Reaching.{map-some, and-then-some}
-use Rattle.meson_syntax.proofs.lists.Nesting.{flat-word, expression-flat}
 use Rattle.meson_edit.proofs.exchange.States.{Lines, no-lines, lines-append, line-more}
 use Rattle.meson_edit.proofs.exchange.StatementLines.{asked-lines, loop-lines, statement-flat, branches-lines, block-lines}
 

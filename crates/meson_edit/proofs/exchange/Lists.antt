@@ -1,31 +1,12 @@
 -- A list's bytes exchanged for the text of another list: the new text spells the tree with the other list in that place.
-use Rattle.std.specs.Prelude.{option_map}
-use Rattle.std.proofs.Common.{◌≡◌, ℕ, List, [], ◌∷◌, ◌++◌, length, Some, sym, ap, ap₂, subst, ◌∙◌, append_assoc, length-append, arith}
-use Rattle.meson_lex.specs.declared.kinds.Span.{Span}
-use Rattle.meson_syntax.specs.declared.source.Limits.{Limits}
-use Rattle.meson_lex.specs.Items.{Lexeme, joined, AreItems}
-use Rattle.meson_lex.specs.Significant.{Opens, Closes, State, start, after, emitted, closing, significant}
-use Rattle.meson_lex.proofs.Seams.{joined-append}
-use Rattle.meson_syntax.specs.Operators.{opens, closes}
-use Rattle.meson_syntax.specs.Tree.{Nowhere, Listing, File, erase}
-use Rattle.meson_syntax.specs.Grammar.{mark, listing_words, file_words, LevelFile}
-use Rattle.meson_syntax.specs.Reads.{Spells, IsSpannedWithin}
-use Rattle.meson_syntax.specs.Paths.{ListAt, list_at, list_span, inner_words}
-use Rattle.meson_lex.specs.Words.{spoken}
-use Rattle.meson_edit.specs.Standing.{ListStands}
-use Rattle.meson_syntax.specs.ReadsList.{IsListText}
-use Rattle.meson_edit.specs.Exchange.{ListsExchange}
-use Rattle.meson_edit.specs.Holes.{ListFront, list_front, erase_list_front}
-use Rattle.meson_syntax.proofs.parsing.Steps.{some-injective}
-use Rattle.meson_syntax.proofs.places.Spots.{after-append}
-use Rattle.meson_syntax.proofs.places.Pairs.{joined-lengths}
+use Rattle.meson_edit.proofs.Words.{option_map, ◌≡◌, ℕ, List, [], ◌∷◌, ◌++◌, length, Some, sym, ap, ap₂, subst, ◌∙◌, append_assoc, length-append, arith, Lexeme}
+use Rattle.meson_edit.proofs.Words.{joined, AreItems, Opens, Closes, State, start, after, emitted, closing, significant, spoken, Span, joined-append, mark}
+use Rattle.meson_edit.proofs.Words.{listing_words, file_words, LevelFile, opens, closes, ListAt, list_at, list_span, inner_words, Spells, IsSpannedWithin}
+use Rattle.meson_edit.proofs.Words.{IsListText, Nowhere, Listing, File, erase, Limits, IsBracket, open-bracket, close-bracket, listing-inner, same-cut, listed}
+use Rattle.meson_edit.proofs.Words.{behind, exchanged-items, list-after, list-significant, nest, inner-flat, some-injective, ListFits, list-fits}
+use Rattle.meson_edit.proofs.Words.{joined-lengths, after-append, ListsExchange, ListFront, list_front, erase_list_front, ListStands}
 use Rattle.meson_edit.proofs.places.Standing.{lists-stand}
-use Rattle.meson_syntax.proofs.paths.Reaching.{ListFits, list-fits}
 use Rattle.meson_edit.proofs.paths.Erased.{lists-erase}
-use Rattle.meson_syntax.proofs.lists.Brackets.{IsBracket, open-bracket, close-bracket}
-use Rattle.meson_syntax.proofs.lists.Nesting.{nest, inner-flat}
-use Rattle.meson_syntax.proofs.lists.Items.{listed, behind, exchanged-items, list-after, list-significant}
-use Rattle.meson_syntax.proofs.lists.Cuts.{listing-inner, same-cut}
 
 joined-three : (left own right : List Lexeme) → joined (left ++ (own ++ right)) ≡ joined left ++ (joined own ++ joined right)
 joined-three left own right = joined-append left (own ++ right) ∙ ap (λ t. joined left ++ t) (joined-append own right)

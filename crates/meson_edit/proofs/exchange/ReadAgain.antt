@@ -1,29 +1,15 @@
 -- Where a list's bytes are exchanged for another list's text, the new text reads as the tree with the other list: it is UTF-8, and begins with no byte order mark.
-use Rattle.std.proofs.Common.{◌≡◌, ◌≢◌, ℕ, ◌+◌, ◌<◌, List, [], ◌∷◌, ◌++◌, length, Some, refl, sym, ap, subst, ◌∙◌, append_assoc, length-append, arith}
-use Rattle.std.specs.Prelude.{take, drop, get_or, Err}
-use Rattle.std.specs.Str.{IsUtf8}
-use Rattle.std.proofs.lemmas.Str.{IsUtf8-append, IsUtf8-take, IsUtf8-drop, IsCharBoundary-before_ascii, IsCharBoundary-after_ascii}
-use Rattle.std.proofs.Math.Seq.{get_or-append_seam, take-append_seam, drop-append-add}
-use Rattle.meson_lex.specs.declared.kinds.Span.{Span}
+use Rattle.meson_edit.proofs.Words.{◌≡◌, ◌≢◌, ℕ, ◌+◌, ◌<◌, List, [], ◌∷◌, ◌++◌, length, Some, refl, sym, ap, subst, ◌∙◌, append_assoc, length-append, arith}
+use Rattle.meson_edit.proofs.Words.{take, drop, get_or, Err, IsUtf8, get_or-append_seam, take-append_seam, drop-append-add, IsUtf8-append, IsUtf8-take}
+use Rattle.meson_edit.proofs.Words.{IsUtf8-drop, IsCharBoundary-before_ascii, IsCharBoundary-after_ascii, HasItemsThenFault, other, Lexeme, joined, IsItemList}
+use Rattle.meson_edit.proofs.Words.{AreItems, OfKind, with_spans, faulty, Span, joined-append, AreItems-split, ListAt, list_at, mark_bytes, IsSpannedWithin}
+use Rattle.meson_edit.proofs.Words.{File, Bracket, Limits, listed, ListsReadAgain}
 use Rattle.meson_lex.specs.declared.fault.LexFault.TheVariants.{StrayByte}
-use Rattle.meson_lex.specs.Items.{Lexeme, joined, IsItemList, AreItems}
-use Rattle.meson_lex.specs.Faults.{HasItemsThenFault}
-use Rattle.meson_lex.specs.Faults.{other}
-use Rattle.meson_lex.specs.Kinds.{OfKind}
-use Rattle.meson_lex.specs.Lexed.{with_spans}
-use Rattle.meson_lex.specs.Lexed.{whole as all_items, faulty}
+use Rattle.meson_lex.specs.Lexed.{whole as all_items}
 use Rattle.meson_lex.proofs.ScanLexed.{one_lexed}
-use Rattle.meson_lex.proofs.Seams.{joined-append, AreItems-split}
-use Rattle.meson_syntax.specs.declared.operator.Bracket.{Bracket}
 use Rattle.meson_syntax.specs.declared.operator.Bracket.TheVariants as bracket
-use Rattle.meson_syntax.specs.declared.source.Limits.{Limits}
-use Rattle.meson_syntax.specs.Tree.{File}
-use Rattle.meson_syntax.specs.Reads.{mark_bytes, IsSpannedWithin}
-use Rattle.meson_syntax.specs.Paths.{ListAt, list_at}
-use Rattle.meson_edit.specs.Exchange.{ListsReadAgain}
 use Rattle.meson_syntax.proofs.parsing.Answers.{no-fault}
 use Rattle.meson_syntax.proofs.lists.Brackets.{open-bracket, close-bracket}
-use Rattle.meson_syntax.proofs.lists.Items.{listed}
 use Rattle.meson_edit.proofs.exchange.Lists.{joined-list, place, cut-is, lists-exchange}
 
 -- ---- no byte order mark

@@ -1,21 +1,9 @@
 -- A text without a statement spells, and reads as, the tree without it.
-use Rattle.std.specs.Str.{IsUtf8}
-use Rattle.std.proofs.Common.{◌≡◌, ℕ, ◌≤◌, List, [], ◌∷◌, ◌++◌, length, Some, refl, sym, ap, subst, ◌∙◌, append_assoc, inl, inr}
-use Rattle.std.proofs.lemmas.Str.{IsUtf8-append}
-use Rattle.meson_lex.specs.declared.kinds.Span.{Span}
-use Rattle.meson_lex.specs.Items.{Lexeme, joined, IsItemList, AreItems}
-use Rattle.meson_lex.specs.Significant.{new_line}
-use Rattle.meson_lex.specs.Located.{located}
-use Rattle.meson_lex.proofs.OneList.{one_list}
-use Rattle.meson_lex.proofs.Seams.{joined-append}
-use Rattle.meson_syntax.specs.declared.source.Limits.{Limits}
-use Rattle.meson_syntax.specs.Tree.{Statement, File, erase}
-use Rattle.meson_syntax.specs.Grammar.{statement_words, LevelFile, file_depth}
-use Rattle.meson_syntax.specs.Reads.{Fits, Spells, ReadsWithin, IsSpannedWithin}
-use Rattle.meson_syntax.specs.Paths.{of_statement}
-use Rattle.meson_edit.specs.Standing.{statement_span, StandsAmongItems}
-use Rattle.meson_edit.specs.Blocks.{BlockAt, block_at, statement_in, block_without, IsTrimmed, IsLineRest}
-use Rattle.meson_syntax.proofs.parsing.FileErased.{file-words-erased, file-level-erased, file-depth-erased}
+use Rattle.meson_edit.proofs.Words.{◌≡◌, ℕ, ◌≤◌, List, [], ◌∷◌, ◌++◌, length, Some, refl, sym, ap, subst, ◌∙◌, append_assoc, inl, inr, IsUtf8, IsUtf8-append}
+use Rattle.meson_edit.proofs.Words.{Lexeme, joined, IsItemList, AreItems, located, new_line, Span, one_list, joined-append, statement_words, LevelFile}
+use Rattle.meson_edit.proofs.Words.{file_depth, of_statement, Fits, Spells, ReadsWithin, IsSpannedWithin, Statement, File, erase, Limits, file-words-erased}
+use Rattle.meson_edit.proofs.Words.{file-level-erased, file-depth-erased, BlockAt, block_at, statement_in, block_without, IsTrimmed, IsLineRest, statement_span}
+use Rattle.meson_edit.proofs.Words.{StandsAmongItems}
 use Rattle.meson_edit.proofs.places.Inside.{inside-part}
 use Rattle.meson_edit.proofs.places.Standing.{node-stands}
 use Rattle.meson_edit.proofs.exchange.States.{lines-append}

@@ -1,22 +1,10 @@
 -- Where lines begin and end among the items of a text, and what its statements' texts are.
-use Rattle.std.specs.Str.{IsUtf8}
-use Rattle.std.proofs.Common.{◌≡◌, ℕ, ◌≤◌, List, [], ◌∷◌, ◌++◌, length, Some, refl, sym, ap, ap₂, subst, ◌∙◌}
-use Rattle.std.proofs.lemmas.List.{append_cancel_left, append_cancel_right}
-use Rattle.meson_lex.specs.declared.kinds.Kind.{Kind}
+use Rattle.meson_edit.proofs.Words.{◌≡◌, ℕ, ◌≤◌, List, [], ◌∷◌, ◌++◌, length, Some, refl, sym, ap, ap₂, subst, ◌∙◌, IsUtf8, append_cancel_left}
+use Rattle.meson_edit.proofs.Words.{append_cancel_right, Lexeme, joined, IsItemList, Word, kept, Role, Gap, Ends, Opens, Closes, Other, role, State, step}
+use Rattle.meson_edit.proofs.Words.{emit_by, start, after, emitted, spoken_by, spoken, IsTight, Kind, Span, one_list, AreItems-split, statement_words}
+use Rattle.meson_edit.proofs.Words.{file_words, file_depth, Fits, Spells, ReadsWithin, IsSpannedWithin, Nowhere, Plain, Statement, File, Limits, BlockAt}
+use Rattle.meson_edit.proofs.Words.{block_at, statement_in, block_without, IsStatementText, in_line, LineStands, HasNoLineEnd, statement_span}
 use Rattle.meson_lex.specs.declared.kinds.Kind.TheVariants as k
-use Rattle.meson_lex.specs.declared.kinds.Span.{Span}
-use Rattle.meson_lex.specs.Items.{Lexeme, joined, IsItemList}
-use Rattle.meson_lex.specs.Significant.{Word, kept, Role, Gap, Ends, Opens, Closes, Other, role, State, step, emit_by, start, after, emitted}
-use Rattle.meson_lex.proofs.OneList.{one_list}
-use Rattle.meson_lex.proofs.Seams.{AreItems-split}
-use Rattle.meson_syntax.specs.declared.source.Limits.{Limits}
-use Rattle.meson_syntax.specs.Tree.{Nowhere, Plain, Statement, File}
-use Rattle.meson_syntax.specs.Grammar.{statement_words, file_words, file_depth}
-use Rattle.meson_syntax.specs.Reads.{Fits, Spells, ReadsWithin, IsSpannedWithin}
-use Rattle.meson_lex.specs.Words.{spoken_by, spoken, IsTight}
-use Rattle.meson_edit.specs.Standing.{statement_span}
-use Rattle.meson_edit.specs.Blocks.{BlockAt, block_at, statement_in, block_without, IsStatementText}
-use Rattle.meson_edit.specs.Lines.{in_line, LineStands, HasNoLineEnd}
 use Rattle.meson_edit.proofs.exchange.States.{Lines, lines-append}
 use Rattle.meson_edit.proofs.exchange.StatementLines.{statement-flat, file-lines}
 use Rattle.meson_edit.proofs.exchange.Cuts.{utf8-cut}

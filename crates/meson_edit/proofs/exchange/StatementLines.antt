@@ -1,14 +1,11 @@
 -- The words of a statement close what they open, and those of a block are whole lines.
-use Rattle.std.proofs.Common.{◌≡◌, List, [], ◌∷◌, ◌++◌, refl, subst, append_assoc}
-use Rattle.meson_lex.specs.declared.kinds.Kind.{Kind}
+use Rattle.meson_edit.proofs.Words.{◌≡◌, List, [], ◌∷◌, ◌++◌, refl, subst, append_assoc, Word, new_line, Other, role, Kind, mark, more_names_words, names_words}
+use Rattle.meson_edit.proofs.Words.{expression_words, statement_words, branches_words, otherwise_words, statements_words, block_words, file_words}
+use Rattle.meson_edit.proofs.Words.{assignment_kind, Name, Statement, evaluate, assign, selection, iteration, breaks, continues, Branches, no_branches, branch}
+use Rattle.meson_edit.proofs.Words.{Otherwise, nothing_else, otherwise, Statements, no_statements, statement, Block, block, File, file, Assignment, Flat}
+use Rattle.meson_edit.proofs.Words.{flat-append, flat-word, expression-flat}
 use Rattle.meson_lex.specs.declared.kinds.Kind.TheVariants as k
-use Rattle.meson_lex.specs.Significant.{Word, new_line, Other, role}
-use Rattle.meson_syntax.specs.declared.operator.Assignment.{Assignment}
 use Rattle.meson_syntax.specs.declared.operator.Assignment.TheVariants as assigns
-use Rattle.meson_syntax.specs.Operators.{assignment_kind}
-use Rattle.meson_syntax.specs.Tree.{Name, Statement, evaluate, assign, selection, iteration, breaks, continues, Branches, no_branches, branch, Otherwise, nothing_else, otherwise, Statements, no_statements, statement, Block, block, File, file}
-use Rattle.meson_syntax.specs.Grammar.{mark, more_names_words, names_words, expression_words, statement_words, branches_words, otherwise_words, statements_words, block_words, file_words}
-use Rattle.meson_syntax.proofs.lists.Nesting.{Flat, flat-append, flat-word, expression-flat}
 use Rattle.meson_edit.proofs.exchange.States.{Lines, no-lines, lines-append, line-more, line-flat}
 
 assignment-other : (a : Assignment) → role (assignment_kind a) ≡ Other

@@ -1,9 +1,7 @@
 -- The state after items is read off the words that they give; behind whole lines it is the one at the start.
-use Rattle.std.proofs.Common.{◌≡◌, ℕ, zero, suc, pred, Bool, true, false, List, [], ◌∷◌, ◌++◌, Some, None, refl, sym, ap, ap₂, subst, ◌∙◌, append_assoc, inl, inr, ◌⊎◌}
-use Rattle.std.proofs.lemmas.List.{append-nil}
-use Rattle.meson_lex.specs.Items.{Lexeme}
-use Rattle.meson_lex.specs.Significant.{Word, kept, new_line, Role, Gap, Ends, Opens, Closes, Other, role, State, start, fresh_after, step_by, step, ends_line, only_if, emit_by, emit, after, emitted}
-use Rattle.meson_syntax.proofs.lists.Nesting.{nest, Flat, flat-append}
+use Rattle.meson_edit.proofs.Words.{◌≡◌, ℕ, zero, suc, pred, Bool, true, false, List, [], ◌∷◌, ◌++◌, Some, None, refl, sym, ap, ap₂, subst, ◌∙◌, append_assoc}
+use Rattle.meson_edit.proofs.Words.{inl, inr, ◌⊎◌, append-nil, Lexeme, Word, kept, new_line, Role, Gap, Ends, Opens, Closes, Other, role, State, start}
+use Rattle.meson_edit.proofs.Words.{fresh_after, step_by, step, ends_line, only_if, emit_by, emit, after, emitted, nest, Flat, flat-append}
 
 -- ---- from words to states
 

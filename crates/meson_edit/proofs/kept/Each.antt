@@ -1,12 +1,9 @@
 -- A path names the same in a tree and in the mapped tree.
-use Rattle.std.specs.Prelude.{option_map, option_and_then}
-use Rattle.std.proofs.Common.{◌≡◌, ℕ, List, [], ◌∷◌, ◌++◌, Option, Some, refl, ap, ap₂, subst, ◌∙◌}
-use Rattle.meson_lex.specs.Significant.{Word}
-use Rattle.meson_syntax.specs.Tree.{Expression, identifier, boolean, integer, string, paren, array, dictionary, call, unary, row, postfix, conditional, Listing, Block, File, file}
-use Rattle.meson_syntax.specs.Paths.{Sort, of_expression, of_statement, of_block, Node, Hole, around, children, nth_hole, reach, block_of, with_block, ListIn, list_in, list_within, list_of_node, list_at}
-use Rattle.meson_edit.specs.Moves.{each_expression, each_listing, each_block, each_file}
-use Rattle.meson_edit.specs.MappedPaths.{each_node, MapsHole, maps, MapsList, InBoth, neither, both}
-use Rattle.meson_syntax.proofs.parsing.Steps.{some-injective}
+use Rattle.meson_edit.proofs.Words.{option_map, option_and_then, ◌≡◌, ℕ, List, [], ◌∷◌, ◌++◌, Option, Some, refl, ap, ap₂, subst, ◌∙◌, Word, Sort}
+use Rattle.meson_edit.proofs.Words.{of_expression, of_statement, of_block, Node, Hole, around, children, nth_hole, reach, block_of, with_block, ListIn, list_in}
+use Rattle.meson_edit.proofs.Words.{list_within, list_of_node, list_at, Expression, identifier, boolean, integer, string, paren, array, dictionary, call, unary}
+use Rattle.meson_edit.proofs.Words.{row, postfix, conditional, Listing, Block, File, file, some-injective, each_node, MapsHole, maps, MapsList, InBoth, neither}
+use Rattle.meson_edit.proofs.Words.{both, each_expression, each_listing, each_block, each_file}
 use Rattle.meson_edit.proofs.kept.EachChildren.{maps-around, nth-maps, children-map}
 
 -- what is found in both, and what is made of it

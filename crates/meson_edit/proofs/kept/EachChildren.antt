@@ -1,17 +1,19 @@
 -- The children of a mapped node are those of the node, each mapped.
-use Rattle.std.proofs.Common.{◌≡◌, ℕ, zero, suc, Bool, List, [], ◌∷◌, ◌++◌, refl, ap, ap₂, ◌∙◌}
-use Rattle.meson_lex.specs.declared.kinds.Kind.{Kind}
+use Rattle.meson_edit.proofs.Words.{◌≡◌, ℕ, zero, suc, Bool, List, [], ◌∷◌, ◌++◌, refl, ap, ap₂, ◌∙◌, Word, new_line, Kind, mark, operator_words, opens, closes}
+use Rattle.meson_edit.proofs.Words.{Sort, of_expression, of_statement, of_block, Node, Hole, around, all_around, nth, argument_children, arguments_children}
+use Rattle.meson_edit.proofs.Words.{listing_children, operands_children, tail_children, tails_children, expression_children, branches_children}
+use Rattle.meson_edit.proofs.Words.{otherwise_children, statement_children, statements_children, block_children, children, Expression, identifier, boolean}
+use Rattle.meson_edit.proofs.Words.{integer, string, paren, array, dictionary, call, unary, row, postfix, conditional, Operands, no_operands, operand, Tail}
+use Rattle.meson_edit.proofs.Words.{method, index, Tails, no_tails, tail, Listing, listing, Argument, plain, named, pair, Arguments, no_arguments, argument}
+use Rattle.meson_edit.proofs.Words.{Statement, evaluate, assign, selection, iteration, breaks, continues, Branches, no_branches, branch, Otherwise}
+use Rattle.meson_edit.proofs.Words.{nothing_else, otherwise, Statements, no_statements, statement, Block, block, Bracket, each_node, MapsHole, maps, InBoth}
+use Rattle.meson_edit.proofs.Words.{neither, both, each_name, each_expression, each_operands, each_tail, each_tails, each_listing, each_argument}
+use Rattle.meson_edit.proofs.Words.{each_arguments, each_statement, each_branches, each_otherwise, each_statements, each_block}
 use Rattle.meson_lex.specs.declared.kinds.Kind.TheVariants as k
-use Rattle.meson_lex.specs.Significant.{Word, new_line}
-use Rattle.meson_syntax.specs.declared.operator.Bracket.{Bracket}
 use Rattle.meson_syntax.specs.declared.operator.Bracket.TheVariants as bracket
-use Rattle.meson_syntax.specs.Operators.{opens, closes}
-use Rattle.meson_syntax.specs.Tree.{Expression, identifier, boolean, integer, string, paren, array, dictionary, call, unary, row, postfix, conditional, Operands, no_operands, operand, Tail, method, index, Tails, no_tails, tail, Listing, listing, Argument, plain, named, pair, Arguments, no_arguments, argument, Statement, evaluate, assign, selection, iteration, breaks, continues, Branches, no_branches, branch, Otherwise, nothing_else, otherwise, Statements, no_statements, statement, Block, block}
-use Rattle.meson_syntax.specs.Grammar.{mark, operator_words}
-use Rattle.meson_syntax.specs.Paths.{Sort, of_expression, of_statement, of_block, Node, Hole, around, all_around, nth, argument_children, arguments_children, listing_children, operands_children, tail_children, tails_children, expression_children, branches_children, otherwise_children, statement_children, statements_children, block_children, children}
-use Rattle.meson_edit.specs.Moves.{each_name, each_expression, each_operands, each_tail, each_tails, each_listing, each_argument, each_arguments, each_statement, each_branches, each_otherwise, each_statements, each_block}
-use Rattle.meson_edit.specs.MappedPaths.{each_node, MapsHole, maps, InBoth, neither, both}
-use Rattle.meson_edit.proofs.kept.EachErased.{comma-each, names-words-each, expression-words-each, operands-words-each, tail-words-each, tails-words-each, argument-words-each, arguments-words-each, statement-words-each, branches-words-each, otherwise-words-each, statements-words-each, block-words-each}
+use Rattle.meson_edit.proofs.kept.EachErased.{comma-each, names-words-each, expression-words-each, operands-words-each, tail-words-each, tails-words-each}
+use Rattle.meson_edit.proofs.kept.EachErased.{argument-words-each, arguments-words-each, statement-words-each, branches-words-each, otherwise-words-each}
+use Rattle.meson_edit.proofs.kept.EachErased.{statements-words-each, block-words-each}
 
 module _ {S T : Type 0} (h : S → T) where
   -- holes one after another, and each mapped

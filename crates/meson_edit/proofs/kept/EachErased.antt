@@ -1,12 +1,17 @@
 -- A tree that is mapped has the same words as before: without what its nodes carry it is the same tree.
-use Rattle.std.specs.Prelude.{map}
-use Rattle.std.proofs.Common.{◌≡◌, Bool, List, [], ◌∷◌, refl, sym, ap, ap₂, ◌∙◌}
-use Rattle.meson_lex.specs.declared.kinds.Kind.{Kind}
-use Rattle.meson_syntax.specs.Tree.{Name, Expression, identifier, boolean, integer, string, paren, array, dictionary, call, unary, row, postfix, conditional, Operands, no_operands, operand, Tail, method, index, Tails, no_tails, tail, Listing, listing, Argument, plain, named, pair, Arguments, no_arguments, argument, Statement, evaluate, assign, selection, iteration, breaks, continues, Branches, no_branches, branch, Otherwise, nothing_else, otherwise, Statements, no_statements, statement, Block, block, File, file, bare_name, erase, erase_name, erase_names, erase_expression, erase_operands, erase_tail, erase_tails, erase_listing, erase_argument, erase_arguments, erase_statement, erase_branches, erase_otherwise, erase_statements, erase_block}
-use Rattle.meson_syntax.specs.Grammar.{names_words, comma_words, expression_words, operands_words, tails_words, tail_words, argument_words, arguments_words, statement_words, branches_words, otherwise_words, statements_words, block_words}
-use Rattle.meson_edit.specs.Moves.{each_name, each_expression, each_operands, each_tail, each_tails, each_listing, each_argument, each_arguments, each_statement, each_branches, each_otherwise, each_statements, each_block, each_file}
-use Rattle.meson_syntax.proofs.parsing.Erased.{comma-erased, expression-words-erased, operands-words-erased, tail-words-erased, tails-words-erased, argument-words-erased, arguments-words-erased}
-use Rattle.meson_syntax.proofs.parsing.FileErased.{statement-words-erased, branches-words-erased, otherwise-words-erased, statements-words-erased, block-words-erased, names-words-erased}
+use Rattle.meson_edit.proofs.Words.{map, ◌≡◌, Bool, List, [], ◌∷◌, refl, sym, ap, ap₂, ◌∙◌, Kind, names_words, comma_words, expression_words, operands_words}
+use Rattle.meson_edit.proofs.Words.{tails_words, tail_words, argument_words, arguments_words, statement_words, branches_words, otherwise_words}
+use Rattle.meson_edit.proofs.Words.{statements_words, block_words, Name, Expression, identifier, boolean, integer, string, paren, array, dictionary, call}
+use Rattle.meson_edit.proofs.Words.{unary, row, postfix, conditional, Operands, no_operands, operand, Tail, method, index, Tails, no_tails, tail, Listing}
+use Rattle.meson_edit.proofs.Words.{listing, Argument, plain, named, pair, Arguments, no_arguments, argument, Statement, evaluate, assign, selection, iteration}
+use Rattle.meson_edit.proofs.Words.{breaks, continues, Branches, no_branches, branch, Otherwise, nothing_else, otherwise, Statements, no_statements, statement}
+use Rattle.meson_edit.proofs.Words.{Block, block, File, file, bare_name, erase, erase_name, erase_names, erase_expression, erase_operands, erase_tail}
+use Rattle.meson_edit.proofs.Words.{erase_tails, erase_listing, erase_argument, erase_arguments, erase_statement, erase_branches, erase_otherwise}
+use Rattle.meson_edit.proofs.Words.{erase_statements, erase_block, comma-erased, expression-words-erased, operands-words-erased, tail-words-erased}
+use Rattle.meson_edit.proofs.Words.{tails-words-erased, argument-words-erased, arguments-words-erased, statement-words-erased, branches-words-erased}
+use Rattle.meson_edit.proofs.Words.{otherwise-words-erased, statements-words-erased, block-words-erased, names-words-erased, each_name, each_expression}
+use Rattle.meson_edit.proofs.Words.{each_operands, each_tail, each_tails, each_listing, each_argument, each_arguments, each_statement, each_branches}
+use Rattle.meson_edit.proofs.Words.{each_otherwise, each_statements, each_block, each_file}
 
 module _ {S T : Type 0} (h : S → T) where
   names-each : (xs : List (Name S)) → erase_names (map (each_name h) xs) ≡ erase_names xs

@@ -1,12 +1,13 @@
 -- A tree without its spans is the tree with each of them mapped to nothing.
-use Rattle.std.specs.Prelude.{map}
-use Rattle.std.proofs.Common.{◌≡◌, ℕ, List, [], ◌∷◌, refl, sym, ap, ap₂, subst, ◌∙◌}
-use Rattle.meson_lex.specs.declared.kinds.Span.{Span}
-use Rattle.meson_syntax.specs.Tree.{Name, Nowhere, Expression, identifier, boolean, integer, string, paren, array, dictionary, call, unary, row, postfix, conditional, Operands, no_operands, operand, Tail, method, index, Tails, no_tails, tail, Listing, listing, Argument, plain, named, pair, Arguments, no_arguments, argument, Statement, evaluate, assign, selection, iteration, breaks, continues, Branches, no_branches, branch, Otherwise, nothing_else, otherwise, Statements, no_statements, statement, Block, block, File, file, bare_name, erase, erase_name, erase_names, erase_expression, erase_operands, erase_tail, erase_tails, erase_listing, erase_argument, erase_arguments, erase_statement, erase_branches, erase_otherwise, erase_statements, erase_block}
-use Rattle.meson_syntax.specs.Paths.{list_at}
-use Rattle.meson_edit.specs.Moves.{each_name, each_expression, each_operands, each_tail, each_tails, each_listing, each_argument, each_arguments, each_statement, each_branches, each_otherwise, each_statements, each_block, each_file}
-use Rattle.meson_edit.specs.KeptLists.{ListsPutErase}
-use Rattle.meson_edit.specs.MappedPaths.{MapsList, InBoth}
+use Rattle.meson_edit.proofs.Words.{map, ◌≡◌, ℕ, List, [], ◌∷◌, refl, sym, ap, ap₂, subst, ◌∙◌, Span, list_at, Name, Nowhere, Expression, identifier, boolean}
+use Rattle.meson_edit.proofs.Words.{integer, string, paren, array, dictionary, call, unary, row, postfix, conditional, Operands, no_operands, operand, Tail}
+use Rattle.meson_edit.proofs.Words.{method, index, Tails, no_tails, tail, Listing, listing, Argument, plain, named, pair, Arguments, no_arguments, argument}
+use Rattle.meson_edit.proofs.Words.{Statement, evaluate, assign, selection, iteration, breaks, continues, Branches, no_branches, branch, Otherwise}
+use Rattle.meson_edit.proofs.Words.{nothing_else, otherwise, Statements, no_statements, statement, Block, block, File, file, bare_name, erase, erase_name}
+use Rattle.meson_edit.proofs.Words.{erase_names, erase_expression, erase_operands, erase_tail, erase_tails, erase_listing, erase_argument, erase_arguments}
+use Rattle.meson_edit.proofs.Words.{erase_statement, erase_branches, erase_otherwise, erase_statements, erase_block, ListsPutErase, MapsList, InBoth, each_name}
+use Rattle.meson_edit.proofs.Words.{each_expression, each_operands, each_tail, each_tails, each_listing, each_argument, each_arguments, each_statement}
+use Rattle.meson_edit.proofs.Words.{each_branches, each_otherwise, each_statements, each_block, each_file}
 use Rattle.meson_edit.proofs.kept.EachErased.{file-each}
 use Rattle.meson_edit.proofs.kept.Each.{in-both, lists-map}
 

@@ -1,33 +1,14 @@
 -- The elements of a list stay where they are while the borders from its end on move.
-use Rattle.std.proofs.Common.{◌≡◌, ℕ, ◌+◌, ◌≤◌, List, [], ◌∷◌, ◌++◌, length, Some, refl, sym, ap, subst, ◌∙◌, append_assoc, length-append, arith}
-use Rattle.std.proofs.lemmas.List.{map-append}
-use Rattle.meson_lex.specs.declared.kinds.Span.{Span}
-use Rattle.meson_lex.specs.Items.{Lexeme, joined, AreItems}
-use Rattle.meson_lex.specs.Significant.{role, start, after, emitted, closing}
-use Rattle.meson_lex.specs.Located.{Token, token_at, spots, end_after, located}
-use Rattle.meson_lex.specs.Words.{spoken}
-use Rattle.meson_lex.proofs.TokenWords.{words-spots}
-use Rattle.meson_syntax.specs.declared.operator.Bracket.{Bracket}
-use Rattle.meson_syntax.specs.Operators.{opens, closes}
-use Rattle.meson_syntax.specs.Tree.{Listing, listing}
-use Rattle.meson_syntax.specs.Spelling.{Covers, SpellsListing}
-use Rattle.meson_syntax.specs.Paths.{list_span}
-use Rattle.meson_edit.specs.Moves.{each_listing, token_by}
-use Rattle.meson_syntax.specs.Moving.{span_by, moved}
-use Rattle.meson_edit.specs.ExchangedTokens.{list_tokens}
-use Rattle.meson_edit.specs.PutLists.{with_span, ElementsStay}
-use Rattle.meson_syntax.proofs.parsing.Steps.{end_of-append}
-use Rattle.meson_syntax.proofs.places.Pairs.{joined-lengths}
-use Rattle.meson_syntax.proofs.lists.Brackets.{open-bracket, close-bracket}
-use Rattle.meson_syntax.proofs.lists.Nesting.{nest, inner-flat}
-use Rattle.meson_syntax.proofs.lists.Items.{listed}
-use Rattle.meson_syntax.proofs.lists.Cuts.{same-cut}
+use Rattle.meson_edit.proofs.Words.{◌≡◌, ℕ, ◌+◌, ◌≤◌, List, [], ◌∷◌, ◌++◌, length, Some, refl, sym, ap, subst, ◌∙◌, append_assoc, length-append, arith}
+use Rattle.meson_edit.proofs.Words.{map-append, Lexeme, joined, AreItems, Token, token_at, spots, end_after, located, role, start, after, emitted, closing}
+use Rattle.meson_edit.proofs.Words.{spoken, Span, words-spots, span_by, moved, opens, closes, list_span, Covers, SpellsListing, Listing, listing, Bracket}
+use Rattle.meson_edit.proofs.Words.{open-bracket, close-bracket, same-cut, listed, nest, inner-flat, one-spelled-list, end_of-append, joined-lengths}
+use Rattle.meson_edit.proofs.Words.{list_tokens, each_listing, token_by, with_span, ElementsStay}
 use Rattle.meson_edit.proofs.exchange.Lists.{place}
 use Rattle.meson_edit.proofs.kept.Spots.{spots-append}
 use Rattle.meson_edit.proofs.kept.Tokens.{moved-still, still-spots, own-moved, last-spots, list-located, list-behind, close-long}
 use Rattle.meson_edit.proofs.kept.Kept.{three-ways, mapped-span}
 use Rattle.meson_edit.proofs.kept.Moved.{lists-move}
-use Rattle.meson_syntax.proofs.parsing.OneSpanned.{one-spelled-list}
 use Rattle.meson_edit.proofs.kept.Swap.{lists-swap}
 
 -- ---- another closing bracket

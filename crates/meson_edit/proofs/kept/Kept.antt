@@ -1,31 +1,11 @@
 -- The tree of a text in which a list is exchanged for another one is the old tree, moved, with the other list in that place.
-use Rattle.std.proofs.Common.{◌≡◌, ℕ, ◌+◌, ◌≤◌, List, [], ◌∷◌, ◌++◌, length, Some, refl, sym, ap, ap₂, subst, ◌∙◌, length-append, arith}
-use Rattle.std.proofs.lemmas.List.{map-append}
-use Rattle.meson_lex.specs.declared.kinds.Span.{Span}
-use Rattle.meson_lex.specs.Items.{Lexeme, joined, AreItems, IsItemList}
-use Rattle.meson_lex.specs.Significant.{start, after, emitted, closing}
-use Rattle.meson_lex.specs.Located.{Token, word_of, words, spots, located}
-use Rattle.meson_lex.proofs.OneList.{one_list}
-use Rattle.meson_lex.proofs.TokenWords.{words-spots}
-use Rattle.meson_syntax.specs.declared.operator.Bracket.{Bracket}
-use Rattle.meson_syntax.specs.Operators.{opens, closes}
-use Rattle.meson_syntax.specs.Tree.{Listing, listing, File, erase, erase_listing}
-use Rattle.meson_syntax.specs.Grammar.{file_depth}
-use Rattle.meson_syntax.specs.Spelling.{SpellsListing, SpellsFile}
-use Rattle.meson_syntax.specs.Paths.{ListAt, list_at, list_span, inner_words}
-use Rattle.meson_edit.specs.Standing.{ListStands}
-use Rattle.meson_edit.specs.Moves.{each_file, each_listing, token_by, tokens_by}
-use Rattle.meson_syntax.specs.Moving.{span_by, moved}
-use Rattle.meson_syntax.specs.ReadsList.{IsSpannedListWithin, list_items}
-use Rattle.meson_edit.specs.ExchangedTokens.{list_tokens, TokensExchanged}
-use Rattle.meson_edit.specs.KeptLists.{ListsKept}
-use Rattle.meson_syntax.proofs.places.Covers.{listing-covers}
-use Rattle.meson_syntax.proofs.places.Pairs.{joined-lengths}
-use Rattle.meson_syntax.proofs.lists.Complete.{whole-span}
-use Rattle.meson_syntax.proofs.lists.Cuts.{same-cut}
+use Rattle.meson_edit.proofs.Words.{◌≡◌, ℕ, ◌+◌, ◌≤◌, List, [], ◌∷◌, ◌++◌, length, Some, refl, sym, ap, ap₂, subst, ◌∙◌, length-append, arith, map-append}
+use Rattle.meson_edit.proofs.Words.{Lexeme, joined, AreItems, IsItemList, Token, word_of, words, spots, located, start, after, emitted, closing, Span, one_list}
+use Rattle.meson_edit.proofs.Words.{words-spots, file_depth, span_by, moved, opens, closes, ListAt, list_at, list_span, inner_words, IsSpannedListWithin}
+use Rattle.meson_edit.proofs.Words.{list_items, SpellsListing, SpellsFile, Listing, listing, File, erase, erase_listing, Bracket, open-bracket, close-bracket}
+use Rattle.meson_edit.proofs.Words.{whole-span, same-cut, listed, exchanged-items, listing-covers, joined-lengths, list_tokens, TokensExchanged, ListsKept}
+use Rattle.meson_edit.proofs.Words.{each_file, each_listing, token_by, tokens_by, ListStands}
 use Rattle.meson_edit.proofs.exchange.Lists.{place, cut-is, joined-list}
-use Rattle.meson_syntax.proofs.lists.Items.{listed, exchanged-items}
-use Rattle.meson_syntax.proofs.lists.Brackets.{open-bracket, close-bracket}
 use Rattle.meson_edit.proofs.kept.Tokens.{moved-still, moved-on, open-long, tokens-move}
 use Rattle.meson_edit.proofs.kept.Moved.{files-move, lists-move}
 use Rattle.meson_edit.proofs.kept.Swap.{lists-swap}

@@ -1,37 +1,19 @@
 -- A list of a tree is the list that its own bytes are, moved to its place.
-use Rattle.std.specs.Str.{IsUtf8}
-use Rattle.std.proofs.Common.{◌≡◌, ℕ, ◌+◌, ◌-◌, ◌≤◌, List, [], ◌∷◌, ◌++◌, length, refl, sym, ap, ap₂, subst, ◌∙◌, length-append, arith}
-use Rattle.std.proofs.lemmas.List.{append_cancel_left, append_cancel_right}
-use Rattle.meson_lex.specs.declared.kinds.Span.{Span}
-use Rattle.meson_lex.specs.Items.{Lexeme, joined, AreItems, IsItemList}
-use Rattle.meson_lex.specs.Significant.{Word, start, after, emitted, closing}
-use Rattle.meson_lex.specs.Located.{Token, spots, located}
-use Rattle.meson_lex.proofs.Seams.{AreItems-split}
-use Rattle.meson_lex.proofs.TokenWords.{words-spots}
-use Rattle.meson_syntax.specs.Tree.{erase_listing}
-use Rattle.meson_syntax.specs.Grammar.{listing_depth}
-use Rattle.meson_syntax.specs.Spelling.{SpellsListing}
-use Rattle.meson_syntax.specs.Paths.{ListAt, list_span, inner_words}
-use Rattle.meson_edit.specs.Standing.{ListStands}
-use Rattle.meson_syntax.specs.ReadsList.{IsListText, ReadsListWithin}
-use Rattle.meson_edit.specs.Moves.{each_listing, tokens_by}
-use Rattle.meson_syntax.specs.Moving.{span_by}
-use Rattle.meson_edit.specs.ExchangedTokens.{list_tokens}
-use Rattle.meson_edit.specs.KeptLists.{ListsAlone}
-use Rattle.meson_syntax.proofs.parsing.Erased.{listing-level-erased, listing-depth-erased}
+use Rattle.meson_edit.proofs.Words.{◌≡◌, ℕ, ◌+◌, ◌-◌, ◌≤◌, List, [], ◌∷◌, ◌++◌, length, refl, sym, ap, ap₂, subst, ◌∙◌, length-append, arith, IsUtf8}
+use Rattle.meson_edit.proofs.Words.{append_cancel_left, append_cancel_right, Lexeme, joined, AreItems, IsItemList, Token, spots, located, Word, start, after}
+use Rattle.meson_edit.proofs.Words.{emitted, closing, Span, AreItems-split, words-spots, listing_depth, span_by, ListAt, list_span, inner_words, IsListText}
+use Rattle.meson_edit.proofs.Words.{ReadsListWithin, SpellsListing, erase_listing, listed, listing-level-erased, listing-depth-erased, one-spelled-list}
+use Rattle.meson_edit.proofs.Words.{listing_in, list_tokens, ListsAlone, each_listing, tokens_by, ListStands}
 use Rattle.meson_syntax.proofs.parsing.Levels.{listing-level}
 use Rattle.meson_edit.proofs.exchange.Cuts.{utf8-cut}
 use Rattle.meson_edit.proofs.exchange.Ends.{end-changed, end-stands}
-use Rattle.meson_syntax.proofs.lists.Items.{listed}
 use Rattle.meson_edit.proofs.exchange.Lists.{place, cut-is, joined-list, own-first}
 use Rattle.meson_syntax.proofs.lists.Answers.{inner-erased}
 use Rattle.meson_edit.proofs.kept.EachErased.{listing-each}
 use Rattle.meson_edit.proofs.kept.Kept.{three-ways}
 use Rattle.meson_edit.proofs.kept.Moved.{lists-move}
-use Rattle.meson_syntax.proofs.parsing.OneSpanned.{one-spelled-list}
 use Rattle.meson_edit.proofs.kept.Swap.{lists-swap}
 use Rattle.meson_edit.proofs.kept.Tokens.{tokens-move}
-use Rattle.meson_syntax.proofs.parsing.WithinExpressions.{listing_in}
 
 -- tokens moved, and moved back
 forth-and-back : (k : ℕ) (ts : List Token) → tokens_by (λ n. n - k) (tokens_by (λ n. n + k) ts) ≡ ts

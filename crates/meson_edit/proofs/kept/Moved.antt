@@ -1,19 +1,17 @@
 -- Moved tokens spell the moved tree.
-use Rattle.std.specs.Prelude.{map}
-use Rattle.std.proofs.Common.{◌≡◌, ℕ, ◌+◌, ◌<◌, ◌≤◌, Bool, true, false, List, [], ◌∷◌, ◌++◌, refl, ap, ◌∙◌, subst}
-use Rattle.meson_lex.specs.declared.kinds.Kind.{Kind}
+use Rattle.meson_edit.proofs.Words.{map, ◌≡◌, ℕ, ◌+◌, ◌<◌, ◌≤◌, Bool, true, false, List, [], ◌∷◌, ◌++◌, refl, ap, ◌∙◌, subst, Token, Kind, Span, looseness}
+use Rattle.meson_edit.proofs.Words.{row_level, HasOperand, HasTail, HasBranch, Flagged, span_by, operator_kind, operator_rest, unary_kind, string_kind}
+use Rattle.meson_edit.proofs.Words.{boolean_kind, assignment_kind, opens, closes, end_of, Covers, CoversBlock, One, IsOneToken, Then, Deeper, NewLine, Nothing}
+use Rattle.meson_edit.proofs.Words.{Each, SaysName, SaysMoreNames, SaysNames, Comma, SpellsExpression, SpellsOperands, SpellsTail, SpellsTails, SpellsListing}
+use Rattle.meson_edit.proofs.Words.{SpellsArguments, SpellsArgument, SpellsStatement, SpellsBranches, SpellsOtherwise, SpellsStatements, SpellsBlock, Name}
+use Rattle.meson_edit.proofs.Words.{Expression, identifier, boolean, integer, string, paren, array, dictionary, call, unary, row, postfix, conditional}
+use Rattle.meson_edit.proofs.Words.{Operands, no_operands, operand, Tail, method, index, Tails, no_tails, tail, Listing, listing, Argument, plain, named, pair}
+use Rattle.meson_edit.proofs.Words.{is_named, Arguments, no_arguments, argument, Statement, evaluate, assign, selection, iteration, breaks, continues, Branches}
+use Rattle.meson_edit.proofs.Words.{no_branches, branch, Otherwise, nothing_else, otherwise, Statements, no_statements, statement, Block, block, file, Bracket}
+use Rattle.meson_edit.proofs.Words.{FilesMove, ListsMove, each_name, each_expression, each_operands, each_tail, each_tails, each_listing, each_argument}
+use Rattle.meson_edit.proofs.Words.{each_arguments, each_statement, each_branches, each_otherwise, each_statements, each_block, token_by, tokens_by}
 use Rattle.meson_lex.specs.declared.kinds.Kind.TheVariants as k
-use Rattle.meson_lex.specs.declared.kinds.Span.{Span}
-use Rattle.meson_lex.specs.Located.{Token}
-use Rattle.meson_syntax.specs.declared.operator.Bracket.{Bracket}
 use Rattle.meson_syntax.specs.declared.operator.Bracket.TheVariants as bracket
-use Rattle.meson_syntax.specs.Operators.{operator_kind, operator_rest, unary_kind, string_kind, boolean_kind, assignment_kind, opens, closes}
-use Rattle.meson_syntax.specs.Tree.{Name, Expression, identifier, boolean, integer, string, paren, array, dictionary, call, unary, row, postfix, conditional, Operands, no_operands, operand, Tail, method, index, Tails, no_tails, tail, Listing, listing, Argument, plain, named, pair, is_named, Arguments, no_arguments, argument, Statement, evaluate, assign, selection, iteration, breaks, continues, Branches, no_branches, branch, Otherwise, nothing_else, otherwise, Statements, no_statements, statement, Block, block, file}
-use Rattle.meson_syntax.specs.Grammar.{looseness, row_level, HasOperand, HasTail, HasBranch, Flagged}
-use Rattle.meson_syntax.specs.Spelling.{end_of, Covers, CoversBlock, One, IsOneToken, Then, Deeper, NewLine, Nothing, Each, SaysName, SaysMoreNames, SaysNames, Comma, SpellsExpression, SpellsOperands, SpellsTail, SpellsTails, SpellsListing, SpellsArguments, SpellsArgument, SpellsStatement, SpellsBranches, SpellsOtherwise, SpellsStatements, SpellsBlock}
-use Rattle.meson_edit.specs.Moves.{each_name, each_expression, each_operands, each_tail, each_tails, each_listing, each_argument, each_arguments, each_statement, each_branches, each_otherwise, each_statements, each_block, token_by, tokens_by}
-use Rattle.meson_syntax.specs.Moving.{span_by}
-use Rattle.meson_edit.specs.MovedTrees.{FilesMove, ListsMove}
 
 module _ (g : ℕ → ℕ) where
   -- what P takes is taken by Q once it is moved

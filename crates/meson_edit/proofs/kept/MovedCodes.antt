@@ -1,27 +1,23 @@
 -- The value of a tree with its borders moved is the tree's value with its borders moved.
-use Rattle.std.proofs.Common.{◌≡◌, ℕ, Bool, List, [], ◌∷◌, map, Some, None, refl, sym, ap, ap₂, ◌∙◌}
-use Rattle.meson_lex.specs.declared.kinds.Span.{Span}
-use Rattle.meson_syntax.specs.declared.operator.Operator.{Operator}
-use Rattle.meson_syntax.specs.declared.tree.Arg.{Arg}
-use Rattle.meson_syntax.specs.declared.tree.Expr.{Expr}
-use Rattle.meson_syntax.specs.declared.tree.Stmt.{Stmt}
-use Rattle.meson_syntax.specs.declared.tree.Arg.TheOpen.{Arg-F, Expr-F, Tail-F}
-use Rattle.meson_syntax.specs.declared.tree.Arg.TheFolds.{fold-roll-Arg, fold-roll-Expr, fold-roll-Tail, fold-roll-List, fold-roll-Operand}
+use Rattle.meson_edit.proofs.Words.{◌≡◌, ℕ, Bool, List, [], ◌∷◌, map, Some, None, refl, sym, ap, ap₂, ◌∙◌, Span, places_of_names, code_expression}
+use Rattle.meson_edit.proofs.Words.{code_operands, code_tail, code_tails, code_listing, code_argument, code_arguments, code_statement, code_branches}
+use Rattle.meson_edit.proofs.Words.{code_statements, code_block, code_file, moved_expr, moved_operand, moved_tail, moved_list, moved_arg, moved_stmt}
+use Rattle.meson_edit.proofs.Words.{moved_branch, moved_block, moved_parsed, span_by, Name, Expression, identifier, boolean, integer, string, paren, array}
+use Rattle.meson_edit.proofs.Words.{dictionary, call, unary, row, postfix, conditional, Operands, no_operands, operand, Tail, method, index, Tails, no_tails}
+use Rattle.meson_edit.proofs.Words.{tail, Listing, listing, Argument, plain, named, pair, Arguments, no_arguments, argument, Statement, evaluate, assign}
+use Rattle.meson_edit.proofs.Words.{selection, iteration, breaks, continues, Branches, no_branches, branch, nothing_else, otherwise, Statements, no_statements}
+use Rattle.meson_edit.proofs.Words.{statement, Block, block, File, file, Operator, Arg, fold-roll-Arg, fold-roll-Expr, fold-roll-Tail, fold-roll-List}
+use Rattle.meson_edit.proofs.Words.{fold-roll-Operand, Arg-F, Expr-F, Tail-F, Expr, Stmt, fold-roll-Stmt, fold-roll-Block, fold-roll-Branch, Stmt-F, each_name}
+use Rattle.meson_edit.proofs.Words.{each_expression, each_operands, each_tail, each_tails, each_listing, each_argument, each_arguments, each_statement}
+use Rattle.meson_edit.proofs.Words.{each_branches, each_statements, each_block, each_file}
 use Rattle.meson_syntax.specs.declared.tree.Arg.TheVariants as arg
 use Rattle.meson_syntax.specs.declared.tree.Expr.TheVariants as expr
 use Rattle.meson_syntax.specs.declared.tree.Tail.TheVariants as rust_tail
 use Rattle.meson_syntax.specs.declared.tree.List as rust
 use Rattle.meson_syntax.specs.declared.tree.Operand.{Operand}
-use Rattle.meson_syntax.specs.declared.tree.Stmt.TheOpen.{Stmt-F}
-use Rattle.meson_syntax.specs.declared.tree.Stmt.TheFolds.{fold-roll-Stmt, fold-roll-Block, fold-roll-Branch}
 use Rattle.meson_syntax.specs.declared.tree.Stmt.TheVariants as stmt
 use Rattle.meson_syntax.specs.declared.tree.Branch.{Branch}
 use Rattle.meson_syntax.specs.declared.tree.Block as rust_block
-use Rattle.meson_syntax.specs.Tree.{Name, Expression, identifier, boolean, integer, string, paren, array, dictionary, call, unary, row, postfix, conditional, Operands, no_operands, operand, Tail, method, index, Tails, no_tails, tail, Listing, listing, Argument, plain, named, pair, Arguments, no_arguments, argument, Statement, evaluate, assign, selection, iteration, breaks, continues, Branches, no_branches, branch, nothing_else, otherwise, Statements, no_statements, statement, Block, block, File, file}
-use Rattle.meson_edit.specs.Moves.{each_name, each_expression, each_operands, each_tail, each_tails, each_listing, each_argument, each_arguments, each_statement, each_branches, each_statements, each_block, each_file}
-use Rattle.meson_syntax.specs.Moving.{span_by}
-use Rattle.meson_syntax.specs.MovedCode.{moved_expr, moved_operand, moved_tail, moved_list, moved_arg, moved_stmt, moved_branch, moved_block, moved_parsed}
-use Rattle.meson_syntax.specs.Codes.{places_of_names, code_expression, code_operands, code_tail, code_tails, code_listing, code_argument, code_arguments, code_statement, code_branches, code_statements, code_block, code_file}
 
 -- structs by their parts
 abbrev with_operator : Operator → Expr → Operand

@@ -1,18 +1,10 @@
 -- A path finds in a tree with the texts of a source what it finds in the tree; and what a list that is put there looks like.
-use Rattle.std.specs.Prelude.{option_map}
-use Rattle.std.proofs.Common.{◌≡◌, ℕ, List, [], ◌∷◌, refl, sym, ap, ◌∙◌}
-use Rattle.meson_lex.specs.declared.kinds.Span.{Span}
-use Rattle.meson_lex.specs.Significant.{Word}
+use Rattle.meson_edit.proofs.Words.{option_map, ◌≡◌, ℕ, List, [], ◌∷◌, refl, sym, ap, ◌∙◌, Word, Span, code_file, put_there, Sort, of_expression, of_statement}
+use Rattle.meson_edit.proofs.Words.{of_block, Node, Hole, around, children, nth_hole, reach, block_of, with_block, ListIn, list_in, ListAt, list_within}
+use Rattle.meson_edit.proofs.Words.{list_of_node, list_at, texts_of_expression, texts_of_listing, texts_of_block, texts_of, Expression, identifier, boolean}
+use Rattle.meson_edit.proofs.Words.{integer, string, paren, array, dictionary, call, unary, row, postfix, conditional, Listing, Block, File, file, list_view}
+use Rattle.meson_edit.proofs.Words.{view, Parsed, InBoth, neither, both, PutListsLook, FoundListsLook}
 use Rattle.meson_syntax.specs.declared.tree.List as rust
-use Rattle.meson_syntax.specs.declared.tree.Parsed.{Parsed}
-use Rattle.meson_syntax.specs.Codes.{code_file}
-use Rattle.meson_syntax.specs.Tree.{Expression, identifier, boolean, integer, string, paren, array, dictionary, call, unary, row, postfix, conditional, Listing, Block, File, file}
-use Rattle.meson_syntax.specs.View.{list_view, view}
-use Rattle.meson_syntax.specs.Texts.{texts_of_expression, texts_of_listing, texts_of_block, texts_of}
-use Rattle.meson_syntax.specs.Paths.{Sort, of_expression, of_statement, of_block, Node, Hole, around, children, nth_hole, reach, block_of, with_block, ListIn, list_in, ListAt, list_within, list_of_node, list_at}
-use Rattle.meson_syntax.specs.ListPut.{put_there}
-use Rattle.meson_edit.specs.MappedPaths.{InBoth, neither, both}
-use Rattle.meson_edit.specs.PutLists.{PutListsLook, FoundListsLook}
 use Rattle.meson_edit.proofs.kept.Each.{map-both, then-both, in-both, in-other}
 use Rattle.meson_edit.proofs.kept.Texts.{the_file, list}
 use Rattle.meson_edit.proofs.kept.TextsChildren.{texts_of_node, TextsHole, texts, texts-around, nth-texts, children-texts}

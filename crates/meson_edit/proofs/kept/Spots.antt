@@ -1,12 +1,8 @@
 -- The tokens of items one after another, of items that stand elsewhere, and of items between brackets.
-use Rattle.std.proofs.Common.{◌≡◌, ℕ, zero, suc, pred, ◌+◌, ◌≤◌, Bool, true, false, List, [], ◌∷◌, ◌++◌, length, Some, None, refl, sym, ap, ap₂, ◌∙◌, append_assoc, length-append, arith}
-use Rattle.std.proofs.lemmas.List.{map-append}
-use Rattle.meson_lex.specs.Items.{Lexeme, joined}
-use Rattle.meson_lex.specs.Significant.{Word, kept, Role, Gap, Ends, Opens, Closes, Other, role, State, step_by, step, after, ends_line, only_if}
-use Rattle.meson_lex.specs.Located.{line_end_at, token_at, spot_by, end_by, spots, end_after, closing_at}
-use Rattle.meson_lex.specs.Words.{spoken_by, spoken}
-use Rattle.meson_edit.specs.Moves.{token_by, tokens_by}
-use Rattle.meson_syntax.proofs.lists.Nesting.{nest, quiet-line}
+use Rattle.meson_edit.proofs.Words.{◌≡◌, ℕ, zero, suc, pred, ◌+◌, ◌≤◌, Bool, true, false, List, [], ◌∷◌, ◌++◌, length, Some, None, refl, sym, ap, ap₂, ◌∙◌}
+use Rattle.meson_edit.proofs.Words.{append_assoc, length-append, arith, map-append, Lexeme, joined, line_end_at, token_at, spot_by, end_by, spots, end_after}
+use Rattle.meson_edit.proofs.Words.{closing_at, Word, kept, Role, Gap, Ends, Opens, Closes, Other, role, State, step_by, step, after, ends_line, only_if}
+use Rattle.meson_edit.proofs.Words.{spoken_by, spoken, nest, quiet-line, token_by, tokens_by}
 
 -- ---- one after another
 

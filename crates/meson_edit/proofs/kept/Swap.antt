@@ -1,25 +1,14 @@
 -- In a file that located tokens spell, the tokens of a list may be exchanged for those of another list with the same span.
-use Rattle.std.proofs.Common.{◌≡◌, ℕ, ◌≤◌, List, [], ◌++◌, Some, refl, ap, subst, ◌∙◌, append_assoc, arith}
-use Rattle.std.proofs.lemmas.List.{append-nil}
-use Rattle.meson_lex.specs.declared.kinds.Span.{Span}
-use Rattle.meson_lex.specs.Significant.{Word}
-use Rattle.meson_lex.specs.Located.{Token, words}
+use Rattle.meson_edit.proofs.Words.{◌≡◌, ℕ, ◌≤◌, List, [], ◌++◌, Some, refl, ap, subst, ◌∙◌, append_assoc, arith, append-nil, Token, words, Word, Span}
+use Rattle.meson_edit.proofs.Words.{file_depth, Sort, of_expression, of_statement, of_block, Node, reach, block_of, with_block, ListIn, list_in, list_span}
+use Rattle.meson_edit.proofs.Words.{ListAt, list_within, list_of_node, Covers, SpellsExpression, SpellsListing, SpellsFile, Expression, array, dictionary, call}
+use Rattle.meson_edit.proofs.Words.{Block, File, file, erase, file-depth-erased, some-injective, listing_in, name-words, map-some, and-then-some}
+use Rattle.meson_edit.proofs.Words.{listing-covers, join-words}
 use Rattle.meson_syntax.specs.declared.operator.Bracket.TheVariants as bracket
-use Rattle.meson_syntax.specs.Tree.{Expression, array, dictionary, call, Block, File, file, erase}
-use Rattle.meson_syntax.specs.Grammar.{file_depth}
-use Rattle.meson_syntax.specs.Spelling.{Covers, SpellsExpression, SpellsListing, SpellsFile}
-use Rattle.meson_syntax.specs.Paths.{Sort, of_expression, of_statement, of_block, Node, reach, block_of, with_block, ListIn, list_in, list_span, ListAt, list_within, list_of_node}
 use Rattle.meson_edit.specs.Swap.{ListSwaps, ListsSwap}
-use Rattle.meson_syntax.proofs.parsing.Steps.{some-injective}
-use Rattle.meson_syntax.proofs.parsing.Words.{name-words}
-use Rattle.meson_syntax.proofs.parsing.FileErased.{file-depth-erased}
-use Rattle.meson_syntax.proofs.parsing.WithinExpressions.{listing_in}
-use Rattle.meson_syntax.proofs.paths.Reaching.{map-some, and-then-some}
-use Rattle.meson_syntax.proofs.places.Covers.{listing-covers}
 use Rattle.meson_edit.proofs.places.SameEnds.{same-ends, ends-around, cover}
 use Rattle.meson_edit.proofs.places.Joined.{alone, next-last}
 use Rattle.meson_edit.proofs.places.Inside.{SpellsOther, InHole, Rebuilds, last-part, whole-part}
-use Rattle.meson_syntax.proofs.places.Pairs.{join-words}
 use Rattle.meson_edit.proofs.places.InExpressions.{OtherListing}
 use Rattle.meson_edit.proofs.places.InStatements.{reach-holds}
 use Rattle.meson_edit.proofs.places.Standing.{block-spelled}

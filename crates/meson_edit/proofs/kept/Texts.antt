@@ -1,15 +1,16 @@
 -- What a tree looks like over a source: its texts are read off that source.
-use Rattle.std.proofs.Common.{◌≡◌, ℕ, List, [], ◌∷◌, map, refl, ap, ap₂, ◌∙◌}
-use Rattle.meson_lex.specs.declared.kinds.Span.{Span}
-use Rattle.meson_syntax.specs.declared.operator.Operator.{Operator}
-use Rattle.meson_syntax.specs.declared.tree.Arg.TheOpen.{Arg-F, Expr-F, Tail-F}
-use Rattle.meson_syntax.specs.declared.tree.Arg.TheFolds.{fold-roll-Arg, fold-roll-Expr, fold-roll-Tail, fold-roll-List, fold-roll-Operand}
-use Rattle.meson_syntax.specs.declared.tree.Stmt.TheOpen.{Stmt-F}
-use Rattle.meson_syntax.specs.declared.tree.Stmt.TheFolds.{fold-roll-Stmt, fold-roll-Block, fold-roll-Branch}
-use Rattle.meson_syntax.specs.Tree.{Name, Expression, identifier, boolean, integer, string, paren, array, dictionary, call, unary, row, postfix, conditional, Operands, no_operands, operand, operands_of, Tail, method, index, Tails, no_tails, tail, tails_of, Listing, listing, Argument, plain, named, pair, Arguments, no_arguments, argument, arguments_of, Statement, evaluate, assign, selection, iteration, breaks, continues, Branches, no_branches, branch, branches_of, nothing_else, otherwise, Statements, no_statements, statement, statements_of, Block, block, File, file}
-use Rattle.meson_syntax.specs.View.{expr_view, operand_view, tail_view, list_view, arg_view, stmt_view, branch_view, block_view, view, names_at}
-use Rattle.meson_syntax.specs.Texts.{texts_of_name, texts_of_expression, texts_of_operands, texts_of_tail, texts_of_tails, texts_of_listing, texts_of_argument, texts_of_arguments, texts_of_statement, texts_of_branches, texts_of_statements, texts_of_block, texts_of}
-use Rattle.meson_syntax.specs.Codes.{places_of_names, code_expression, code_operands, code_tail, code_tails, code_listing, code_argument, code_arguments, code_statement, code_branches, code_otherwise, code_statements, code_block, code_file}
+use Rattle.meson_edit.proofs.Words.{◌≡◌, ℕ, List, [], ◌∷◌, map, refl, ap, ap₂, ◌∙◌, Span, places_of_names, code_expression, code_operands, code_tail}
+use Rattle.meson_edit.proofs.Words.{code_tails, code_listing, code_argument, code_arguments, code_statement, code_branches, code_otherwise, code_statements}
+use Rattle.meson_edit.proofs.Words.{code_block, code_file, texts_of_name, texts_of_expression, texts_of_operands, texts_of_tail, texts_of_tails}
+use Rattle.meson_edit.proofs.Words.{texts_of_listing, texts_of_argument, texts_of_arguments, texts_of_statement, texts_of_branches, texts_of_statements}
+use Rattle.meson_edit.proofs.Words.{texts_of_block, texts_of, Name, Expression, identifier, boolean, integer, string, paren, array, dictionary, call, unary}
+use Rattle.meson_edit.proofs.Words.{row, postfix, conditional, Operands, no_operands, operand, operands_of, Tail, method, index, Tails, no_tails, tail}
+use Rattle.meson_edit.proofs.Words.{tails_of, Listing, listing, Argument, plain, named, pair, Arguments, no_arguments, argument, arguments_of, Statement}
+use Rattle.meson_edit.proofs.Words.{evaluate, assign, selection, iteration, breaks, continues, Branches, no_branches, branch, branches_of, nothing_else}
+use Rattle.meson_edit.proofs.Words.{otherwise, Statements, no_statements, statement, statements_of, Block, block, File, file, expr_view, operand_view}
+use Rattle.meson_edit.proofs.Words.{tail_view, list_view, arg_view, stmt_view, branch_view, block_view, view, names_at, Operator, fold-roll-Arg, fold-roll-Expr}
+use Rattle.meson_edit.proofs.Words.{fold-roll-Tail, fold-roll-List, fold-roll-Operand, Arg-F, Expr-F, Tail-F, fold-roll-Stmt, fold-roll-Block, fold-roll-Branch}
+use Rattle.meson_edit.proofs.Words.{Stmt-F}
 
 module _ (source : List ℕ) where
   mutual

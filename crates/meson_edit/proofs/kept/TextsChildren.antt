@@ -1,17 +1,18 @@
 -- The children of a node with the texts of a source are those of the node, each with its texts.
-use Rattle.std.proofs.Common.{◌≡◌, ℕ, zero, suc, Bool, List, [], ◌∷◌, ◌++◌, refl, ap, ◌∙◌}
-use Rattle.meson_lex.specs.declared.kinds.Kind.{Kind}
+use Rattle.meson_edit.proofs.Words.{◌≡◌, ℕ, zero, suc, Bool, List, [], ◌∷◌, ◌++◌, refl, ap, ◌∙◌, Word, new_line, Kind, Span, mark, operator_words, comma_words}
+use Rattle.meson_edit.proofs.Words.{argument_words, arguments_words, expression_words, tail_words, tails_words, statement_words, branches_words}
+use Rattle.meson_edit.proofs.Words.{otherwise_words, block_words, opens, closes, Sort, of_expression, of_statement, of_block, Node, Hole, around, all_around}
+use Rattle.meson_edit.proofs.Words.{nth, argument_children, arguments_children, listing_children, operands_children, tail_children, tails_children}
+use Rattle.meson_edit.proofs.Words.{expression_children, branches_children, otherwise_children, statement_children, statements_children, block_children}
+use Rattle.meson_edit.proofs.Words.{children, texts_of_name, texts_of_expression, texts_of_operands, texts_of_tail, texts_of_tails, texts_of_listing}
+use Rattle.meson_edit.proofs.Words.{texts_of_argument, texts_of_arguments, texts_of_statement, texts_of_branches, texts_of_otherwise, texts_of_statements}
+use Rattle.meson_edit.proofs.Words.{texts_of_block, Expression, identifier, boolean, integer, string, paren, array, dictionary, call, unary, row, postfix}
+use Rattle.meson_edit.proofs.Words.{conditional, Operands, no_operands, operand, Tail, method, index, Tails, no_tails, tail, Listing, listing, Argument, plain}
+use Rattle.meson_edit.proofs.Words.{named, pair, Arguments, no_arguments, argument, Statement, evaluate, assign, selection, iteration, breaks, continues}
+use Rattle.meson_edit.proofs.Words.{Branches, no_branches, branch, Otherwise, nothing_else, otherwise, Statements, no_statements, statement, Block, block}
+use Rattle.meson_edit.proofs.Words.{Bracket, InBoth, neither, both}
 use Rattle.meson_lex.specs.declared.kinds.Kind.TheVariants as k
-use Rattle.meson_lex.specs.declared.kinds.Span.{Span}
-use Rattle.meson_lex.specs.Significant.{Word, new_line}
-use Rattle.meson_syntax.specs.declared.operator.Bracket.{Bracket}
 use Rattle.meson_syntax.specs.declared.operator.Bracket.TheVariants as bracket
-use Rattle.meson_syntax.specs.Tree.{Expression, identifier, boolean, integer, string, paren, array, dictionary, call, unary, row, postfix, conditional, Operands, no_operands, operand, Tail, method, index, Tails, no_tails, tail, Listing, listing, Argument, plain, named, pair, Arguments, no_arguments, argument, Statement, evaluate, assign, selection, iteration, breaks, continues, Branches, no_branches, branch, Otherwise, nothing_else, otherwise, Statements, no_statements, statement, Block, block}
-use Rattle.meson_syntax.specs.Operators.{opens, closes}
-use Rattle.meson_syntax.specs.Grammar.{mark, operator_words, comma_words, argument_words, arguments_words, expression_words, tail_words, tails_words, statement_words, branches_words, otherwise_words, block_words}
-use Rattle.meson_syntax.specs.Paths.{Sort, of_expression, of_statement, of_block, Node, Hole, around, all_around, nth, argument_children, arguments_children, listing_children, operands_children, tail_children, tails_children, expression_children, branches_children, otherwise_children, statement_children, statements_children, block_children, children}
-use Rattle.meson_syntax.specs.Texts.{texts_of_name, texts_of_expression, texts_of_operands, texts_of_tail, texts_of_tails, texts_of_listing, texts_of_argument, texts_of_arguments, texts_of_statement, texts_of_branches, texts_of_otherwise, texts_of_statements, texts_of_block}
-use Rattle.meson_edit.specs.MappedPaths.{InBoth, neither, both}
 
 module _ (source : List ℕ) where
   abbrev pub texts_of_node : (sort : Sort) → Node sort Span → Node sort Span

@@ -1,31 +1,12 @@
 -- The tokens of a text in which one list is exchanged for another.
-use Rattle.std.specs.Prelude.{if◌then◌else◌}
-use Rattle.std.proofs.Common.{◌≡◌, ℕ, ◌+◌, ◌-◌, ◌<◌, ◌≤◌, Bool, List, [], ◌∷◌, ◌++◌, length, Some, refl, sym, ap, ap₂, subst, ◌∙◌, append_assoc, length-append, arith}
-use Rattle.std.proofs.lemmas.Bool.{le-leb, lt-leb}
-use Rattle.std.proofs.lemmas.List.{map-append}
-use Rattle.meson_lex.specs.declared.kinds.Kind.{Kind}
-use Rattle.meson_lex.specs.Items.{Lexeme, joined, AreItems}
-use Rattle.meson_lex.specs.Significant.{Role, Opens, Closes, role, State, start, step_by, after, emitted, closing}
-use Rattle.meson_lex.specs.Located.{Token, words, token_at, spot_by, end_by, spots, end_after, closing_at, located}
-use Rattle.meson_lex.specs.Words.{spoken}
-use Rattle.meson_lex.proofs.TokenWords.{words-append, words-spots}
-use Rattle.meson_lex.proofs.Seams.{AreItems-split}
-use Rattle.meson_lex.specs.declared.kinds.Span.{Span}
-use Rattle.meson_syntax.specs.Tree.{Nowhere}
-use Rattle.meson_syntax.specs.Paths.{list_span}
-use Rattle.meson_edit.specs.Moves.{token_by, tokens_by}
-use Rattle.meson_syntax.specs.Moving.{moved}
-use Rattle.meson_syntax.specs.declared.operator.Bracket.{Bracket}
-use Rattle.meson_syntax.specs.Operators.{opens, closes}
-use Rattle.meson_edit.specs.ExchangedTokens.{list_tokens, TokensExchanged, TokensMove}
-use Rattle.meson_syntax.proofs.places.Spots.{after-append}
+use Rattle.meson_edit.proofs.Words.{if◌then◌else◌, ◌≡◌, ℕ, ◌+◌, ◌-◌, ◌<◌, ◌≤◌, Bool, List, [], ◌∷◌, ◌++◌, length, Some, refl, sym, ap, ap₂, subst, ◌∙◌}
+use Rattle.meson_edit.proofs.Words.{append_assoc, length-append, arith, le-leb, lt-leb, map-append, Lexeme, joined, AreItems, Token, words, token_at, spot_by}
+use Rattle.meson_edit.proofs.Words.{end_by, spots, end_after, closing_at, located, Role, Opens, Closes, role, State, start, step_by, after, emitted, closing}
+use Rattle.meson_edit.proofs.Words.{spoken, Kind, Span, AreItems-split, words-append, words-spots, moved, opens, closes, list_span, Nowhere, Bracket, IsBracket}
+use Rattle.meson_edit.proofs.Words.{open-bracket, close-bracket, last-end, listed, behind, bracket-text, list-after, nest, inner-flat, joined-lengths}
+use Rattle.meson_edit.proofs.Words.{after-append, list_tokens, TokensExchanged, TokensMove, token_by, tokens_by}
 use Rattle.meson_edit.proofs.places.Standing.{closing-words}
-use Rattle.meson_syntax.proofs.places.Pairs.{joined-lengths}
-use Rattle.meson_syntax.proofs.lists.Nesting.{nest, inner-flat}
-use Rattle.meson_syntax.proofs.lists.Items.{listed, behind, bracket-text, list-after}
-use Rattle.meson_syntax.proofs.lists.Brackets.{IsBracket, open-bracket, close-bracket}
 use Rattle.meson_edit.proofs.exchange.Lists.{own-first}
-use Rattle.meson_syntax.proofs.lists.Complete.{last-end}
 use Rattle.meson_edit.proofs.kept.Spots.{spots-append, end_after-append, Carries, spots-moved, end_after-moved, closing-moved, inside-spots}
 
 -- ---- borders before and behind what is exchanged

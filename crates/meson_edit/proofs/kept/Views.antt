@@ -1,15 +1,8 @@
 -- A tree over two sources.
-use Rattle.std.proofs.Common.{sym, ap, ◌∙◌}
-use Rattle.meson_syntax.specs.View.{list_view, view}
-use Rattle.meson_edit.specs.Moves.{each_file, each_listing}
-use Rattle.meson_syntax.specs.Moving.{span_by}
-use Rattle.meson_syntax.specs.MovedCode.{moved_list, moved_parsed}
-use Rattle.meson_edit.specs.MovedTrees.{ViewsText, ListViewsText, ViewsMove, ListViewsMove, ViewsTell, ListViewsTell}
-use Rattle.meson_syntax.proofs.Told.{list_told}
-use Rattle.meson_syntax.proofs.ToldFiles.{file_told}
+use Rattle.meson_edit.proofs.Words.{sym, ap, ◌∙◌, code_file, code_listing, moved_list, moved_parsed, span_by, list_view, view, list_told, file_told, ViewsText}
+use Rattle.meson_edit.proofs.Words.{ListViewsText, ViewsMove, ListViewsMove, ViewsTell, ListViewsTell, each_file, each_listing}
 use Rattle.meson_edit.proofs.kept.Texts.{list, the_file}
 use Rattle.meson_edit.proofs.kept.MovedCodes as moved
-use Rattle.meson_syntax.specs.Codes.{code_file, code_listing}
 
 pub views-text : ViewsText
 views-text source other t = ap (view source) (sym (file_told other t)) ∙ the_file source (view other t)

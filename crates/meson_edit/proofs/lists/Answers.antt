@@ -1,18 +1,9 @@
 -- The laws of edits of lists.
-use Rattle.std.proofs.Common.{◌≡◌, ℕ, List, Some, Ok, sym, subst}
-use Rattle.meson_lex.specs.declared.kinds.Span.{Span}
-use Rattle.meson_lex.specs.Items.{Lexeme, IsItemList}
-use Rattle.meson_layout.specs.declared.primitive.Primitive.{Primitive}
-use Rattle.meson_layout.specs.Layout.{layout_of}
-use Rattle.meson_layout.specs.Edited.{patched_by}
-use Rattle.meson_syntax.specs.declared.source.Limits.{Limits}
-use Rattle.meson_syntax.specs.Tree.{Plain, File, erase}
-use Rattle.meson_syntax.specs.Reads.{IsSpannedWithin}
-use Rattle.meson_edit.specs.Places.{primitive_of, Writes}
+use Rattle.meson_edit.proofs.Words.{◌≡◌, ℕ, List, Some, Ok, sym, subst, Lexeme, IsItemList, Span, patched_by, layout_of, Primitive, IsSpannedWithin, Plain}
+use Rattle.meson_edit.proofs.Words.{File, erase, Limits, Edit, First, After, Remove, Replace, Wrap, RemoveStatement, Append, edited, edited_list, KeepsIn}
+use Rattle.meson_edit.proofs.Words.{FirstsSpell, InsertionsSpell, RemovalsSpell, ReplacementsSpell, WrapsSpell, IsEditOf, ListEditsLook, ListEditsWrite}
+use Rattle.meson_edit.proofs.Words.{primitive_of, Writes}
 use Rattle.meson_edit.proofs.lists.Found.{found}
-use Rattle.meson_edit.specs.Edits.{Edit, First, After, Remove, Replace, Wrap, RemoveStatement, Append, edited, edited_list}
-use Rattle.meson_edit.specs.Laws.{FirstsSpell, InsertionsSpell, RemovalsSpell, ReplacementsSpell, WrapsSpell, IsEditOf, ListEditsLook, ListEditsWrite}
-use Rattle.meson_edit.specs.Kept.{KeepsIn}
 use Rattle.meson_edit.proofs.lists.LaidOut.{Lays, spelled, ready, written, kept}
 use Rattle.meson_edit.proofs.lists.Elements.{first-lays, after-lays, remove-lays}
 use Rattle.meson_edit.proofs.lists.Others.{stays-before, stays-behind}

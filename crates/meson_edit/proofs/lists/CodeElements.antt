@@ -1,11 +1,8 @@
 -- The elements of a list, by those of the code's.
-use Rattle.std.proofs.Common.{rules, ◌≡◌, ℕ, List, [], ◌∷◌, refl, ap, ◌∙◌}
-use Rattle.meson_lex.specs.declared.kinds.Span.{Span}
+use Rattle.meson_edit.proofs.Words.{rules, ◌≡◌, ℕ, List, [], ◌∷◌, refl, ap, ◌∙◌, Span, Argument, argument_list, arguments_of, listing, args_view, list_view}
+use Rattle.meson_edit.proofs.Words.{elements}
 use Rattle.meson_syntax.specs.declared.tree.Arg.TheFolds.{the_lemmas}
 use Rattle.meson_syntax.specs.declared.tree.List as rust
-use Rattle.meson_syntax.specs.Tree.{Argument, argument_list, arguments_of, listing}
-use Rattle.meson_syntax.specs.View.{args_view, list_view}
-use Rattle.meson_edit.specs.Edits.{elements}
 
 listed : (args : List (Argument Span)) → argument_list (arguments_of args) ≡ args
 listed [] = refl

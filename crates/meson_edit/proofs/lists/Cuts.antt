@@ -1,15 +1,11 @@
 -- The n-th element of a list: where it stands in the list with spans and in the list without, and the words of the list after an edit there.
-use Rattle.std.proofs.Common.{◌≡◌, ℕ, zero, suc, Bool, true, List, [], ◌∷◌, ◌++◌, take, drop, map, Some, refl, sym, ap, ap₂, subst, ◌∙◌, append_assoc}
-use Rattle.meson_lex.specs.declared.kinds.Span.{Span}
-use Rattle.meson_layout.specs.Words.{comma_word, IsBehindElement, IsBeforeElement}
-use Rattle.meson_layout.specs.Laws.{IsWithout}
-use Rattle.meson_syntax.specs.Tree.{Nowhere, Listing, listing, Argument, Arguments, no_arguments, argument, arguments_of, argument_list, erase_argument, erase_arguments, erase_listing}
-use Rattle.meson_syntax.specs.Grammar.{comma_words, argument_words, arguments_words}
-use Rattle.meson_syntax.specs.Paths.{nth, ElementAt, elements_at, element_at, inner_words}
-use Rattle.meson_syntax.proofs.parsing.Steps.{some-injective}
-use Rattle.meson_syntax.proofs.parsing.Erased.{comma-erased, argument-words-erased, arguments-words-erased}
-use Rattle.meson_edit.specs.Edits.{elements, with_elements}
-use Rattle.meson_edit.proofs.lists.Words.{words_of, words_behind, list-back, comma-always, words-join, words-taken, before-element, behind-element, flag, flag-kept, words-without}
+use Rattle.meson_edit.proofs.Words.{◌≡◌, ℕ, zero, suc, Bool, true, List, [], ◌∷◌, ◌++◌, take, drop, map, Some, refl, sym, ap, ap₂, subst, ◌∙◌, append_assoc}
+use Rattle.meson_edit.proofs.Words.{Span, IsWithout, comma_word, IsBehindElement, IsBeforeElement, comma_words, argument_words, arguments_words, nth, ElementAt}
+use Rattle.meson_edit.proofs.Words.{elements_at, element_at, inner_words, Nowhere, Listing, listing, Argument, Arguments, no_arguments, argument, arguments_of}
+use Rattle.meson_edit.proofs.Words.{argument_list, erase_argument, erase_arguments, erase_listing, comma-erased, argument-words-erased, arguments-words-erased}
+use Rattle.meson_edit.proofs.Words.{some-injective, elements, with_elements}
+use Rattle.meson_edit.proofs.lists.Words.{words_of, words_behind, list-back, comma-always, words-join, words-taken, before-element, behind-element, flag}
+use Rattle.meson_edit.proofs.lists.Words.{flag-kept, words-without}
 
 nth-map : {A B : Type 0} (f : A → B) (xs : List A) (n : ℕ) (x : A) → nth xs n ≡ Some x → nth (map f xs) n ≡ Some (f x)
 nth-map f [] n x h = absurd cc

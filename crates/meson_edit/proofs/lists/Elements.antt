@@ -1,31 +1,14 @@
 -- Edits of whole elements, laid out: one behind another, one gone, and the first of a list that has none.
-use Rattle.std.proofs.Common.{◌≡◌, ℕ, true, false, List, [], ◌∷◌, ◌++◌, Some, refl, sym, ap, ap₂, subst, ◌∙◌}
-use Rattle.std.proofs.lemmas.List.{append-nil}
-use Rattle.std.specs.Prelude.{option_map}
-use Rattle.meson_lex.specs.declared.kinds.Span.{Span}
-use Rattle.meson_lex.specs.Items.{Lexeme, IsItemList}
-use Rattle.meson_lex.specs.Significant.{Word}
-use Rattle.meson_lex.specs.Words.{spoken}
+use Rattle.meson_edit.proofs.Words.{◌≡◌, ℕ, true, false, List, [], ◌∷◌, ◌++◌, Some, refl, sym, ap, ap₂, subst, ◌∙◌, option_map, append-nil, Lexeme, IsItemList}
+use Rattle.meson_edit.proofs.Words.{Word, spoken, Span, PartIn, Edited, IsWithout, layout_of, remarks, comma_word, IsBehindElement, IsBeforeElement, first-law}
+use Rattle.meson_edit.proofs.Words.{argument_words, LevelListing, nth, list_span, inner_words, IsSpannedWithin, Nowhere, Plain, Listing, listing, Argument}
+use Rattle.meson_edit.proofs.Words.{no_arguments, argument, File, erase, erase_listing, Bracket, Limits, some-injective, map-some, list-fits, Written, Edit}
+use Rattle.meson_edit.proofs.Words.{First, After, Remove, elements, with_elements, first_element, element_added, element_removed, element_span, IsWritten}
+use Rattle.meson_edit.proofs.Words.{argument_span, ElementStands, ListPlaces}
 use Rattle.meson_layout.specs.declared.primitive.Primitive.TheVariants as layout
-use Rattle.meson_layout.specs.Words.{remarks, comma_word, IsBehindElement, IsBeforeElement}
-use Rattle.meson_layout.specs.Laws.{IsWithout}
-use Rattle.meson_layout.specs.Edited.{PartIn, Edited}
-use Rattle.meson_layout.specs.Layout.{layout_of}
 use Rattle.meson_layout.proofs.InsertionLaws.{insertion-law}
 use Rattle.meson_layout.proofs.RemovalLaws.{removal-law}
-use Rattle.meson_layout.proofs.ValueLaws.{first-law}
-use Rattle.meson_syntax.specs.declared.source.Limits.{Limits}
-use Rattle.meson_syntax.specs.declared.operator.Bracket.{Bracket}
-use Rattle.meson_syntax.specs.Tree.{Nowhere, Plain, Listing, listing, Argument, no_arguments, argument, File, erase, erase_listing}
-use Rattle.meson_syntax.specs.Grammar.{argument_words, LevelListing}
-use Rattle.meson_syntax.specs.Reads.{IsSpannedWithin}
-use Rattle.meson_syntax.specs.Paths.{nth, list_span, inner_words}
-use Rattle.meson_edit.specs.Standing.{argument_span, ElementStands, ListPlaces}
-use Rattle.meson_syntax.proofs.parsing.Steps.{some-injective}
-use Rattle.meson_syntax.proofs.paths.Reaching.{map-some, list-fits}
 use Rattle.meson_edit.proofs.places.Standing.{lists-stand}
-use Rattle.meson_edit.specs.Edits.{Written, Edit, First, After, Remove, elements, with_elements, first_element, element_added, element_removed}
-use Rattle.meson_edit.specs.Places.{element_span, IsWritten}
 use Rattle.meson_edit.proofs.lists.Cuts.{CutAt, cut-at}
 use Rattle.meson_edit.proofs.lists.Found.{Found, now_list, found}
 use Rattle.meson_edit.proofs.lists.Places.{list_among, part_among, span-there, bracket-there}

@@ -1,14 +1,9 @@
 -- The list that an edit names, in the tree with spans and in the tree without.
-use Rattle.std.proofs.Common.{◌≡◌, ℕ, suc, List, ◌∷◌, ◌++◌, take, drop, Some, refl, sym, ap, ◌∙◌}
-use Rattle.std.specs.Prelude.{option_map, option_and_then}
-use Rattle.meson_lex.specs.declared.kinds.Span.{Span}
-use Rattle.meson_syntax.specs.Tree.{Nowhere, Plain, Expression, Listing, Argument, plain, named, pair, File, erase, erase_expression, erase_argument, erase_listing}
-use Rattle.meson_syntax.specs.Paths.{ListAt, list_at, nth, value_of}
-use Rattle.meson_edit.specs.Holes.{ListFront, list_front, erase_list_front}
-use Rattle.meson_syntax.proofs.parsing.Steps.{some-injective}
+use Rattle.meson_edit.proofs.Words.{◌≡◌, ℕ, suc, List, ◌∷◌, ◌++◌, take, drop, Some, refl, sym, ap, ◌∙◌, option_map, option_and_then, Span, ListAt, list_at, nth}
+use Rattle.meson_edit.proofs.Words.{value_of, Nowhere, Plain, Expression, Listing, Argument, plain, named, pair, File, erase, erase_expression, erase_argument}
+use Rattle.meson_edit.proofs.Words.{erase_listing, some-injective, map-some, and-then-some, Edit, elements, with_elements, with_value, edited_elements}
+use Rattle.meson_edit.proofs.Words.{edited_list, exchanged, ListFront, list_front, erase_list_front}
 use Rattle.meson_edit.proofs.paths.Erased.{lists-erase}
-use Rattle.meson_syntax.proofs.paths.Reaching.{map-some, and-then-some}
-use Rattle.meson_edit.specs.Edits.{Edit, elements, with_elements, with_value, edited_elements, edited_list, exchanged}
 
 -- The list is `p` in the tree with spans and `q` in the one without, and `list` are its elements after the edit.
 pub record Found (f : File Span) (e : Edit) (path : List ℕ) (t : Plain) : Type 0 where

@@ -1,32 +1,12 @@
 -- An edit of a list, laid out: what its splices leave, and what follows from that.
-use Rattle.std.specs.Str.{IsUtf8}
-use Rattle.std.proofs.Common.{◌≡◌, ℕ, List, [], ◌∷◌, ◌++◌, Some, Result, Ok, sym, ap, ap₂, subst, ◌∙◌, append_assoc}
-use Rattle.meson_lex.specs.declared.kinds.Span.{Span}
-use Rattle.meson_lex.specs.Items.{Lexeme, joined, AreItems, IsItemList}
-use Rattle.meson_lex.proofs.Seams.{AreItems-split}
-use Rattle.meson_lex.proofs.OneList.{one_list}
-use Rattle.meson_layout.specs.declared.primitive.Primitive.{Primitive}
-use Rattle.meson_layout.specs.Layout.{layout_of, IsPlaced}
-use Rattle.meson_layout.specs.Edited.{Edited, patched_by}
+use Rattle.meson_edit.proofs.Words.{◌≡◌, ℕ, List, [], ◌∷◌, ◌++◌, Some, Result, Ok, sym, ap, ap₂, subst, ◌∙◌, append_assoc, IsUtf8, Lexeme, joined, AreItems}
+use Rattle.meson_edit.proofs.Words.{IsItemList, Span, one_list, AreItems-split, Edited, patched_by, WritesUtf8, layout_of, IsPlaced, Primitive, LevelFile}
+use Rattle.meson_edit.proofs.Words.{opens, closes, ListAt, list_at, list_span, inner_words, Spells, IsSpannedWithin, IsListText, Plain, File, erase, Limits}
+use Rattle.meson_edit.proofs.Words.{open-bracket, close-bracket, listed, exchanged-items, some-injective, Edit, edited, Touches, KeepsList, MakesText, Spelled}
+use Rattle.meson_edit.proofs.Words.{WritesList, primitive_of, Writes, ListPlaces}
 use Rattle.meson_layout.specs.Local.{IsOfList, IsReadyIn}
-use Rattle.meson_layout.specs.Laws.{WritesUtf8}
-use Rattle.meson_syntax.specs.declared.source.Limits.{Limits}
-use Rattle.meson_syntax.specs.Operators.{opens, closes}
-use Rattle.meson_syntax.specs.Tree.{Plain, File, erase}
-use Rattle.meson_syntax.specs.Grammar.{LevelFile}
-use Rattle.meson_syntax.specs.Reads.{Spells, IsSpannedWithin}
-use Rattle.meson_syntax.specs.Paths.{ListAt, list_at, list_span, inner_words}
-use Rattle.meson_edit.specs.Standing.{ListPlaces}
-use Rattle.meson_syntax.specs.ReadsList.{IsListText}
-use Rattle.meson_syntax.proofs.parsing.Steps.{some-injective}
-use Rattle.meson_syntax.proofs.lists.Brackets.{open-bracket, close-bracket}
 use Rattle.meson_edit.proofs.exchange.Cuts.{utf8-cut}
-use Rattle.meson_syntax.proofs.lists.Items.{listed, exchanged-items}
 use Rattle.meson_edit.proofs.exchange.Lists.{joined-list, lists-exchange}
-use Rattle.meson_edit.specs.Edits.{Edit, edited}
-use Rattle.meson_edit.specs.Places.{primitive_of, Writes}
-use Rattle.meson_edit.specs.Laws.{MakesText, Spelled, WritesList}
-use Rattle.meson_edit.specs.Kept.{Touches, KeepsList}
 use Rattle.meson_edit.proofs.Coding.{coding-law, texts-law}
 use Rattle.meson_edit.proofs.lists.Found.{Found, now_list}
 use Rattle.meson_edit.proofs.lists.Places.{list_among, cut-out}

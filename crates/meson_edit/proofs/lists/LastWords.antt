@@ -1,15 +1,13 @@
 -- The words of an element end, and with no comma.
-use Rattle.std.proofs.Common.{◌≡◌, Bool, true, false, List, [], ◌∷◌, ◌++◌, refl, sym, ap, subst, ◌∙◌, inl, inr, ◌⊎◌, append_assoc}
-use Rattle.std.proofs.lemmas.List.{append-nil}
+use Rattle.meson_edit.proofs.Words.{◌≡◌, Bool, true, false, List, [], ◌∷◌, ◌++◌, refl, sym, ap, subst, ◌∙◌, inl, inr, ◌⊎◌, append_assoc, append-nil, Word, mark}
+use Rattle.meson_edit.proofs.Words.{operator_words, expression_words, operands_words, tail_words, tails_words, listing_words, argument_words, arguments_words}
+use Rattle.meson_edit.proofs.Words.{closes, opens, unary_kind, string_kind, boolean_kind, Expression, identifier, boolean, integer, string, paren, array}
+use Rattle.meson_edit.proofs.Words.{dictionary, call, unary, row, postfix, conditional, Operands, no_operands, operand, Tail, method, index, Tails, no_tails}
+use Rattle.meson_edit.proofs.Words.{tail, Listing, listing, Argument, plain, named, pair, Bracket}
 use Rattle.meson_lex.specs.declared.kinds.Kind.TheVariants as k
-use Rattle.meson_lex.specs.Significant.{Word}
-use Rattle.meson_syntax.specs.declared.operator.Bracket.{Bracket}
 use Rattle.meson_syntax.specs.declared.operator.Bracket.TheVariants as bracket
 use Rattle.meson_syntax.specs.declared.operator.StringKind.{StringKind}
 use Rattle.meson_syntax.specs.declared.operator.StringKind.TheVariants as quotes
-use Rattle.meson_syntax.specs.Operators.{closes, opens, unary_kind, string_kind, boolean_kind}
-use Rattle.meson_syntax.specs.Tree.{Expression, identifier, boolean, integer, string, paren, array, dictionary, call, unary, row, postfix, conditional, Operands, no_operands, operand, Tail, method, index, Tails, no_tails, tail, Listing, listing, Argument, plain, named, pair}
-use Rattle.meson_syntax.specs.Grammar.{mark, operator_words, expression_words, operands_words, tail_words, tails_words, listing_words, argument_words, arguments_words}
 
 pub record EndsWell (ws : List Word) : Type 0 where
   pub front : List Word

@@ -1,22 +1,12 @@
 -- An edit of a list keeps the bytes of every element that it does not touch.
-use Rattle.std.proofs.Common.{◌≡◌, ℕ, zero, suc, ◌+◌, ◌<◌, ◌≤◌, Bool, true, List, [], ◌∷◌, ◌++◌, map, length, Some, refl, sym, ap, ap₂, subst, ◌∙◌, inl, inr, ◌⊎◌, append_assoc, length-append, arith}
-use Rattle.std.proofs.Math.Nat.{eq-or-lt_of_le}
-use Rattle.std.proofs.lemmas.List.{append-nil}
-use Rattle.meson_lex.specs.declared.kinds.Span.{Span}
-use Rattle.meson_lex.specs.Items.{Lexeme, joined, IsItemList}
-use Rattle.meson_lex.specs.Significant.{Word, Role, Gap, Ends, Opens, Closes, Other, role}
-use Rattle.meson_lex.specs.Words.{speaks, spoken_by, word, spoken}
-use Rattle.meson_lex.proofs.Seams.{joined-append}
-use Rattle.meson_layout.specs.Words.{comma_word, IsCommaAtMost}
+use Rattle.meson_edit.proofs.Words.{◌≡◌, ℕ, zero, suc, ◌+◌, ◌<◌, ◌≤◌, Bool, true, List, [], ◌∷◌, ◌++◌, map, length, Some, refl, sym, ap, ap₂, subst, ◌∙◌, inl}
+use Rattle.meson_edit.proofs.Words.{inr, ◌⊎◌, append_assoc, length-append, arith, eq-or-lt_of_le, append-nil, Lexeme, joined, IsItemList, Word, Role, Gap, Ends}
+use Rattle.meson_edit.proofs.Words.{Opens, Closes, Other, role, speaks, spoken_by, word, spoken, Span, joined-append, comma_word, IsCommaAtMost, comma_words}
+use Rattle.meson_edit.proofs.Words.{argument_words, nth, ListAt, ElementAt, elements_at, element_at, words_ahead, Arguments, no_arguments, argument, Listing}
+use Rattle.meson_edit.proofs.Words.{listing, some-injective, Edit, First, After, Remove, Replace, Wrap, RemoveStatement, Append, Touches, KeepsList, IsBefore}
+use Rattle.meson_edit.proofs.Words.{IsBehind, SameUpTo, SameFrom, argument_span, ListStands, ElementStands}
 use Rattle.meson_layout.proofs.Ends.{spoken-append}
-use Rattle.meson_syntax.specs.Tree.{Arguments, no_arguments, argument, Listing, listing}
-use Rattle.meson_syntax.specs.Grammar.{comma_words, argument_words}
-use Rattle.meson_syntax.specs.Paths.{nth, ListAt, ElementAt, elements_at, element_at, words_ahead}
-use Rattle.meson_edit.specs.Standing.{argument_span, ListStands, ElementStands}
-use Rattle.meson_syntax.proofs.parsing.Steps.{some-injective}
 use Rattle.meson_edit.proofs.places.Elements.{element-words}
-use Rattle.meson_edit.specs.Edits.{Edit, First, After, Remove, Replace, Wrap, RemoveStatement, Append}
-use Rattle.meson_edit.specs.Kept.{Touches, KeepsList, IsBefore, IsBehind, SameUpTo, SameFrom}
 use Rattle.meson_edit.proofs.lists.LastWords.{EndsWell, argument-ends}
 
 -- ---- two elements of a list

@@ -1,15 +1,8 @@
 -- A list and its parts among the items of a text, as the layout wants them.
-use Rattle.std.proofs.Common.{◌≡◌, ℕ, List, [], ◌∷◌, ◌++◌, length, sym, ap, ◌∙◌, append_assoc}
-use Rattle.meson_lex.specs.declared.kinds.Span.{Span}
-use Rattle.meson_lex.specs.Items.{Lexeme, joined, IsItemList}
-use Rattle.meson_lex.specs.Significant.{Word, role}
-use Rattle.meson_lex.proofs.Seams.{joined-append}
-use Rattle.meson_layout.specs.Edited.{ListOfItems, PartIn}
-use Rattle.meson_layout.specs.Layout.{IsSpanOf, IsBracketOf}
+use Rattle.meson_edit.proofs.Words.{◌≡◌, ℕ, List, [], ◌∷◌, ◌++◌, length, sym, ap, ◌∙◌, append_assoc, Lexeme, joined, IsItemList, Word, role, Span}
+use Rattle.meson_edit.proofs.Words.{joined-append, ListOfItems, PartIn, IsSpanOf, IsBracketOf, ListAt, list_span, open-bracket, close-bracket, ListStands}
+use Rattle.meson_edit.proofs.Words.{PartStands}
 use Rattle.meson_layout.proofs.Texts.{joined_three}
-use Rattle.meson_syntax.specs.Paths.{ListAt, list_span}
-use Rattle.meson_edit.specs.Standing.{ListStands, PartStands}
-use Rattle.meson_syntax.proofs.lists.Brackets.{open-bracket, close-bracket}
 
 module _ (items : List Lexeme) (p : ListAt Span) (l : ListStands items p) where
   abbrev pub list_among : ListOfItems items

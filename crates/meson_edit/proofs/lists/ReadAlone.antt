@@ -1,9 +1,5 @@
 -- The text that an edit of a list writes reads as a list by itself.
-use Rattle.std.proofs.Common.{ap, sym, subst, arith}
-use Rattle.meson_syntax.specs.Tree.{Nowhere, erase}
-use Rattle.meson_syntax.specs.Grammar.{LevelFile, LevelListing, file_depth, listing_depth}
-use Rattle.meson_syntax.proofs.paths.Reaching.{list-fits}
-use Rattle.meson_edit.specs.Laws.{WrittenListsRead}
+use Rattle.meson_edit.proofs.Words.{ap, sym, subst, arith, LevelFile, LevelListing, file_depth, listing_depth, Nowhere, erase, list-fits, WrittenListsRead}
 use Rattle.meson_edit.proofs.paths.PutThere.{lists-stay}
 use Rattle.meson_edit.proofs.paths.Shallow.{lists-are-shallow}
 

@@ -1,36 +1,19 @@
 -- Edits of the value of an element, laid out: it becomes another one, or the array of it.
-use Rattle.std.proofs.Common.{◌≡◌, ℕ, ◌+◌, List, [], ◌∷◌, ◌++◌, length, length-append, Some, Result, Ok, Err, refl, sym, ap, ap₂, subst, ◌∙◌, append_assoc, arith, inl, inr}
-use Rattle.std.proofs.lemmas.List.{append-nil}
-use Rattle.std.specs.Prelude.{option_map}
+use Rattle.meson_edit.proofs.Words.{◌≡◌, ℕ, ◌+◌, List, [], ◌∷◌, ◌++◌, length, length-append, Some, Result, Ok, Err, refl, sym, ap, ap₂, subst, ◌∙◌}
+use Rattle.meson_edit.proofs.Words.{append_assoc, arith, inl, inr, option_map, append-nil, Lexeme, joined, IsItemList, Word, spoken, Span, one_list, PartIn}
+use Rattle.meson_edit.proofs.Words.{Edited, patched_by, layout_of, remarks, IsBehindElement, IsBeforeElement, IsBeforeValue, Primitive, replacement-law}
+use Rattle.meson_edit.proofs.Words.{wrap-keeps, wrap-law, expression_words, argument_words, ElementAt, element_at, value_of, words_ahead, inner_words}
+use Rattle.meson_edit.proofs.Words.{IsSpannedWithin, Nowhere, Plain, Expression, Argument, plain, named, pair, File, erase, erase_expression, erase_argument}
+use Rattle.meson_edit.proofs.Words.{erase_listing, Limits, expression-words-erased, some-injective, joined-lengths, Written, Edit, Replace, Wrap, edited}
+use Rattle.meson_edit.proofs.Words.{elements, with_elements, with_value, array_of, WrapsValue, primitive_of, value_span, expression_span, ValueStands}
+use Rattle.meson_edit.proofs.Words.{ListPlaces}
 use Rattle.meson_lex.specs.declared.kinds.Kind.TheVariants as k
-use Rattle.meson_lex.specs.declared.kinds.Span.{Span}
-use Rattle.meson_lex.specs.Items.{Lexeme, joined, IsItemList}
-use Rattle.meson_lex.specs.Significant.{Word}
-use Rattle.meson_lex.specs.Words.{spoken}
-use Rattle.meson_lex.proofs.OneList.{one_list}
 use Rattle.meson_splice.specs.declared.fault.SpliceFault.{SpliceFault}
 use Rattle.meson_splice.specs.declared.splice.Splice.{Splice}
 use Rattle.meson_splice.specs.Patch.{Patches, patched, then_ok}
 use Rattle.meson_splice.proofs.Inverses.{patched-means-patches}
-use Rattle.meson_layout.specs.declared.primitive.Primitive.{Primitive}
 use Rattle.meson_layout.specs.declared.primitive.Primitive.TheVariants as layout
-use Rattle.meson_layout.specs.Words.{remarks, IsBehindElement, IsBeforeElement, IsBeforeValue}
-use Rattle.meson_layout.specs.Edited.{PartIn, Edited, patched_by}
-use Rattle.meson_layout.specs.Layout.{layout_of}
-use Rattle.meson_layout.proofs.ValueLaws.{replacement-law, wrap-keeps, wrap-law}
-use Rattle.meson_syntax.specs.declared.source.Limits.{Limits}
-use Rattle.meson_syntax.specs.Tree.{Nowhere, Plain, Expression, Argument, plain, named, pair, File, erase, erase_expression, erase_argument, erase_listing}
-use Rattle.meson_syntax.specs.Grammar.{expression_words, argument_words}
-use Rattle.meson_syntax.specs.Reads.{IsSpannedWithin}
-use Rattle.meson_syntax.specs.Paths.{ElementAt, element_at, value_of, words_ahead, inner_words}
-use Rattle.meson_edit.specs.Standing.{expression_span, ValueStands, ListPlaces}
-use Rattle.meson_syntax.proofs.parsing.Erased.{expression-words-erased}
-use Rattle.meson_syntax.proofs.parsing.Steps.{some-injective}
-use Rattle.meson_syntax.proofs.places.Pairs.{joined-lengths}
 use Rattle.meson_edit.proofs.places.Standing.{lists-stand}
-use Rattle.meson_edit.specs.Edits.{Written, Edit, Replace, Wrap, edited, elements, with_elements, with_value, array_of}
-use Rattle.meson_edit.specs.Kept.{WrapsValue}
-use Rattle.meson_edit.specs.Places.{primitive_of, value_span}
 use Rattle.meson_edit.proofs.lists.Cuts.{cut-at}
 use Rattle.meson_edit.proofs.lists.Found.{Found, now_list, found, Valued, valued, value-there}
 use Rattle.meson_edit.proofs.lists.Places.{list_among, part_among, span-there}

@@ -1,14 +1,8 @@
 -- The words of elements of a list, cut before and behind one of them.
-use Rattle.std.proofs.Common.{◌≡◌, ℕ, zero, suc, Bool, true, false, List, [], ◌∷◌, ◌++◌, take, if◌then◌else◌, Some, refl, sym, ap, ap₂, subst, ◌∙◌, append_assoc, inl, inr}
-use Rattle.std.proofs.lemmas.List.{append-nil}
-use Rattle.meson_lex.specs.Significant.{Word}
-use Rattle.meson_layout.specs.Words.{comma_word, IsBehindElement, IsBeforeElement}
-use Rattle.meson_layout.specs.Laws.{IsWithout}
-use Rattle.meson_syntax.specs.Tree.{Argument, Arguments, no_arguments, argument, arguments_of, argument_list}
-use Rattle.meson_syntax.specs.Grammar.{comma_words, argument_words, arguments_words}
-use Rattle.meson_syntax.specs.Paths.{nth}
-use Rattle.meson_syntax.proofs.parsing.Steps.{some-injective}
-use Rattle.meson_edit.specs.Edits.{is_empty}
+use Rattle.meson_edit.proofs.Words.{◌≡◌, ℕ, zero, suc, Bool, true, false, List, [], ◌∷◌, ◌++◌, take, if◌then◌else◌, Some, refl, sym, ap, ap₂, subst, ◌∙◌}
+use Rattle.meson_edit.proofs.Words.{append_assoc, inl, inr, append-nil, Word, IsWithout, comma_word, IsBehindElement, IsBeforeElement, comma_words}
+use Rattle.meson_edit.proofs.Words.{argument_words, arguments_words, nth, Argument, Arguments, no_arguments, argument, arguments_of, argument_list}
+use Rattle.meson_edit.proofs.Words.{some-injective, is_empty}
 
 group : {A : Type 0} (a b c d : List A) → a ++ (b ++ (c ++ d)) ≡ (a ++ (b ++ c)) ++ d
 group a b c d = simp append_assoc

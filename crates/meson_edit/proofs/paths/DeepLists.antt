@@ -1,13 +1,8 @@
 -- A file with another list in the place of one is no deeper than before by more than the list is.
-use Rattle.std.specs.Prelude.{option_map}
-use Rattle.std.proofs.Common.{◌≡◌, ℕ, ◌+◌, ◌≤◌, List, [], ◌∷◌, Some, subst}
-use Rattle.meson_lex.specs.Significant.{Word}
-use Rattle.meson_syntax.specs.Tree.{Nowhere, Expression, array, dictionary, call, Listing, Block, File, file}
-use Rattle.meson_syntax.specs.Grammar.{expression_depth, listing_depth, file_depth}
-use Rattle.meson_syntax.specs.Paths.{Sort, of_expression, of_statement, of_block, Node, Hole, around, nth_hole, reach, ListIn, list_in, ListAt, list_within, list_of_node}
-use Rattle.meson_syntax.proofs.parsing.Steps.{some-injective}
-use Rattle.meson_syntax.proofs.paths.Reaching.{map-some, and-then-some}
-use Rattle.meson_edit.specs.Sequences.{DepthsGrow}
+use Rattle.meson_edit.proofs.Words.{option_map, ◌≡◌, ℕ, ◌+◌, ◌≤◌, List, [], ◌∷◌, Some, subst, Word, expression_depth, listing_depth, file_depth, Sort}
+use Rattle.meson_edit.proofs.Words.{of_expression, of_statement, of_block, Node, Hole, around, nth_hole, reach, ListIn, list_in, ListAt, list_within}
+use Rattle.meson_edit.proofs.Words.{list_of_node, Nowhere, Expression, array, dictionary, call, Listing, Block, File, file, some-injective, map-some}
+use Rattle.meson_edit.proofs.Words.{and-then-some, DepthsGrow}
 use Rattle.meson_edit.proofs.paths.Depths.{node_depth, Grows, child-grows}
 
 module _ (S : Type 0) where

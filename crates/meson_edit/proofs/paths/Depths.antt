@@ -1,15 +1,17 @@
 -- A thing with another node in one of its holes is no deeper than before by more than that node is.
-use Rattle.std.proofs.Common.{◌≡◌, ℕ, ◌+◌, ◌≤◌, Bool, List, [], ◌∷◌, ◌++◌, Some, arith}
-use Rattle.meson_lex.specs.declared.kinds.Kind.{Kind}
+use Rattle.meson_edit.proofs.Words.{◌≡◌, ℕ, ◌+◌, ◌≤◌, Bool, List, [], ◌∷◌, ◌++◌, Some, arith, Word, new_line, Kind, mark, comma_words, operator_words}
+use Rattle.meson_edit.proofs.Words.{expression_words, tail_words, tails_words, argument_words, arguments_words, statement_words, branches_words}
+use Rattle.meson_edit.proofs.Words.{otherwise_words, block_words, expression_depth, operands_depth, tail_depth, tails_depth, listing_depth, argument_depth}
+use Rattle.meson_edit.proofs.Words.{arguments_depth, statement_depth, branches_depth, otherwise_depth, statements_depth, block_depth, opens, closes, Sort}
+use Rattle.meson_edit.proofs.Words.{of_expression, of_statement, of_block, Node, Hole, all_around, argument_children, arguments_children, listing_children}
+use Rattle.meson_edit.proofs.Words.{operands_children, tail_children, tails_children, expression_children, branches_children, otherwise_children}
+use Rattle.meson_edit.proofs.Words.{statement_children, statements_children, block_children, children, nth_hole, Expression, identifier, boolean, integer}
+use Rattle.meson_edit.proofs.Words.{string, paren, array, dictionary, call, unary, row, postfix, conditional, Operands, no_operands, operand, Tail, method}
+use Rattle.meson_edit.proofs.Words.{index, Tails, no_tails, tail, Listing, listing, Argument, plain, named, pair, Arguments, no_arguments, argument, Statement}
+use Rattle.meson_edit.proofs.Words.{evaluate, assign, selection, iteration, breaks, continues, Branches, no_branches, branch, Otherwise, nothing_else}
+use Rattle.meson_edit.proofs.Words.{otherwise, Statements, no_statements, statement, Block, block, Bracket, Every, every-append, every-around, every-nth}
 use Rattle.meson_lex.specs.declared.kinds.Kind.TheVariants as k
-use Rattle.meson_lex.specs.Significant.{Word, new_line}
-use Rattle.meson_syntax.specs.declared.operator.Bracket.{Bracket}
 use Rattle.meson_syntax.specs.declared.operator.Bracket.TheVariants as bracket
-use Rattle.meson_syntax.specs.Operators.{opens, closes}
-use Rattle.meson_syntax.specs.Tree.{Expression, identifier, boolean, integer, string, paren, array, dictionary, call, unary, row, postfix, conditional, Operands, no_operands, operand, Tail, method, index, Tails, no_tails, tail, Listing, listing, Argument, plain, named, pair, Arguments, no_arguments, argument, Statement, evaluate, assign, selection, iteration, breaks, continues, Branches, no_branches, branch, Otherwise, nothing_else, otherwise, Statements, no_statements, statement, Block, block}
-use Rattle.meson_syntax.specs.Grammar.{mark, comma_words, operator_words, expression_words, tail_words, tails_words, argument_words, arguments_words, statement_words, branches_words, otherwise_words, block_words, expression_depth, operands_depth, tail_depth, tails_depth, listing_depth, argument_depth, arguments_depth, statement_depth, branches_depth, otherwise_depth, statements_depth, block_depth}
-use Rattle.meson_syntax.specs.Paths.{Sort, of_expression, of_statement, of_block, Node, Hole, all_around, argument_children, arguments_children, listing_children, operands_children, tail_children, tails_children, expression_children, branches_children, otherwise_children, statement_children, statements_children, block_children, children, nth_hole}
-use Rattle.meson_syntax.proofs.paths.Every.{Every, every-append, every-around, every-nth}
 
 module _ (S : Type 0) where
   abbrev pub node_depth : (sort : Sort) → Node sort S → ℕ

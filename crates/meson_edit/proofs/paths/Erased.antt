@@ -1,13 +1,8 @@
 -- A path names the same in a tree and in the tree without its spans.
-use Rattle.std.specs.Prelude.{option_map}
-use Rattle.std.proofs.Common.{◌≡◌, ℕ, List, Option, Some, refl, ap, ap₂, subst, ◌∙◌}
-use Rattle.meson_lex.specs.declared.kinds.Span.{Span}
-use Rattle.meson_syntax.specs.Tree.{Nowhere, Block, File, erase, erase_block, erase_listing}
-use Rattle.meson_syntax.specs.Paths.{Sort, of_expression, of_statement, of_block, Node, Hole, reach, block_of, ListAt, list_at}
-use Rattle.meson_edit.specs.Blocks.{BlockAt, block_of_node}
-use Rattle.meson_edit.specs.Moves.{each_block}
-use Rattle.meson_edit.specs.MappedPaths.{each_node, MapsHole, maps, MapsList, InBoth, neither, both}
-use Rattle.meson_edit.specs.Holes.{words_around, erase_node, erase_front, list_front, erase_list_front, NodesErase, ListsErase, BlocksErase}
+use Rattle.meson_edit.proofs.Words.{option_map, ◌≡◌, ℕ, List, Option, Some, refl, ap, ap₂, subst, ◌∙◌, Span, Sort, of_expression, of_statement, of_block, Node}
+use Rattle.meson_edit.proofs.Words.{Hole, reach, block_of, ListAt, list_at, Nowhere, Block, File, erase, erase_block, erase_listing, BlockAt, block_of_node}
+use Rattle.meson_edit.proofs.Words.{words_around, erase_node, erase_front, list_front, erase_list_front, NodesErase, ListsErase, BlocksErase, each_node}
+use Rattle.meson_edit.proofs.Words.{MapsHole, maps, MapsList, InBoth, neither, both, each_block}
 use Rattle.meson_edit.proofs.kept.Each.{then-both, nodes-map}
 use Rattle.meson_edit.proofs.kept.EachNothing.{nothing, expression-nothing, statement-nothing, block-nothing, listing-nothing, file-nothing, lists-without}
 

@@ -1,21 +1,10 @@
 -- A tree of the code in which a list is exchanged stands in the new text, and exchanged back it is the old value.
-use Rattle.std.proofs.Common.{rules, ◌≡◌, ℕ, ◌+◌, List, ◌++◌, length, Some, refl, sym, ap, subst, ◌∙◌, length-append, arith}
-use Rattle.meson_lex.specs.declared.kinds.Span.{Span}
-use Rattle.meson_syntax.specs.declared.source.Limits.{Limits}
+use Rattle.meson_edit.proofs.Words.{rules, ◌≡◌, ℕ, ◌+◌, List, ◌++◌, length, Some, refl, sym, ap, subst, ◌∙◌, length-append, arith, Span, listing_depth}
+use Rattle.meson_edit.proofs.Words.{with_list, moved_list, moved_parsed, span_by, moved, ListAt, list_at, list_span, ReadsWithin, IsSpannedWithin, texts_of}
+use Rattle.meson_edit.proofs.Words.{texts_of_listing, Listing, listing, File, erase, erase_listing, list_view, view, Limits, Parsed, each_file, each_listing}
+use Rattle.meson_edit.proofs.Words.{with_span, StaysThere}
 use Rattle.meson_syntax.specs.declared.tree.Arg.TheFolds.{the_lemmas}
 use Rattle.meson_syntax.specs.declared.tree.List as rust
-use Rattle.meson_syntax.specs.declared.tree.Parsed.{Parsed}
-use Rattle.meson_syntax.specs.Tree.{Listing, listing, File, erase, erase_listing}
-use Rattle.meson_syntax.specs.Grammar.{listing_depth}
-use Rattle.meson_syntax.specs.Reads.{ReadsWithin, IsSpannedWithin}
-use Rattle.meson_syntax.specs.Paths.{ListAt, list_at, list_span}
-use Rattle.meson_syntax.specs.View.{list_view, view}
-use Rattle.meson_syntax.specs.Texts.{texts_of, texts_of_listing}
-use Rattle.meson_edit.specs.Moves.{each_file, each_listing}
-use Rattle.meson_syntax.specs.Moving.{span_by, moved}
-use Rattle.meson_syntax.specs.MovedCode.{moved_list, moved_parsed}
-use Rattle.meson_syntax.specs.ListPut.{with_list}
-use Rattle.meson_edit.specs.PutLists.{with_span}
 use Rattle.meson_edit.proofs.kept.Each.{in-other, lists-map}
 use Rattle.meson_edit.proofs.kept.EachErased.{listing-each}
 use Rattle.meson_edit.proofs.kept.EachNothing.{lists-put-erase}
@@ -26,7 +15,6 @@ use Rattle.meson_edit.proofs.kept.PutLists.{put-lists-look, found-lists-look, li
 use Rattle.meson_syntax.proofs.texts.Spanned.{spanned-texts}
 use Rattle.meson_edit.proofs.kept.Views.{views-tell, views-move, list-views-move}
 use Rattle.meson_edit.specs.ExchangedTrees.{IsExchange, tree_with, TreesExchange, OldListsLook, TreesExchangeBack}
-use Rattle.meson_edit.specs.Sequences.{StaysThere}
 use Rattle.meson_edit.proofs.paths.PutBack.{lists-put-back}
 use Rattle.meson_edit.proofs.paths.PutThere.{lists-there}
 

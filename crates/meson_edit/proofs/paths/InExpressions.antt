@@ -1,15 +1,12 @@
 -- The children of an expression stay where they are when another node is put in the place of one.
-use Rattle.std.specs.Prelude.{⊤}
-use Rattle.std.proofs.Common.{◌≡◌, ℕ, Bool, List, [], ◌∷◌, ◌++◌, length, refl, ap, sym, ◌∙◌, arith}
-use Rattle.std.proofs.lemmas.List.{append-nil}
+use Rattle.meson_edit.proofs.Words.{⊤, ◌≡◌, ℕ, Bool, List, [], ◌∷◌, ◌++◌, length, refl, ap, sym, ◌∙◌, arith, append-nil, Word, mark, comma_words}
+use Rattle.meson_edit.proofs.Words.{operator_words, expression_words, operands_words, tail_words, tails_words, argument_words, arguments_words, opens, closes}
+use Rattle.meson_edit.proofs.Words.{Hole, all_around, expression_in, argument_children, arguments_children, listing_children, operands_children, tail_children}
+use Rattle.meson_edit.proofs.Words.{tails_children, expression_children, Expression, identifier, boolean, integer, string, paren, array, dictionary, call}
+use Rattle.meson_edit.proofs.Words.{unary, row, postfix, conditional, Operands, no_operands, operand, Tail, method, index, Tails, no_tails, tail, Listing}
+use Rattle.meson_edit.proofs.Words.{listing, Argument, plain, named, pair, Arguments, no_arguments, argument, Bracket}
 use Rattle.meson_lex.specs.declared.kinds.Kind.TheVariants as k
-use Rattle.meson_lex.specs.Significant.{Word}
-use Rattle.meson_syntax.specs.declared.operator.Bracket.{Bracket}
 use Rattle.meson_syntax.specs.declared.operator.Bracket.TheVariants as bracket
-use Rattle.meson_syntax.specs.Operators.{opens, closes}
-use Rattle.meson_syntax.specs.Tree.{Expression, identifier, boolean, integer, string, paren, array, dictionary, call, unary, row, postfix, conditional, Operands, no_operands, operand, Tail, method, index, Tails, no_tails, tail, Listing, listing, Argument, plain, named, pair, Arguments, no_arguments, argument}
-use Rattle.meson_syntax.specs.Grammar.{mark, comma_words, operator_words, expression_words, operands_words, tail_words, tails_words, argument_words, arguments_words}
-use Rattle.meson_syntax.specs.Paths.{Hole, all_around, expression_in, argument_children, arguments_children, listing_children, operands_children, tail_children, tails_children, expression_children}
 use Rattle.meson_edit.proofs.paths.Positions.{EveryAt, every-at-append, length-around, Stays, part-stays}
 
 module _ (S : Type 0) where

@@ -1,12 +1,10 @@
 -- The children of a statement and of a block stay where they are when another node is put in the place of one.
-use Rattle.std.proofs.Common.{ℕ, List, [], ◌∷◌, ◌++◌, length, refl, ap, sym, arith}
-use Rattle.std.proofs.lemmas.List.{append-nil}
-use Rattle.meson_lex.specs.declared.kinds.Kind.{Kind}
+use Rattle.meson_edit.proofs.Words.{ℕ, List, [], ◌∷◌, ◌++◌, length, refl, ap, sym, arith, append-nil, Word, new_line, Kind, mark, expression_words}
+use Rattle.meson_edit.proofs.Words.{statement_words, branches_words, otherwise_words, statements_words, block_words, of_statement, Hole, all_around}
+use Rattle.meson_edit.proofs.Words.{expression_in, block_in, branches_children, otherwise_children, statement_children, statements_children, block_children}
+use Rattle.meson_edit.proofs.Words.{Statement, evaluate, assign, selection, iteration, breaks, continues, Branches, no_branches, branch, Otherwise}
+use Rattle.meson_edit.proofs.Words.{nothing_else, otherwise, Statements, no_statements, statement, Block, block}
 use Rattle.meson_lex.specs.declared.kinds.Kind.TheVariants as k
-use Rattle.meson_lex.specs.Significant.{Word, new_line}
-use Rattle.meson_syntax.specs.Tree.{Statement, evaluate, assign, selection, iteration, breaks, continues, Branches, no_branches, branch, Otherwise, nothing_else, otherwise, Statements, no_statements, statement, Block, block}
-use Rattle.meson_syntax.specs.Grammar.{mark, expression_words, statement_words, branches_words, otherwise_words, statements_words, block_words}
-use Rattle.meson_syntax.specs.Paths.{of_statement, Hole, all_around, expression_in, block_in, branches_children, otherwise_children, statement_children, statements_children, block_children}
 use Rattle.meson_edit.proofs.paths.Positions.{EveryAt, every-at-append, length-around, part-stays}
 use Rattle.meson_edit.proofs.paths.InExpressions.{AnyLike, StaysIn}
 

@@ -1,9 +1,6 @@
 -- Holes by their numbers: what stands in a list at a number, and stays there when another node is put into a hole.
-use Rattle.std.specs.Prelude.{⊤, option_map}
-use Rattle.std.proofs.Common.{◌≡◌, ℕ, zero, suc, ◌+◌, List, [], ◌∷◌, ◌++◌, map, length, Some, refl, ap, sym, subst, ◌∙◌, arith}
-use Rattle.meson_lex.specs.Significant.{Word}
-use Rattle.meson_syntax.specs.Paths.{Node, Hole, around, all_around, nth}
-use Rattle.meson_syntax.proofs.parsing.Steps.{some-injective}
+use Rattle.meson_edit.proofs.Words.{⊤, option_map, ◌≡◌, ℕ, zero, suc, ◌+◌, List, [], ◌∷◌, ◌++◌, map, length, Some, refl, ap, sym, subst, ◌∙◌, arith, Word, Node}
+use Rattle.meson_edit.proofs.Words.{Hole, around, all_around, nth, some-injective}
 
 -- ---- lists
 

@@ -1,19 +1,11 @@
 -- An exchange of a list is undone by the exchange back.
-use Rattle.std.proofs.Common.{◌≡◌, ℕ, ◌+◌, List, ◌++◌, length, Some, refl, sym, ap, subst, ◌∙◌, length-append, arith}
-use Rattle.meson_lex.specs.declared.kinds.Span.{Span}
-use Rattle.meson_syntax.specs.Tree.{Nowhere, Listing, File, erase, erase_listing}
-use Rattle.meson_syntax.specs.Grammar.{listing_depth}
-use Rattle.meson_syntax.specs.Reads.{ReadsWithin, IsSpannedWithin}
-use Rattle.meson_syntax.specs.ReadsList.{IsSpannedListWithin}
-use Rattle.meson_syntax.specs.Paths.{ListAt, list_at, list_span}
-use Rattle.meson_edit.specs.Moves.{each_file, each_listing}
-use Rattle.meson_syntax.specs.Moving.{span_by, moved}
-use Rattle.meson_syntax.proofs.paths.Reaching.{list-fits}
+use Rattle.meson_edit.proofs.Words.{◌≡◌, ℕ, ◌+◌, List, ◌++◌, length, Some, refl, sym, ap, subst, ◌∙◌, length-append, arith, Span, listing_depth, span_by, moved}
+use Rattle.meson_edit.proofs.Words.{ListAt, list_at, list_span, ReadsWithin, IsSpannedWithin, IsSpannedListWithin, Nowhere, Listing, File, erase, erase_listing}
+use Rattle.meson_edit.proofs.Words.{one-spanned-within, one-spanned-list, list-fits, each_file, each_listing}
 use Rattle.meson_edit.proofs.kept.Each.{in-both, in-other, lists-map}
 use Rattle.meson_edit.proofs.kept.EachNothing.{listing-nothing, lists-without, lists-put-erase}
 use Rattle.meson_edit.proofs.kept.Kept.{moved-place, lists-kept}
 use Rattle.meson_edit.proofs.kept.ListsAlone.{lists-alone}
-use Rattle.meson_syntax.proofs.parsing.OneSpanned.{one-spanned-within, one-spanned-list}
 use Rattle.meson_edit.specs.PutBack.{ListsPutBack}
 use Rattle.meson_edit.proofs.paths.PutThere.{lists-there}
 

@@ -1,12 +1,8 @@
 -- What is put where a path leads is found there.
-use Rattle.std.specs.Prelude.{option_map, option_and_then}
-use Rattle.std.proofs.Common.{◌≡◌, ℕ, List, [], ◌∷◌, Some, refl, ap, subst, ◌∙◌, arith}
-use Rattle.meson_lex.specs.Significant.{Word}
-use Rattle.meson_syntax.specs.Tree.{Nowhere, Expression, array, dictionary, call, Listing, Block, File, file}
-use Rattle.meson_syntax.specs.Paths.{Sort, of_expression, of_statement, of_block, Node, Hole, around, children, nth_hole, reach, ListIn, list_in, ListAt, list_within, list_of_node, list_at}
-use Rattle.meson_syntax.proofs.parsing.Steps.{some-injective}
-use Rattle.meson_syntax.proofs.paths.Reaching.{map-some, and-then-some}
-use Rattle.meson_edit.specs.Sequences.{StaysThere, ListsStay}
+use Rattle.meson_edit.proofs.Words.{option_map, option_and_then, ◌≡◌, ℕ, List, [], ◌∷◌, Some, refl, ap, subst, ◌∙◌, arith, Word, Sort, of_expression}
+use Rattle.meson_edit.proofs.Words.{of_statement, of_block, Node, Hole, around, children, nth_hole, reach, ListIn, list_in, ListAt, list_within, list_of_node}
+use Rattle.meson_edit.proofs.Words.{list_at, Nowhere, Expression, array, dictionary, call, Listing, Block, File, file, some-injective, map-some, and-then-some}
+use Rattle.meson_edit.proofs.Words.{StaysThere, ListsStay}
 use Rattle.meson_edit.proofs.paths.Positions.{EveryAt, every-at-nth, with_node}
 use Rattle.meson_edit.proofs.paths.InExpressions.{StaysIn, expression-stays}
 use Rattle.meson_edit.proofs.paths.InStatements.{statement-stays, block-stays}

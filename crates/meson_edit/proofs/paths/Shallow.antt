@@ -1,16 +1,14 @@
 -- What stands in a tree is no deeper than the tree.
-use Rattle.std.specs.Prelude.{option_map}
-use Rattle.std.proofs.Common.{◌≡◌, ℕ, ◌≤◌, List, [], ◌∷◌, Some, sym, ap, ◌∙◌, subst, arith}
-use Rattle.meson_syntax.specs.Tree.{Nowhere, Expression, paren, array, dictionary, call, unary, row, postfix, conditional, Operands, no_operands, operand, method, index, Tails, no_tails, tail, listing, plain, named, pair, Arguments, no_arguments, argument, evaluate, assign, selection, iteration, Branches, no_branches, branch, nothing_else, otherwise, Statements, no_statements, statement, block, file}
-use Rattle.meson_syntax.specs.Grammar.{expression_depth, operands_depth, tails_depth, listing_depth, arguments_depth, statement_depth, branches_depth, statements_depth, block_depth}
+use Rattle.meson_edit.proofs.Words.{option_map, ◌≡◌, ℕ, ◌≤◌, List, [], ◌∷◌, Some, sym, ap, ◌∙◌, subst, arith, expression_depth, operands_depth, tails_depth}
+use Rattle.meson_edit.proofs.Words.{listing_depth, arguments_depth, statement_depth, branches_depth, statements_depth, block_depth, ListAt, ListIn}
+use Rattle.meson_edit.proofs.Words.{expression_on_path, list_in, nth, Nowhere, Expression, paren, array, dictionary, call, unary, row, postfix, conditional}
+use Rattle.meson_edit.proofs.Words.{Operands, no_operands, operand, method, index, Tails, no_tails, tail, listing, plain, named, pair, Arguments, no_arguments}
+use Rattle.meson_edit.proofs.Words.{argument, evaluate, assign, selection, iteration, Branches, no_branches, branch, nothing_else, otherwise, Statements}
+use Rattle.meson_edit.proofs.Words.{no_statements, statement, block, file, some-injective, Every, every-append, every-nth, map-some, and-then-some}
+use Rattle.meson_edit.proofs.Words.{ListsAreShallow}
 use Rattle.meson_syntax.specs.Children.{Any, an_expression, a_statement, a_block, arguments_parts, branches_parts}
 use Rattle.meson_syntax.specs.inside.Children.{child_nodes, expression_any, node_at, operands_parts, statements_parts, tails_parts}
-use Rattle.meson_syntax.specs.Paths.{ListAt, ListIn, expression_on_path, list_in, nth}
 use Rattle.meson_syntax.proofs.PathNodes.{expression-reached, list-reached}
-use Rattle.meson_syntax.proofs.parsing.Steps.{some-injective}
-use Rattle.meson_syntax.proofs.paths.Every.{Every, every-append, every-nth}
-use Rattle.meson_syntax.proofs.paths.Reaching.{map-some, and-then-some}
-use Rattle.meson_edit.specs.Sequences.{ListsAreShallow}
 
 module _ {S : Type 0} where
   abbrev depth_of : Any S → ℕ

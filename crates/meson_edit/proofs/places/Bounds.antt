@@ -1,20 +1,14 @@
 -- The first and the last token of a node, and its span.
-use Rattle.std.proofs.Common.{◌≡◌, ℕ, Bool, List, [], ◌∷◌, ◌++◌, sym, ap, ◌∙◌, append_assoc, subst}
-use Rattle.std.proofs.lemmas.List.{append-nil}
-use Rattle.meson_lex.specs.declared.kinds.Kind.{Kind}
+use Rattle.meson_edit.proofs.Words.{◌≡◌, ℕ, Bool, List, [], ◌∷◌, ◌++◌, sym, ap, ◌∙◌, append_assoc, subst, append-nil, Token, Kind, Span, HasOperand, HasTail}
+use Rattle.meson_edit.proofs.Words.{HasBranch, row_level, string_kind, boolean_kind, unary_kind, opens, closes, Covers, One, IsOneToken, Then, SpellsExpression}
+use Rattle.meson_edit.proofs.Words.{SpellsOperands, SpellsTail, SpellsTails, SpellsListing, SpellsArgument, SpellsBranches, SpellsStatement, Expression}
+use Rattle.meson_edit.proofs.Words.{identifier, boolean, integer, string, paren, array, dictionary, call, unary, row, postfix, conditional, Operands}
+use Rattle.meson_edit.proofs.Words.{no_operands, operand, Tail, method, index, Tails, no_tails, tail, Listing, listing, Argument, plain, named, pair, Branches}
+use Rattle.meson_edit.proofs.Words.{no_branches, branch, Statement, evaluate, assign, selection, iteration, breaks, continues, Bracket, IsOwnKind, boolean-own}
+use Rattle.meson_edit.proofs.Words.{closes-own, listing-covers, opens-own, string-own, unary-own, IsOwn, expression_span, argument_span, statement_span}
 use Rattle.meson_lex.specs.declared.kinds.Kind.TheVariants as k
-use Rattle.meson_lex.specs.declared.kinds.Span.{Span}
-use Rattle.meson_lex.specs.Located.{Token}
-use Rattle.meson_syntax.specs.declared.operator.Bracket.{Bracket}
 use Rattle.meson_syntax.specs.declared.operator.Bracket.TheVariants as bracket
-use Rattle.meson_syntax.specs.Operators.{string_kind, boolean_kind, unary_kind, opens, closes}
-use Rattle.meson_syntax.specs.Tree.{Expression, identifier, boolean, integer, string, paren, array, dictionary, call, unary, row, postfix, conditional, Operands, no_operands, operand, Tail, method, index, Tails, no_tails, tail, Listing, listing, Argument, plain, named, pair, Branches, no_branches, branch, Statement, evaluate, assign, selection, iteration, breaks, continues}
-use Rattle.meson_syntax.specs.Grammar.{HasOperand, HasTail, HasBranch, row_level}
-use Rattle.meson_syntax.specs.Spelling.{Covers, One, IsOneToken, Then, SpellsExpression, SpellsOperands, SpellsTail, SpellsTails, SpellsListing, SpellsArgument, SpellsBranches, SpellsStatement}
-use Rattle.meson_edit.specs.Standing.{expression_span, argument_span, statement_span}
-use Rattle.meson_syntax.proofs.places.Spots.{IsOwn}
 use Rattle.meson_edit.proofs.places.Owned.{Bounded}
-use Rattle.meson_syntax.proofs.places.Covers.{IsOwnKind, boolean-own, closes-own, listing-covers, opens-own, string-own, unary-own}
 
 record Begins (ts : List Token) : Type 0 where
   first : Token

@@ -1,15 +1,8 @@
 -- The elements of a list among the items of its text, by their words.
-use Rattle.std.proofs.Common.{◌≡◌, ℕ, Bool, List, [], ◌∷◌, ◌++◌, map, Some, refl, ap, subst, ◌∙◌}
-use Rattle.meson_lex.specs.declared.kinds.Span.{Span}
-use Rattle.meson_lex.specs.Located.{Token, words}
-use Rattle.meson_syntax.specs.Tree.{Expression, array, dictionary, call, Listing, listing, Argument, Arguments, no_arguments, argument}
-use Rattle.meson_syntax.specs.Grammar.{comma_words, argument_words, arguments_words}
-use Rattle.meson_syntax.specs.Spelling.{SpellsExpression, SpellsListing}
-use Rattle.meson_syntax.specs.Paths.{ListIn, list_in, inner_words, ElementAt, elements_at, element_at}
-use Rattle.meson_syntax.proofs.parsing.Steps.{some-injective}
-use Rattle.meson_syntax.proofs.parsing.Words.{name-words}
-use Rattle.meson_syntax.proofs.paths.Every.{Every, every-nth}
-use Rattle.meson_syntax.proofs.places.Elements.{push-group}
+use Rattle.meson_edit.proofs.Words.{◌≡◌, ℕ, Bool, List, [], ◌∷◌, ◌++◌, map, Some, refl, ap, subst, ◌∙◌, Token, words, Span, comma_words, argument_words}
+use Rattle.meson_edit.proofs.Words.{arguments_words, ListIn, list_in, inner_words, ElementAt, elements_at, element_at, SpellsExpression, SpellsListing}
+use Rattle.meson_edit.proofs.Words.{Expression, array, dictionary, call, Listing, listing, Argument, Arguments, no_arguments, argument, some-injective}
+use Rattle.meson_edit.proofs.Words.{name-words, Every, every-nth, push-group}
 
 -- The tokens of the list of an array, a dictionary or a call.
 pub record ListInside (l : ListIn Span) (d : ℕ) (ts : List Token) : Type 0 where

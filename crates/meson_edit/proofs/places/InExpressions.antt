@@ -1,24 +1,21 @@
 -- The tokens of an expression's children, and another child among them.
-use Rattle.std.proofs.Common.{◌≡◌, ℕ, ◌+◌, ◌<◌, ◌≤◌, Bool, false, List, [], ◌∷◌, ◌++◌, map, refl, sym, ap, subst, ◌∙◌, append_assoc, arith}
-use Rattle.std.proofs.lemmas.List.{append-nil}
+use Rattle.meson_edit.proofs.Words.{◌≡◌, ℕ, ◌+◌, ◌<◌, ◌≤◌, Bool, false, List, [], ◌∷◌, ◌++◌, map, refl, sym, ap, subst, ◌∙◌, append_assoc, arith, append-nil}
+use Rattle.meson_edit.proofs.Words.{Token, words, Span, mark, comma_words, operator_words, expression_words, operands_words, tail_words, tails_words}
+use Rattle.meson_edit.proofs.Words.{argument_words, arguments_words, looseness, row_level, HasOperand, HasTail, Flagged, operands_depth, tail_depth}
+use Rattle.meson_edit.proofs.Words.{tails_depth, listing_depth, argument_depth, arguments_depth, operator_kind, operator_rest, unary_kind, opens, closes}
+use Rattle.meson_edit.proofs.Words.{of_expression, argument_children, arguments_children, listing_children, operands_children, tail_children, tails_children}
+use Rattle.meson_edit.proofs.Words.{expression_children, Comma, SpellsExpression, SpellsOperands, SpellsTail, SpellsTails, SpellsListing, SpellsArguments}
+use Rattle.meson_edit.proofs.Words.{SpellsArgument, Expression, identifier, boolean, integer, string, paren, array, dictionary, call, unary, row, postfix}
+use Rattle.meson_edit.proofs.Words.{conditional, Operands, no_operands, operand, Tail, method, index, Tails, no_tails, tail, Listing, listing, Argument, plain}
+use Rattle.meson_edit.proofs.Words.{named, pair, is_named, Arguments, no_arguments, argument, Bracket, opens-drops, closes-drops, unary-drops, operator-drops}
+use Rattle.meson_edit.proofs.Words.{rest-drops, name-words, one-words, each-words, then-words, comma-words, expression-words, operands-words, tail-words}
+use Rattle.meson_edit.proofs.Words.{tails-words, argument-words, arguments-words, Every, every-append, join-words}
 use Rattle.meson_lex.specs.declared.kinds.Kind.TheVariants as k
-use Rattle.meson_lex.specs.declared.kinds.Span.{Span}
-use Rattle.meson_lex.specs.Located.{Token, words}
-use Rattle.meson_syntax.specs.declared.operator.Bracket.{Bracket}
 use Rattle.meson_syntax.specs.declared.operator.Bracket.TheVariants as bracket
-use Rattle.meson_syntax.specs.Operators.{operator_kind, operator_rest, unary_kind, opens, closes}
-use Rattle.meson_syntax.specs.Tree.{Expression, identifier, boolean, integer, string, paren, array, dictionary, call, unary, row, postfix, conditional, Operands, no_operands, operand, Tail, method, index, Tails, no_tails, tail, Listing, listing, Argument, plain, named, pair, is_named, Arguments, no_arguments, argument}
-use Rattle.meson_syntax.specs.Grammar.{mark, comma_words, operator_words, expression_words, operands_words, tail_words, tails_words, argument_words, arguments_words, looseness, row_level, HasOperand, HasTail, Flagged, operands_depth, tail_depth, tails_depth, listing_depth, argument_depth, arguments_depth}
-use Rattle.meson_syntax.specs.Spelling.{Comma, SpellsExpression, SpellsOperands, SpellsTail, SpellsTails, SpellsListing, SpellsArguments, SpellsArgument}
-use Rattle.meson_syntax.specs.Paths.{of_expression, argument_children, arguments_children, listing_children, operands_children, tail_children, tails_children, expression_children}
-use Rattle.meson_syntax.proofs.parsing.Marks.{opens-drops, closes-drops, unary-drops, operator-drops, rest-drops}
-use Rattle.meson_syntax.proofs.parsing.Words.{name-words, one-words, each-words, then-words, comma-words, expression-words, operands-words, tail-words, tails-words, argument-words, arguments-words}
 use Rattle.meson_syntax.proofs.parsing.WithinExpressions.{both}
-use Rattle.meson_syntax.proofs.paths.Every.{Every, every-append}
 use Rattle.meson_edit.proofs.places.SameEnds.{cover}
 use Rattle.meson_edit.proofs.places.Joined.{next, regrouped, alone, next-last, next-third, next-inner, deeper}
 use Rattle.meson_edit.proofs.places.Inside.{SpellsOther, InHole, part-holes, last-part, whole-part, holds}
-use Rattle.meson_syntax.proofs.places.Pairs.{join-words}
 
 -- ---- lists cut into parts
 

@@ -1,26 +1,17 @@
 -- The tokens of a statement's and a block's children, and of the node that a path names; and another node among them.
-use Rattle.std.specs.Prelude.{option_map}
-use Rattle.std.proofs.Common.{◌≡◌, ℕ, ◌≤◌, List, [], ◌∷◌, ◌++◌, Some, refl, sym, ap, subst, ◌∙◌, append_assoc, arith}
-use Rattle.meson_lex.specs.declared.kinds.Kind.{Kind}
+use Rattle.meson_edit.proofs.Words.{option_map, ◌≡◌, ℕ, ◌≤◌, List, [], ◌∷◌, ◌++◌, Some, refl, sym, ap, subst, ◌∙◌, append_assoc, arith, Token, words, kept}
+use Rattle.meson_edit.proofs.Words.{new_line, Kind, Span, mark, names_words, expression_words, statement_words, branches_words, otherwise_words, block_words}
+use Rattle.meson_edit.proofs.Words.{HasBranch, branches_depth, otherwise_depth, statements_depth, assignment_kind, Sort, of_expression, of_statement, of_block}
+use Rattle.meson_edit.proofs.Words.{Node, Hole, around, branches_children, otherwise_children, statement_children, statements_children, block_children}
+use Rattle.meson_edit.proofs.Words.{children, nth_hole, reach, CoversBlock, NewLine, SpellsExpression, SpellsStatement, SpellsBranches, SpellsOtherwise}
+use Rattle.meson_edit.proofs.Words.{SpellsStatements, SpellsBlock, Statement, evaluate, assign, selection, iteration, breaks, continues, Branches, no_branches}
+use Rattle.meson_edit.proofs.Words.{branch, Otherwise, nothing_else, otherwise, Statements, no_statements, statement, Block, block, new-line-words, names-words}
+use Rattle.meson_edit.proofs.Words.{statement-words, branches-words, otherwise-words, statements-words, block-words, assignment-drops, some-injective}
+use Rattle.meson_edit.proofs.Words.{name-words, one-words, then-words, expression-words, Every, every-append, every-nth, map-some, and-then-some, join-words}
 use Rattle.meson_lex.specs.declared.kinds.Kind.TheVariants as k
-use Rattle.meson_lex.specs.declared.kinds.Span.{Span}
-use Rattle.meson_lex.specs.Significant.{kept, new_line}
-use Rattle.meson_lex.specs.Located.{Token, words}
-use Rattle.meson_syntax.specs.Operators.{assignment_kind}
-use Rattle.meson_syntax.specs.Tree.{Statement, evaluate, assign, selection, iteration, breaks, continues, Branches, no_branches, branch, Otherwise, nothing_else, otherwise, Statements, no_statements, statement, Block, block}
-use Rattle.meson_syntax.specs.Grammar.{mark, names_words, expression_words, statement_words, branches_words, otherwise_words, block_words, HasBranch, branches_depth, otherwise_depth, statements_depth}
-use Rattle.meson_syntax.specs.Spelling.{CoversBlock, NewLine, SpellsExpression, SpellsStatement, SpellsBranches, SpellsOtherwise, SpellsStatements, SpellsBlock}
-use Rattle.meson_syntax.specs.Paths.{Sort, of_expression, of_statement, of_block, Node, Hole, around, branches_children, otherwise_children, statement_children, statements_children, block_children, children, nth_hole, reach}
-use Rattle.meson_syntax.proofs.parsing.Steps.{some-injective}
-use Rattle.meson_syntax.proofs.parsing.Marks.{assignment-drops}
-use Rattle.meson_syntax.proofs.parsing.Words.{name-words, one-words, then-words, expression-words}
-use Rattle.meson_syntax.proofs.parsing.FileWords.{new-line-words, names-words, statement-words, branches-words, otherwise-words, statements-words, block-words}
-use Rattle.meson_syntax.proofs.paths.Every.{Every, every-append, every-nth}
-use Rattle.meson_syntax.proofs.paths.Reaching.{map-some, and-then-some}
 use Rattle.meson_edit.proofs.places.SameEnds.{cover}
 use Rattle.meson_edit.proofs.places.Joined.{next, regrouped, alone, next-third, deeper, line-again}
 use Rattle.meson_edit.proofs.places.Inside.{SpellsNode, SpellsOther, Inside, InHole, hole-part, part-holes, last-part, whole-part, holds, holds-block}
-use Rattle.meson_syntax.proofs.places.Pairs.{join-words}
 use Rattle.meson_edit.proofs.places.InExpressions.{third-of, second-of, expression-inside}
 
 -- the tokens of a block behind its line end

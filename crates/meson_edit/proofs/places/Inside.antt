@@ -1,17 +1,9 @@
 -- The tokens of a node within others: those before it, its own, and those behind it; and what the others spell with another node there.
-use Rattle.std.proofs.Common.{◌≡◌, ℕ, ◌≤◌, List, [], ◌++◌, sym, ap, subst, ◌∙◌, append_assoc}
-use Rattle.std.proofs.lemmas.List.{append-nil}
-use Rattle.meson_lex.specs.declared.kinds.Span.{Span}
-use Rattle.meson_lex.specs.Significant.{Word}
-use Rattle.meson_lex.specs.Located.{Token, words}
-use Rattle.meson_syntax.specs.Tree.{Expression, Block}
-use Rattle.meson_syntax.specs.Grammar.{expression_depth, statement_depth, block_depth}
-use Rattle.meson_syntax.specs.Spelling.{SpellsExpression, SpellsStatement, SpellsBlock}
-use Rattle.meson_syntax.specs.Paths.{Sort, of_expression, of_statement, of_block, Node, Hole, around, all_around, expression_in, block_in}
-use Rattle.meson_syntax.proofs.paths.Every.{Every, every-around}
+use Rattle.meson_edit.proofs.Words.{◌≡◌, ℕ, ◌≤◌, List, [], ◌++◌, sym, ap, subst, ◌∙◌, append_assoc, append-nil, Token, words, Word, Span, expression_depth}
+use Rattle.meson_edit.proofs.Words.{statement_depth, block_depth, Sort, of_expression, of_statement, of_block, Node, Hole, around, all_around, expression_in}
+use Rattle.meson_edit.proofs.Words.{block_in, SpellsExpression, SpellsStatement, SpellsBlock, Expression, Block, Every, every-around, join-words}
 use Rattle.meson_syntax.proofs.paths.Fits.{AsTight}
 use Rattle.meson_edit.proofs.places.SameEnds.{SameEnds, ends-around}
-use Rattle.meson_syntax.proofs.places.Pairs.{join-words}
 
 -- a block knows where the token before it ends
 abbrev pub SpellsNode : (sort : Sort) → Node sort Span → ℕ → ℕ → List Token → Type 0

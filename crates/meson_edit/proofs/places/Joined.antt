@@ -1,8 +1,5 @@
 -- Parts that are spelled one after another, put together again as they stand around one of them.
-use Rattle.std.proofs.Common.{◌≡◌, ℕ, List, [], ◌∷◌, ◌++◌, refl, sym, subst, ◌∙◌, append_assoc}
-use Rattle.std.proofs.lemmas.List.{append-nil}
-use Rattle.meson_lex.specs.Located.{Token}
-use Rattle.meson_syntax.specs.Spelling.{Then, Deeper, NewLine}
+use Rattle.meson_edit.proofs.Words.{◌≡◌, ℕ, List, [], ◌∷◌, ◌++◌, refl, sym, subst, ◌∙◌, append_assoc, append-nil, Token, Then, Deeper, NewLine}
 
 pub next : {P Q : List Token → Type 0} (a b : List Token) → P a → Q b → Then P Q (a ++ b)
 next a b p q = record { front = a; back = b; joined = refl; first = p; second = q }

@@ -1,13 +1,7 @@
 -- From the tokens of a node to its items.
-use Rattle.std.proofs.Common.{◌≡◌, ℕ, ◌+◌, true, List, [], ◌∷◌, ◌++◌, length, refl, sym, ap, ap₂, ◌∙◌, subst, append_assoc, length-append, arith}
-use Rattle.meson_lex.specs.Items.{Lexeme, joined}
-use Rattle.meson_lex.specs.Significant.{kept, role, State, step, after, emitted}
-use Rattle.meson_lex.specs.Located.{Token, word_of, words, spots}
-use Rattle.meson_lex.proofs.Seams.{joined-append}
-use Rattle.meson_lex.proofs.TokenWords.{words-append, words-spots}
-use Rattle.meson_lex.specs.Words.{speaks, IsTight}
-use Rattle.meson_syntax.proofs.places.Spots.{after-append, emitted-append, speaks-emit, IsOwn, IsSilent, cut-item}
-use Rattle.meson_syntax.proofs.places.Pairs.{cut-pair}
+use Rattle.meson_edit.proofs.Words.{◌≡◌, ℕ, ◌+◌, true, List, [], ◌∷◌, ◌++◌, length, refl, sym, ap, ap₂, ◌∙◌, subst, append_assoc, length-append, arith, Lexeme}
+use Rattle.meson_edit.proofs.Words.{joined, Token, word_of, words, spots, kept, role, State, step, after, emitted, speaks, IsTight, joined-append, words-append}
+use Rattle.meson_edit.proofs.Words.{words-spots, cut-pair, after-append, emitted-append, speaks-emit, IsOwn, IsSilent, cut-item}
 
 pub emit-word : (s : State) (x : Lexeme) (t : Token) → speaks (role x.kind) ≡ true → word_of t ≡ (x.kind, kept x.kind x.text) → emitted s (x ∷ []) ≡ words (t ∷ [])
 emit-word s x t h e = ap (λ l. l ++ []) (speaks-emit (role x.kind) s (x.kind, kept x.kind x.text) h) ∙ ap (λ w. w ∷ []) (sym e)

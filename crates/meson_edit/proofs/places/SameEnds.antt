@@ -1,9 +1,5 @@
 -- Tokens that go from one border to another may be exchanged within others: a span or a block that covers all still does.
-use Rattle.std.proofs.Common.{◌≡◌, ℕ, List, [], ◌∷◌, ◌++◌, sym, ap, subst, ◌∙◌, append_assoc}
-use Rattle.meson_lex.specs.declared.kinds.Span.{Span}
-use Rattle.meson_lex.specs.Located.{Token}
-use Rattle.meson_syntax.specs.Spelling.{end_of, Covers, CoversBlock}
-use Rattle.meson_syntax.proofs.parsing.Steps.{end_of-append}
+use Rattle.meson_edit.proofs.Words.{◌≡◌, ℕ, List, [], ◌∷◌, ◌++◌, sym, ap, subst, ◌∙◌, append_assoc, Token, Span, end_of, Covers, CoversBlock, end_of-append}
 
 -- what covers the one among others covers the other one there
 pub record SameEnds (own new : List Token) : Type 0 where

@@ -1,32 +1,18 @@
 -- Where the nodes of a spanned tree stand among the items of its text.
-use Rattle.std.proofs.Common.{◌≡◌, ℕ, ◌+◌, Bool, true, false, List, [], ◌∷◌, ◌++◌, length, Some, refl, sym, ap, ap₂, subst, ◌∙◌, append_assoc, arith}
-use Rattle.std.proofs.lemmas.List.{append-nil}
-use Rattle.meson_lex.specs.declared.kinds.Span.{Span}
-use Rattle.meson_syntax.specs.declared.source.Limits.{Limits}
-use Rattle.meson_lex.specs.Items.{Lexeme, joined}
-use Rattle.meson_lex.specs.Significant.{Word, State, start, step, after, emitted, closing}
-use Rattle.meson_lex.specs.Located.{Token, words, spots, end_after, closing_at, located}
-use Rattle.meson_lex.proofs.TokenWords.{words-append, words-spots}
-use Rattle.meson_syntax.specs.Operators.{opens, closes}
-use Rattle.meson_syntax.specs.Tree.{Block, File, file}
-use Rattle.meson_syntax.specs.Spelling.{Covers, One, SpellsFile}
-use Rattle.meson_syntax.specs.Grammar.{expression_words, argument_words, statement_words}
-use Rattle.meson_syntax.specs.Paths.{Sort, of_expression, of_statement, of_block, Node, ElementAt, element_at, words_ahead, list_span, inner_words, Hole, reach, list_in, ListAt, list_within, list_of_node, list_at, block_of}
-use Rattle.meson_edit.specs.Standing.{expression_span, argument_span, statement_span, StandsAmongItems, NodeStands, ListStands, PartStands, ListPlaces}
-use Rattle.meson_syntax.specs.Reads.{IsSpannedWithin}
-use Rattle.meson_syntax.proofs.parsing.Words.{expression-words, argument-words}
-use Rattle.meson_syntax.proofs.parsing.FileWords.{statement-words}
-use Rattle.meson_syntax.proofs.paths.Reaching.{map-some, and-then-some}
-use Rattle.meson_syntax.proofs.places.Spots.{IsSilent}
-use Rattle.meson_syntax.proofs.places.Pairs.{cut-pair, join-words, joined-lengths, silent-closing, silent-nothing}
+use Rattle.meson_edit.proofs.Words.{◌≡◌, ℕ, ◌+◌, Bool, true, false, List, [], ◌∷◌, ◌++◌, length, Some, refl, sym, ap, ap₂, subst, ◌∙◌, append_assoc, arith}
+use Rattle.meson_edit.proofs.Words.{append-nil, Lexeme, joined, Token, words, spots, end_after, closing_at, located, Word, State, start, step, after, emitted}
+use Rattle.meson_edit.proofs.Words.{closing, Span, words-append, words-spots, expression_words, argument_words, statement_words, opens, closes, Sort}
+use Rattle.meson_edit.proofs.Words.{of_expression, of_statement, of_block, Node, ElementAt, element_at, words_ahead, list_span, inner_words, Hole, reach}
+use Rattle.meson_edit.proofs.Words.{list_in, ListAt, list_within, list_of_node, list_at, block_of, IsSpannedWithin, Covers, One, SpellsFile, Block, File, file}
+use Rattle.meson_edit.proofs.Words.{Limits, statement-words, expression-words, argument-words, map-some, and-then-some, opens-own, closes-own, covers-from}
+use Rattle.meson_edit.proofs.Words.{covers-to, ElementSpelled, list-spelled, cut-pair, join-words, joined-lengths, silent-closing, silent-nothing, NoLine}
+use Rattle.meson_edit.proofs.Words.{no-line-append, front-no-line, back-no-line, spoken-is, expression-no-line, argument-no-line, inner-no-line, IsSilent}
+use Rattle.meson_edit.proofs.Words.{expression_span, argument_span, statement_span, StandsAmongItems, NodeStands, ListStands, PartStands, ListPlaces}
 use Rattle.meson_edit.proofs.places.Owned.{Bounded, cut-own, right-words}
-use Rattle.meson_syntax.proofs.places.Covers.{opens-own, closes-own, covers-from, covers-to}
 use Rattle.meson_edit.proofs.places.Bounds.{bounded-expression, bounded-argument, bounded-statement, expression-covers, argument-covers, statement-covers}
 use Rattle.meson_edit.proofs.places.Inside.{SpellsNode, Inside}
 use Rattle.meson_edit.proofs.places.InStatements.{reach-inside}
-use Rattle.meson_syntax.proofs.places.Elements.{ElementSpelled, list-spelled}
 use Rattle.meson_edit.proofs.places.Elements.{list-inside, element-words}
-use Rattle.meson_syntax.proofs.places.Spoken.{NoLine, no-line-append, front-no-line, back-no-line, spoken-is, expression-no-line, argument-no-line, inner-no-line}
 use Rattle.meson_edit.proofs.places.Values.{value-spelled, ahead-no-line, apart}
 
 pub closing-words : (fresh : Bool) (end : ℕ) → words (closing_at fresh end) ≡ closing fresh

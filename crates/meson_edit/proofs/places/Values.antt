@@ -1,17 +1,9 @@
 -- The tokens of an element's value, behind those of the element's name or key where it has one.
-use Rattle.std.proofs.Common.{◌≡◌, ℕ, Bool, List, [], ◌∷◌, ◌++◌, Some, refl, sym, ap, subst, ◌∙◌, append_assoc}
+use Rattle.meson_edit.proofs.Words.{◌≡◌, ℕ, Bool, List, [], ◌∷◌, ◌++◌, Some, refl, sym, ap, subst, ◌∙◌, append_assoc, Token, words, Span, mark}
+use Rattle.meson_edit.proofs.Words.{expression_words, argument_words, value_of, words_ahead, SpellsExpression, SpellsArgument, Expression, Argument, plain}
+use Rattle.meson_edit.proofs.Words.{named, pair, Bracket, some-injective, expression-words, name-words, one-words, join-words, NoLine, front-no-line}
+use Rattle.meson_edit.proofs.Words.{argument-no-line}
 use Rattle.meson_lex.specs.declared.kinds.Kind.TheVariants as k
-use Rattle.meson_lex.specs.declared.kinds.Span.{Span}
-use Rattle.meson_lex.specs.Located.{Token, words}
-use Rattle.meson_syntax.specs.declared.operator.Bracket.{Bracket}
-use Rattle.meson_syntax.specs.Tree.{Expression, Argument, plain, named, pair}
-use Rattle.meson_syntax.specs.Grammar.{mark, expression_words, argument_words}
-use Rattle.meson_syntax.specs.Spelling.{SpellsExpression, SpellsArgument}
-use Rattle.meson_syntax.specs.Paths.{value_of, words_ahead}
-use Rattle.meson_syntax.proofs.parsing.Steps.{some-injective}
-use Rattle.meson_syntax.proofs.parsing.Words.{expression-words, name-words, one-words}
-use Rattle.meson_syntax.proofs.places.Pairs.{join-words}
-use Rattle.meson_syntax.proofs.places.Spoken.{NoLine, front-no-line, argument-no-line}
 
 -- the tokens of the value, where those of its element are ts
 pub record ValueSpelled (a : Argument Span) (v : Expression Span) (ts : List Token) : Type 0 where

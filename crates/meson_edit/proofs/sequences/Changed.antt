@@ -1,10 +1,6 @@
 -- The list that an edit names in a tree without spans, and its elements after the edit.
-use Rattle.std.specs.Prelude.{option_map}
-use Rattle.std.proofs.Common.{◌≡◌, ℕ, List, Some}
-use Rattle.meson_syntax.specs.Tree.{Nowhere, Plain, Argument}
-use Rattle.meson_syntax.specs.Paths.{ListAt, list_at}
-use Rattle.meson_syntax.proofs.paths.Reaching.{map-some, and-then-some}
-use Rattle.meson_edit.specs.Edits.{Edit, elements, with_elements, edited_elements, edited_list}
+use Rattle.meson_edit.proofs.Words.{option_map, ◌≡◌, ℕ, List, Some, ListAt, list_at, Nowhere, Plain, Argument, map-some, and-then-some, Edit, elements}
+use Rattle.meson_edit.proofs.Words.{with_elements, edited_elements, edited_list}
 
 pub record Changed (e : Edit) (path : List ℕ) (t now : Plain) : Type 0 where
   pub place : ListAt Nowhere

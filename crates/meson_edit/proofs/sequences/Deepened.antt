@@ -1,14 +1,10 @@
 -- A list after an edit is no deeper than before by more than what the edit puts in.
-use Rattle.std.specs.Prelude.{max}
-use Rattle.std.proofs.Common.{◌≡◌, ℕ, zero, suc, ◌+◌, ◌≤◌, List, [], ◌∷◌, ◌++◌, take, drop, Some, ap, subst, arith}
-use Rattle.meson_syntax.specs.Tree.{Nowhere, Plain, Expression, Listing, listing, Argument, plain, named, pair, arguments_of}
-use Rattle.meson_syntax.specs.Grammar.{expression_depth, listing_depth, argument_depth, arguments_depth, file_depth}
-use Rattle.meson_syntax.specs.Paths.{nth, value_of}
-use Rattle.meson_syntax.proofs.parsing.Steps.{some-injective}
-use Rattle.meson_syntax.proofs.parsing.Complete.{list-of-arguments}
-use Rattle.meson_syntax.proofs.paths.Reaching.{map-some}
-use Rattle.meson_edit.specs.Edits.{Edit, First, After, Remove, Replace, Wrap, RemoveStatement, Append, elements, with_elements, with_value, array_of, first_element, element_added, element_removed, edited_elements, edited_list}
-use Rattle.meson_edit.specs.Sequences.{new_depth, EditsDeepen, RemovalsStayWithin, FirstsStayWithin, InsertionsStayWithin, EditsDeepenByOne}
+use Rattle.meson_edit.proofs.Words.{max, ◌≡◌, ℕ, zero, suc, ◌+◌, ◌≤◌, List, [], ◌∷◌, ◌++◌, take, drop, Some, ap, subst, arith, expression_depth, listing_depth}
+use Rattle.meson_edit.proofs.Words.{argument_depth, arguments_depth, file_depth, nth, value_of, Nowhere, Plain, Expression, Listing, listing, Argument, plain}
+use Rattle.meson_edit.proofs.Words.{named, pair, arguments_of, list-of-arguments, some-injective, map-some, Edit, First, After, Remove, Replace, Wrap}
+use Rattle.meson_edit.proofs.Words.{RemoveStatement, Append, elements, with_elements, with_value, array_of, first_element, element_added, element_removed}
+use Rattle.meson_edit.proofs.Words.{edited_elements, edited_list, new_depth, EditsDeepen, RemovalsStayWithin, FirstsStayWithin, InsertionsStayWithin}
+use Rattle.meson_edit.proofs.Words.{EditsDeepenByOne}
 use Rattle.meson_edit.proofs.lists.Found.{valued}
 use Rattle.meson_edit.proofs.paths.DeepLists.{depths-grow}
 use Rattle.meson_edit.proofs.sequences.Changed.{changed}

@@ -1,17 +1,11 @@
 -- A list after an edit has its levels where the list before and what is put in have theirs.
-use Rattle.std.specs.Prelude.{if◌then◌else◌}
-use Rattle.std.proofs.Common.{◌≡◌, ℕ, zero, suc, Bool, true, false, List, [], ◌∷◌, ◌++◌, take, drop, Some, refl, sym, ap, subst, ◌∙◌}
-use Rattle.meson_syntax.specs.declared.operator.Bracket.{Bracket}
+use Rattle.meson_edit.proofs.Words.{if◌then◌else◌, ◌≡◌, ℕ, zero, suc, Bool, true, false, List, [], ◌∷◌, ◌++◌, take, drop, Some, refl, sym, ap, subst, ◌∙◌}
+use Rattle.meson_edit.proofs.Words.{LevelExpression, LevelArgument, LevelArguments, LevelListing, LevelFile, Flagged, holds_names, ListAt, list_at, nth}
+use Rattle.meson_edit.proofs.Words.{value_of, Nowhere, Plain, Expression, Listing, listing, Argument, plain, named, pair, is_named, arguments_of, Bracket}
+use Rattle.meson_edit.proofs.Words.{list-of-arguments, some-injective, map-some, list-fits, Edit, First, After, Remove, Replace, Wrap, elements, with_elements}
+use Rattle.meson_edit.proofs.Words.{with_value, array_of, first_element, element_added, element_removed, is_empty, MayFollow, RemovalsKeepLevels}
+use Rattle.meson_edit.proofs.Words.{WrapsKeepLevels, ReplacementsKeepLevels, FirstsKeepLevels, InsertionsKeepLevels}
 use Rattle.meson_syntax.specs.declared.operator.Bracket.TheVariants as bracket
-use Rattle.meson_syntax.specs.Operators.{holds_names}
-use Rattle.meson_syntax.specs.Tree.{Nowhere, Plain, Expression, Listing, listing, Argument, plain, named, pair, is_named, arguments_of}
-use Rattle.meson_syntax.specs.Grammar.{LevelExpression, LevelArgument, LevelArguments, LevelListing, LevelFile, Flagged}
-use Rattle.meson_syntax.specs.Paths.{ListAt, list_at, nth, value_of}
-use Rattle.meson_syntax.proofs.parsing.Steps.{some-injective}
-use Rattle.meson_syntax.proofs.parsing.Complete.{list-of-arguments}
-use Rattle.meson_syntax.proofs.paths.Reaching.{map-some, list-fits}
-use Rattle.meson_edit.specs.Edits.{Edit, First, After, Remove, Replace, Wrap, elements, with_elements, with_value, array_of, first_element, element_added, element_removed, is_empty}
-use Rattle.meson_edit.specs.Sequences.{MayFollow, RemovalsKeepLevels, WrapsKeepLevels, ReplacementsKeepLevels, FirstsKeepLevels, InsertionsKeepLevels}
 use Rattle.meson_edit.proofs.lists.Found.{valued}
 use Rattle.meson_edit.proofs.sequences.Changed.{Changed, changed}
 

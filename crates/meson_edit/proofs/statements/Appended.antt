@@ -1,15 +1,9 @@
 -- A statement appended to its file: the new text spells the tree with it at the end.
-use Rattle.std.proofs.Common.{◌≡◌, ◌∷◌, ◌++◌, [], refl, sym, ap, ◌∙◌}
-use Rattle.meson_lex.specs.Significant.{new_line, significant}
-use Rattle.meson_lex.proofs.OneList.{one_list}
+use Rattle.meson_edit.proofs.Words.{◌≡◌, ◌∷◌, ◌++◌, [], refl, sym, ap, ◌∙◌, new_line, significant, one_list, append-law, statement_words, file_words, erase}
+use Rattle.meson_edit.proofs.Words.{some-injective, AppendedSpell}
 use Rattle.meson_layout.specs.declared.primitive.Primitive.TheVariants as layout
-use Rattle.meson_layout.proofs.AppendLaws.{append-law}
-use Rattle.meson_syntax.specs.Tree.{erase}
-use Rattle.meson_syntax.specs.Grammar.{statement_words, file_words}
-use Rattle.meson_syntax.proofs.parsing.Steps.{some-injective}
 use Rattle.meson_edit.proofs.exchange.Appended.{file-last-words}
 use Rattle.meson_edit.proofs.exchange.Standing.{file-end, statement-end}
-use Rattle.meson_edit.specs.Laws.{AppendedSpell}
 use Rattle.meson_edit.proofs.Coding.{coding-law, texts-law}
 
 pub appended-spell : AppendedSpell

@@ -1,18 +1,10 @@
 -- A block and its statements in a tree and in the tree without its spans: what an edit leaves has the same words in both.
-use Rattle.std.specs.Prelude.{option_map}
-use Rattle.std.proofs.Common.{◌≡◌, ℕ, zero, suc, List, ◌++◌, Some, refl, sym, ap, ap₂, ◌∙◌}
-use Rattle.meson_lex.specs.declared.kinds.Span.{Span}
-use Rattle.meson_lex.specs.Significant.{Word}
-use Rattle.meson_syntax.specs.Tree.{Nowhere, Plain, Statement, Statements, no_statements, statement, statement_list, Block, block, File, erase, erase_statement, erase_statements, erase_block}
-use Rattle.meson_syntax.specs.Grammar.{block_words, file_words}
-use Rattle.meson_syntax.specs.Paths.{Sort, of_expression, of_statement, of_block, Node, node_words, Hole, nth, reach, block_of}
-use Rattle.meson_edit.specs.Blocks.{BlockAt, block_of_node, block_at, statement_in, all_but, block_without}
-use Rattle.meson_edit.specs.Holes.{WordsAround, words_around, erase_front}
-use Rattle.meson_syntax.proofs.parsing.Steps.{some-injective}
-use Rattle.meson_syntax.proofs.parsing.FileErased.{block-words-erased}
-use Rattle.meson_syntax.proofs.paths.Reaching.{map-some, and-then-some, reach-fits, with-words}
+use Rattle.meson_edit.proofs.Words.{option_map, ◌≡◌, ℕ, zero, suc, List, ◌++◌, Some, refl, sym, ap, ap₂, ◌∙◌, Word, Span, block_words, file_words, Sort}
+use Rattle.meson_edit.proofs.Words.{of_expression, of_statement, of_block, Node, node_words, Hole, nth, reach, block_of, Nowhere, Plain, Statement, Statements}
+use Rattle.meson_edit.proofs.Words.{no_statements, statement, statement_list, Block, block, File, erase, erase_statement, erase_statements, erase_block}
+use Rattle.meson_edit.proofs.Words.{block-words-erased, some-injective, map-some, and-then-some, reach-fits, with-words, BlockAt, block_of_node, block_at}
+use Rattle.meson_edit.proofs.Words.{statement_in, all_but, block_without, without_statement, WordsAround, words_around, erase_front}
 use Rattle.meson_edit.proofs.paths.Erased.{nodes-erase, blocks-erase}
-use Rattle.meson_edit.specs.Edits.{without_statement}
 
 -- ---- the words around a block
 

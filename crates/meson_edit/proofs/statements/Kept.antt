@@ -1,28 +1,10 @@
 -- What an edit of a whole statement leaves as it is.
-use Rattle.std.specs.Prelude.{option_map, option_and_then}
-use Rattle.std.specs.Prelude.{Some, Ok}
-use Rattle.std.proofs.Common.{◌≡◌, ℕ, List, ◌++◌, length, sym, ap, ap₂, subst, ◌∙◌, append_assoc}
-use Rattle.meson_lex.specs.declared.kinds.Span.{Span}
-use Rattle.meson_lex.specs.Items.{Lexeme, joined, IsItemList}
-use Rattle.meson_layout.specs.declared.primitive.Primitive.{Primitive}
-use Rattle.meson_lex.proofs.OneList.{one_list}
-use Rattle.meson_layout.specs.Edited.{patched_by}
-use Rattle.meson_layout.specs.Layout.{layout_of}
+use Rattle.meson_edit.proofs.Words.{option_map, option_and_then, Some, Ok, ◌≡◌, ℕ, List, ◌++◌, length, sym, ap, ap₂, subst, ◌∙◌, append_assoc, Lexeme, joined}
+use Rattle.meson_edit.proofs.Words.{IsItemList, Span, one_list, patched_by, layout_of, Primitive, append-law, statement-removal-law, statement_words}
+use Rattle.meson_edit.proofs.Words.{IsSpannedWithin, Nowhere, Plain, Statement, File, erase, Limits, some-injective, statement_in, Written, RemoveStatement}
+use Rattle.meson_edit.proofs.Words.{Append, edited, EditKeeps, LineStands, primitive_of, span_of_statement, Writes, statement_span}
 use Rattle.meson_layout.specs.declared.primitive.Primitive.TheVariants as layout
-use Rattle.meson_layout.proofs.AppendLaws.{append-law}
-use Rattle.meson_layout.proofs.StatementLaws.{statement-removal-law}
-use Rattle.meson_syntax.specs.declared.source.Limits.{Limits}
-use Rattle.meson_syntax.specs.Reads.{IsSpannedWithin}
-use Rattle.meson_syntax.specs.Tree.{Nowhere, Plain, Statement, File, erase}
-use Rattle.meson_syntax.specs.Grammar.{statement_words}
-use Rattle.meson_edit.specs.Standing.{statement_span}
-use Rattle.meson_edit.specs.Lines.{LineStands}
-use Rattle.meson_edit.specs.Blocks.{statement_in}
-use Rattle.meson_syntax.proofs.parsing.Steps.{some-injective}
 use Rattle.meson_edit.proofs.exchange.Standing.{file-end, line-stands, statement-end}
-use Rattle.meson_edit.specs.Edits.{Written, RemoveStatement, Append, edited}
-use Rattle.meson_edit.specs.Places.{primitive_of, span_of_statement, Writes}
-use Rattle.meson_edit.specs.Kept.{EditKeeps}
 use Rattle.meson_edit.proofs.statements.Erasing.{leaves}
 use Rattle.meson_edit.proofs.statements.Removed.{line-place}
 

@@ -1,19 +1,9 @@
 -- A statement removed from its file: the new text spells the tree without it.
-use Rattle.std.specs.Prelude.{option_map, option_and_then}
-use Rattle.std.proofs.Common.{List, ◌++◌, length, ap, subst, ◌∙◌}
-use Rattle.meson_lex.specs.declared.kinds.Span.{Span}
-use Rattle.meson_lex.specs.Items.{Lexeme, joined}
-use Rattle.meson_lex.specs.Significant.{Word}
-use Rattle.meson_lex.proofs.OneList.{one_list}
+use Rattle.meson_edit.proofs.Words.{option_map, option_and_then, List, ◌++◌, length, ap, subst, ◌∙◌, Lexeme, joined, Word, Span, one_list, IsSpanOf}
+use Rattle.meson_edit.proofs.Words.{statement-removal-law, statement_in, StatementRemovalsSpell, LineStands, statement_span}
 use Rattle.meson_layout.specs.declared.primitive.Primitive.TheVariants as layout
-use Rattle.meson_layout.specs.Layout.{IsSpanOf}
 use Rattle.meson_layout.specs.FileLaws.{StatementIn}
-use Rattle.meson_layout.proofs.StatementLaws.{statement-removal-law}
-use Rattle.meson_edit.specs.Standing.{statement_span}
-use Rattle.meson_edit.specs.Lines.{LineStands}
-use Rattle.meson_edit.specs.Blocks.{statement_in}
 use Rattle.meson_edit.proofs.exchange.Standing.{line-stands}
-use Rattle.meson_edit.specs.Laws.{StatementRemovalsSpell}
 use Rattle.meson_edit.proofs.Coding.{coding-law, texts-law}
 use Rattle.meson_edit.proofs.statements.Erasing.{leaves}
 

@@ -7,7 +7,14 @@ use Rattle.meson_syntax.specs.declared.tree.Arg.{Arg}
 use Rattle.meson_syntax.specs.Tree.{File}
 use Rattle.meson_edit.proofs.lists.CodeElements.{list_elements}
 use Rattle.meson_calls.proofs.Standing.{nth_there, nth_past}
-use Rattle.meson_sources.proofs.Words.{filter, if◌then◌else◌, is_some, option_and_then, option_map, [], ap, arith, Bool, drop, false, get_or, length, List, None, Option, refl, Some, suc, sym, true, zero, ℕ, ◌+◌, ◌<◌, ◌∙◌, ◌∷◌, ◌≡◌, ◌≤◌, at_drop_all, at_drop_more, Word, Span, bytes_at, LevelArguments, holds_pairs, block_of, expression_of, expression_on_path, Hole, list_at, list_in, list_of_node, list_within, ListAt, ListIn, Node, nth, of_block, of_expression, of_statement, reach, Sort, Argument, argument, argument_list, Arguments, arguments_of, Block, erase_arguments, erase_listing, Expression, is_named, Listing, listing, named, no_arguments, Nowhere, pair, plain, arg_view, args_view, list_view, view, Bracket, Parsed, elements, ListThere, value_without_name, named_trees, views, BuildFile, Project, CallRef, list_node, elements_there, is_plain, plain_len}
+use Rattle.meson_sources.proofs.Words.{filter, if◌then◌else◌, is_some, option_and_then, option_map, [], ap, arith, Bool, drop, false, get_or, length, List}
+use Rattle.meson_sources.proofs.Words.{None, Option, refl, Some, suc, sym, true, zero, ℕ, ◌+◌, ◌<◌, ◌∙◌, ◌∷◌, ◌≡◌, ◌≤◌, at_drop_all, at_drop_more, bytes_at}
+use Rattle.meson_sources.proofs.Words.{Word, Span, LevelArguments, holds_pairs, block_of, expression_of, expression_on_path, Hole, list_at, list_in}
+use Rattle.meson_sources.proofs.Words.{list_of_node, list_within, ListAt, ListIn, Node, nth, of_block, of_expression, of_statement, reach, Sort, Argument}
+use Rattle.meson_sources.proofs.Words.{argument, argument_list, Arguments, arguments_of, Block, erase_arguments, erase_listing, Expression, is_named, Listing}
+use Rattle.meson_sources.proofs.Words.{listing, named, no_arguments, Nowhere, pair, plain, arg_view, args_view, list_view, view, Bracket, Parsed, elements}
+use Rattle.meson_sources.proofs.Words.{ListThere, value_without_name, named_trees, views, BuildFile, Project, CallRef, list_node, elements_there, is_plain}
+use Rattle.meson_sources.proofs.Words.{plain_len}
 
 -- ==== Elements without a name, counted; and the elements of the list at a place.
 

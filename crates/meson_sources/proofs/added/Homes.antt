@@ -1,7 +1,19 @@
 -- Where further files go, and that they may be put there.
 use Rattle.meson_calls.specs.Calls as calls
 use Rattle.meson_steps.proofs.Distincts.{distinct_texts}
-use Rattle.meson_sources.proofs.Words.{cons_option, filter_map, All, bytes_eq, if◌then◌else◌, not, Ok, option_map, ◌⊎◌, [], ap, arith, Bool, false, inl, inr, IsUtf8, length, List, None, Option, refl, Some, subst, suc, sym, true, zero, ℕ, ◌+◌, ◌-◌, ◌<◌, ◌∙◌, ◌∷◌, ◌≡◌, ◌≤◌, All-filter, All-head, All-tail, Span, then_ok, file_depth, LevelArguments, LevelFile, LevelListing, holds_pairs, holds_values, nth, value_of, Argument, argument, argument_list, Arguments, arguments_of, erase, erase_argument, erase_arguments, erase_expression, erase_listing, Expression, Listing, listing, Name, named, no_arguments, Nowhere, pair, Plain, plain, Bracket, list-of-arguments, list-fits, After, elements, Wrap, ListThere, Call, first_argument, first_of, kept_number, keyword, Numbered, numbered, value_with_name, value_without_name, AreParsed, Loaded, project, kwargs_key, not_hidden, once, sources_key, child, Placed, Project, CallRef, values_no_pairs, empty, fixed, in_list, known, Mark, opaque, Slot, first_empty, first_list, home, list_of_slot, or_call, or_option, source_marks, AreDoable, MayStandBetween, none, checked_names, distinct, plain_trees, Step, step_in, Room, element_erased, empty_erased, parsed_shallow, plain_place, tree_is, trees_stand, value_erased, once_was, then_was, all_nth, behind_value, checked_extra, elements_there, extra_inserted, extra_key, extra_marks, inserted_in, insertion_steps, into_new_list, is_known, new_names, plain_len, without_home, written_keyword}
+use Rattle.meson_sources.proofs.Words.{cons_option, filter_map, All, bytes_eq, if◌then◌else◌, not, Ok, option_map, ◌⊎◌, [], ap, arith, Bool, false, inl, inr}
+use Rattle.meson_sources.proofs.Words.{IsUtf8, length, List, None, Option, refl, Some, subst, suc, sym, true, zero, ℕ, ◌+◌, ◌-◌, ◌<◌, ◌∙◌, ◌∷◌, ◌≡◌, ◌≤◌}
+use Rattle.meson_sources.proofs.Words.{All-filter, All-head, All-tail, then_ok, Span, file_depth, LevelArguments, LevelFile, LevelListing, holds_pairs}
+use Rattle.meson_sources.proofs.Words.{holds_values, nth, value_of, Argument, argument, argument_list, Arguments, arguments_of, erase, erase_argument}
+use Rattle.meson_sources.proofs.Words.{erase_arguments, erase_expression, erase_listing, Expression, Listing, listing, Name, named, no_arguments, Nowhere, pair}
+use Rattle.meson_sources.proofs.Words.{Plain, plain, Bracket, list-of-arguments, list-fits, After, elements, Wrap, ListThere, Call, first_argument, first_of}
+use Rattle.meson_sources.proofs.Words.{kept_number, keyword, Numbered, numbered, value_with_name, value_without_name, AreParsed, Loaded, project, kwargs_key}
+use Rattle.meson_sources.proofs.Words.{not_hidden, once, sources_key, child, Placed, Project, CallRef, values_no_pairs, empty, fixed, in_list, known, Mark}
+use Rattle.meson_sources.proofs.Words.{opaque, Slot, first_empty, first_list, home, list_of_slot, or_call, or_option, source_marks, AreDoable, MayStandBetween}
+use Rattle.meson_sources.proofs.Words.{none, checked_names, distinct, plain_trees, Step, step_in, Room, element_erased, empty_erased, parsed_shallow}
+use Rattle.meson_sources.proofs.Words.{plain_place, tree_is, trees_stand, value_erased, once_was, then_was, all_nth, behind_value, checked_extra}
+use Rattle.meson_sources.proofs.Words.{elements_there, extra_inserted, extra_key, extra_marks, inserted_in, insertion_steps, into_new_list, is_known, new_names}
+use Rattle.meson_sources.proofs.Words.{plain_len, without_home, written_keyword}
 use Rattle.meson_sources.proofs.added.Counts.{plain_count, plain_count_is, count_erased, some_plain, last_plain, elements_are}
 use Rattle.meson_sources.proofs.added.Lists.{behind_doable, first_doable, keyword_written, keyword_grown, wrapped_grown, array_doable}
 use Rattle.meson_sources.proofs.met.Standing.{StringThere, NothingThere, SlotStands, MarkStands, TargetThere, SourcesMayBeAdded, ExtrasMayBeAdded}

@@ -18,7 +18,16 @@ use Rattle.meson_steps.specs.inside.WrittenValues.{IsSet}
 use Rattle.meson_steps.proofs.Spellings.{differs, none_of}
 use Rattle.meson_steps.proofs.SetLiterals.{one_set}
 use Rattle.meson_steps.proofs.InnerPlaces.{array_container, exchanged_at, inner_place}
-use Rattle.meson_sources.proofs.Words.{All, codes, if◌then◌else◌, Ok, option_and_then, option_map, slice_set, [], ap, append-nil, append_assoc, ap₂, arith, Bool, drop, false, IsUtf8, length, length-append, List, Option, refl, Some, subst, suc, sym, take, true, zero, ℕ, ◌++◌, ◌+◌, ◌∙◌, ◌∷◌, ◌≡◌, ◌≤◌, All-head, All-set, All-tail, literal, argument_words, expression_words, file_depth, LevelFile, holds_pairs, holds_values, list_at, ListAt, nth, value_of, Argument, arguments_of, Expression, Listing, listing, named, Nowhere, pair, Plain, plain, some-injective, and-then-some, list-fits, map-some, After, array_of, Edit, edited, edited_elements, edited_list, element_added, elements, exchanged, First, is_empty, with_elements, with_value, Wrap, Written, lists-stay, insertions-keep-levels, wraps-keep-levels, child, CallRef, AreDoable, MayStandBetween, none, all_stepped, step_in, stepped, string_of, written_texts, edited_there, elements_back, elements_with, grown_behind, grown_first, nth_inserted, Room, there_again, all_nth, change_made, changed_there, array_holding, elements_found, OnlyList, strings, array_with, extra_key, insertion_steps, written_keyword, written_source}
+use Rattle.meson_sources.proofs.Words.{All, codes, if◌then◌else◌, Ok, option_and_then, option_map, slice_set, [], ap, append-nil, append_assoc, ap₂, arith}
+use Rattle.meson_sources.proofs.Words.{Bool, drop, false, IsUtf8, length, length-append, List, Option, refl, Some, subst, suc, sym, take, true, zero, ℕ, ◌++◌}
+use Rattle.meson_sources.proofs.Words.{◌+◌, ◌∙◌, ◌∷◌, ◌≡◌, ◌≤◌, All-head, All-set, All-tail, literal, argument_words, expression_words, file_depth, LevelFile}
+use Rattle.meson_sources.proofs.Words.{holds_pairs, holds_values, list_at, ListAt, nth, value_of, Argument, arguments_of, Expression, Listing, listing, named}
+use Rattle.meson_sources.proofs.Words.{Nowhere, pair, Plain, plain, some-injective, and-then-some, list-fits, map-some, After, array_of, Edit, edited}
+use Rattle.meson_sources.proofs.Words.{edited_elements, edited_list, element_added, elements, exchanged, First, is_empty, with_elements, with_value, Wrap}
+use Rattle.meson_sources.proofs.Words.{Written, lists-stay, insertions-keep-levels, wraps-keep-levels, child, CallRef, AreDoable, MayStandBetween, none}
+use Rattle.meson_sources.proofs.Words.{all_stepped, step_in, stepped, string_of, written_texts, edited_there, elements_back, elements_with, grown_behind}
+use Rattle.meson_sources.proofs.Words.{grown_first, nth_inserted, Room, there_again, all_nth, change_made, changed_there, array_holding, elements_found}
+use Rattle.meson_sources.proofs.Words.{OnlyList, strings, array_with, extra_key, insertion_steps, written_keyword, written_source}
 
 -- ==== Strings may be put into a list, one after another.
 

@@ -1,6 +1,12 @@
 -- The list that gets strings, before and after it: an array, a call or a dictionary.
 use Rattle.meson_syntax.specs.declared.operator.Bracket.TheVariants as bracket
-use Rattle.meson_sources.proofs.Words.{filter, if◌then◌else◌, option_and_then, option_map, [], ap, Bool, false, List, refl, Some, subst, suc, sym, true, zero, ℕ, ◌++◌, ◌∙◌, ◌∷◌, ◌≡◌, Span, a_block, an_expression, Any, arguments_parts, LevelArguments, holds_names, holds_pairs, holds_values, block_of, list_at, list_in, ListAt, ListIn, nth, Argument, arguments_of, array, call, dictionary, erase, Expression, Listing, listing, Name, named, Nowhere, pair, Plain, plain, Bracket, node_at, list-of-arguments, some-injective, Every, and-then-some, list-fits, elements, lists-stay, IsProject, Loaded, project, BuildFile, nth_file, CallRef, values_no_pairs, has_names, MayStandBetween, plain_trees, plain_place, tree_is, all_nth, ListGets, not_plain, strings, is_plain}
+use Rattle.meson_sources.proofs.Words.{filter, if◌then◌else◌, option_and_then, option_map, [], ap, Bool, false, List, refl, Some, subst, suc, sym, true, zero}
+use Rattle.meson_sources.proofs.Words.{ℕ, ◌++◌, ◌∙◌, ◌∷◌, ◌≡◌, Span, a_block, an_expression, Any, arguments_parts, LevelArguments, holds_names, holds_pairs}
+use Rattle.meson_sources.proofs.Words.{holds_values, block_of, list_at, list_in, ListAt, ListIn, nth, Argument, arguments_of, array, call, dictionary, erase}
+use Rattle.meson_sources.proofs.Words.{Expression, Listing, listing, Name, named, Nowhere, pair, Plain, plain, Bracket, node_at, list-of-arguments}
+use Rattle.meson_sources.proofs.Words.{some-injective, Every, and-then-some, list-fits, elements, lists-stay, IsProject, Loaded, project, BuildFile, nth_file}
+use Rattle.meson_sources.proofs.Words.{CallRef, values_no_pairs, has_names, MayStandBetween, plain_trees, plain_place, tree_is, all_nth, ListGets, not_plain}
+use Rattle.meson_sources.proofs.Words.{strings, is_plain}
 use Rattle.meson_sources.proofs.SourcesAdded.{in_order}
 use Rattle.meson_sources.proofs.added.Homes.{Home, all_stand, list_levels}
 use Rattle.meson_sources.proofs.trees.Shapes.{Becomes, list_becomes}

@@ -6,7 +6,18 @@ use Rattle.meson_syntax.specs.declared.tree.Arg.{Arg}
 use Rattle.meson_syntax.specs.declared.tree.Expr.{Expr}
 use Rattle.meson_calls.proofs.FirstValue.{value_is}
 use Rattle.meson_variables.specs.declared.source.Sources.{Sources}
-use Rattle.meson_sources.proofs.Words.{filter, list_any, Err, if◌then◌else◌, not, Ok, ok_or, option_and_then, option_map, Result, [], ap, arith, Bool, false, get_or, length, List, map, None, Option, refl, Some, sym, true, zero-add, ℕ, ◌++◌, ◌<◌, ◌∙◌, ◌∷◌, ◌≡◌, ◌≤◌, length-map, Span, then_ok, Expression, expr_view, Call, keyword, literal_of, Numbered, value_with_name, placed_call, IsFirstNamed, kept_args, kwargs_key, not_hidden, once, sources_key, Placed, Project, CallRef, Refusal, DuplicateKeyword, NotRemovable, once_few, once_twice, keyword_is, all_gathered, fixed, in_list, Item, Mark, max_followed, Slot, all_marked, no_marks, number_of_slot, Tally, expand_arguments, first_empty, first_list, home, items, list_of_slot, opaque_count, or_call, or_option, source_item, source_marks, sources_of_marks, SourceItem, arguments_are, gathered_marks, tally_is, bare, AreBehind, AreMeant, checked_names, distinct, Step, ListStep, extra_of_call, behind_value, checked_extra, elements_there, extra_added, extra_inserted, extra_key, extra_marks, extra_removed, has_text, inserted_in, insertion_steps, into_new_list, is_known, items_of, new_names, plain_len, removed_at, sources_added, sources_removed, Spot, spot_of, spots_by, spots_named, spots_of, without_home, all_there, spot_if_there, spots_at, spots_from, spots_of_names, has_value, new_among, extra_gathered, lone_or_new, new_list_steps}
+use Rattle.meson_sources.proofs.Words.{filter, list_any, Err, if◌then◌else◌, not, Ok, ok_or, option_and_then, option_map, Result, [], ap, arith, Bool, false}
+use Rattle.meson_sources.proofs.Words.{get_or, length, List, map, None, Option, refl, Some, sym, true, zero-add, ℕ, ◌++◌, ◌<◌, ◌∙◌, ◌∷◌, ◌≡◌, ◌≤◌, length-map}
+use Rattle.meson_sources.proofs.Words.{then_ok, Span, Expression, expr_view, Call, keyword, literal_of, Numbered, value_with_name, placed_call, IsFirstNamed}
+use Rattle.meson_sources.proofs.Words.{kept_args, kwargs_key, not_hidden, once, sources_key, Placed, Project, CallRef, Refusal, DuplicateKeyword, NotRemovable}
+use Rattle.meson_sources.proofs.Words.{once_few, once_twice, keyword_is, all_gathered, fixed, in_list, Item, Mark, max_followed, Slot, all_marked, no_marks}
+use Rattle.meson_sources.proofs.Words.{number_of_slot, Tally, expand_arguments, first_empty, first_list, home, items, list_of_slot, opaque_count, or_call}
+use Rattle.meson_sources.proofs.Words.{or_option, source_item, source_marks, sources_of_marks, SourceItem, arguments_are, gathered_marks, tally_is, bare}
+use Rattle.meson_sources.proofs.Words.{AreBehind, AreMeant, checked_names, distinct, Step, ListStep, extra_of_call, behind_value, checked_extra, elements_there}
+use Rattle.meson_sources.proofs.Words.{extra_added, extra_inserted, extra_key, extra_marks, extra_removed, has_text, inserted_in, insertion_steps}
+use Rattle.meson_sources.proofs.Words.{into_new_list, is_known, items_of, new_names, plain_len, removed_at, sources_added, sources_removed, Spot, spot_of}
+use Rattle.meson_sources.proofs.Words.{spots_by, spots_named, spots_of, without_home, all_there, spot_if_there, spots_at, spots_from, spots_of_names, has_value}
+use Rattle.meson_sources.proofs.Words.{new_among, extra_gathered, lone_or_new, new_list_steps}
 
 -- ==== What gathered marks say of commands: the names that are new, where further ones go, and where the items of names stand.
 

@@ -1,6 +1,10 @@
 -- The removals of a command as the code goes through them.
 use Rattle.std.proofs.lemmas.List.Sorted.{IsPermutation-reverse, sum_by-IsPermutation}
-use Rattle.meson_sources.proofs.Words.{cond, Err, if◌then◌else◌, Ok, ok_or, option_map, Result, reverse, ◌||◌, [], add-one, ap, append_assoc, ap₂, Bool, drop, false, get_or, length, List, map, None, Option, refl, Some, sym, take, true, ℕ, ◌++◌, ◌+◌, ◌-◌, ◌<◌, ◌∙◌, ◌∷◌, ◌≡◌, drop-cons, take-suc, map-append, reverse-append, then_ok, child, place, CallRef, Refusal, NotRemovable, SourceItem, bare, ListStep, is_before, number_without, path_without, removal, removals_after, Spot, spot_without, all_there, before_all, is_some_there, joined_spots, spot_if_there, spots_at, spots_from, has_value}
+use Rattle.meson_sources.proofs.Words.{cond, Err, if◌then◌else◌, Ok, ok_or, option_map, Result, reverse, ◌||◌, [], add-one, ap, append_assoc, ap₂, Bool, drop}
+use Rattle.meson_sources.proofs.Words.{false, get_or, length, List, map, None, Option, refl, Some, sym, take, true, ℕ, ◌++◌, ◌+◌, ◌-◌, ◌<◌, ◌∙◌, ◌∷◌, ◌≡◌}
+use Rattle.meson_sources.proofs.Words.{drop-cons, take-suc, map-append, reverse-append, then_ok, child, place, CallRef, Refusal, NotRemovable, SourceItem, bare}
+use Rattle.meson_sources.proofs.Words.{ListStep, is_before, number_without, path_without, removal, removals_after, Spot, spot_without, all_there, before_all}
+use Rattle.meson_sources.proofs.Words.{is_some_there, joined_spots, spot_if_there, spots_at, spots_from, has_value}
 
 -- ==== Where the items of a name stand, gathered one after another.
 

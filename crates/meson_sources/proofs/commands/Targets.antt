@@ -14,7 +14,11 @@ use Rattle.meson_variables.proofs.NotedVariables.{same_project}
 use Rattle.meson_calls.proofs.Standing.{nth_there}
 use Rattle.meson_sources.specs.declared.targeting.TargetChange.TheVariants.{SourcesAdded, SourcesRemoved, ExtraAdded, ExtraRemoved}
 use Rattle.meson_steps.specs.Plans.{ArePlanned}
-use Rattle.meson_sources.proofs.Words.{All, Err, IfOk, Ok, option_and_then, option_map, Result, [], ap, ap₂, arith, IsUtf8, length, List, Some, subst, sym, ℕ, ◌<◌, ◌∙◌, ◌∷◌, ◌≡◌, length-map, Span, bytes_at, then_ok, File, list_in, call, Expression, arg_view, list_view, Parsed, some-injective, elements, CallIn, Call, call_of, call_with, the_call, IsProject, Loaded, project, IsNotedFor, project_in, note_views, BuildFile, expression_at, Placed, placed, Project, CallRef, Refusal, CallAt, role_found, project_of, AreDoable, AreMeant, plain_trees, Step, ListStep, then_was, elements_there, change_steps, target_steps}
+use Rattle.meson_sources.proofs.Words.{All, Err, IfOk, Ok, option_and_then, option_map, Result, [], ap, ap₂, arith, IsUtf8, length, List, Some, subst, sym, ℕ}
+use Rattle.meson_sources.proofs.Words.{◌<◌, ◌∙◌, ◌∷◌, ◌≡◌, length-map, bytes_at, then_ok, File, Span, list_in, call, Expression, arg_view, list_view, Parsed}
+use Rattle.meson_sources.proofs.Words.{some-injective, elements, CallIn, Call, call_of, call_with, the_call, IsProject, Loaded, project, IsNotedFor, project_in}
+use Rattle.meson_sources.proofs.Words.{note_views, BuildFile, expression_at, Placed, placed, Project, CallRef, Refusal, CallAt, role_found, project_of}
+use Rattle.meson_sources.proofs.Words.{AreDoable, AreMeant, plain_trees, Step, ListStep, then_was, elements_there, change_steps, target_steps}
 use Rattle.meson_sources.proofs.added.Counts.{elements_of}
 use Rattle.meson_sources.proofs.added.Homes.{sources_may_be_added, extras_may_be_added}
 use Rattle.meson_sources.proofs.gone.Trees.{sources_may_be_removed, extras_may_be_removed}

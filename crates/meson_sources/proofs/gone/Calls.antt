@@ -1,7 +1,12 @@
 -- The call of a target after strings have gone from its lists of sources or of extra files.
 use Rattle.meson_syntax.specs.declared.operator.Assignment.TheVariants as assignment
 use Rattle.meson_calls.specs.declared.call.Role.TheVariants as role
-use Rattle.meson_sources.proofs.Words.{All, Ok, ap, arith, Bool, false, inl, inr, List, None, refl, Some, subst, suc, sym, true, zero, ℕ, ◌+◌, ◌∙◌, ◌≡◌, value, Span, a_statement, an_expression, LevelExpression, string_kind, nth, argument, Arguments, assign, call, erase_expression, Expression, listing, Name, named, no_arguments, Nowhere, pair, Plain, plain, string, StringKind, child_nodes, Every, map-some, call_of, the_call, Loaded, project, child, Placed, one_of, target_functions, CallRef, Item, literal_item, max_followed, Stand, single, MayStandBetween, distinct, plain_trees, all_stepped, AreSpotsOf, goes, trees_without, removal_steps, Spot, file_names, expression_without, from_child}
+use Rattle.meson_sources.proofs.Words.{All, Ok, ap, arith, Bool, false, inl, inr, List, None, refl, Some, subst, suc, sym, true, zero, ℕ, ◌+◌, ◌∙◌, ◌≡◌, value}
+use Rattle.meson_sources.proofs.Words.{Span, a_statement, an_expression, LevelExpression, string_kind, nth, argument, Arguments, assign, call, erase_expression}
+use Rattle.meson_sources.proofs.Words.{Expression, listing, Name, named, no_arguments, Nowhere, pair, Plain, plain, string, StringKind, child_nodes, Every}
+use Rattle.meson_sources.proofs.Words.{map-some, call_of, the_call, Loaded, project, child, Placed, one_of, target_functions, CallRef, Item, literal_item}
+use Rattle.meson_sources.proofs.Words.{max_followed, Stand, single, MayStandBetween, distinct, plain_trees, all_stepped, AreSpotsOf, goes, trees_without}
+use Rattle.meson_sources.proofs.Words.{removal_steps, Spot, file_names, expression_without, from_child}
 use Rattle.meson_sources.proofs.gone.Held.{CallFrom, FirstOf, IsSources, Held, SpotHeld, all_named, gone_held, same_there}
 use Rattle.meson_sources.proofs.gone.Losses.{child_place, node_moved, place_left, Lost, gone_at, loses, strings_lost, EachLoses, Loses}
 use Rattle.meson_sources.proofs.gone.Marks.{Left, slot_gone, stand_left, FirstStays, expand_left}

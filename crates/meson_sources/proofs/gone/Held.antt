@@ -1,6 +1,16 @@
 -- What stands at the spots that go, and where it stands.
 use Rattle.meson_syntax.specs.declared.operator.Bracket.TheVariants as bracket
-use Rattle.meson_sources.proofs.Words.{cons_option, list_any, bytes_eq, if◌then◌else◌, Ok, ok_or, option_and_then, option_map, ◌&&◌, ◌⊎◌, [], ap, ap₂, arith, Bool, false, inl, inr, List, map, None, Option, refl, Some, subst, suc, sym, true, zero, ℕ, ◌++◌, ◌+◌, ◌∙◌, ◌∷◌, ◌≡◌, or_left, or_right, map-append, value, Span, then_ok, an_expression, arguments_parts, listing_parts, LevelArguments, LevelExpression, LevelListing, LevelOperands, holds_pairs, string_kind, nth, Argument, argument, argument_list, Arguments, array, call, Expression, identifier, is_named, Listing, listing, Name, named, no_arguments, no_operands, Nowhere, operand, Operands, pair, Plain, plain, row, string, Bracket, StringKind, child_nodes, node_at, operands_parts, some-injective, Every, every-append, elements, Numbered, rest, sources_key, child, Placed, one_of, CallRef, NotRemovable, are_plus, element, empty, expand_by, expand_each, expand_listing, expand_operands, Expansion, fixed, follow_single, in_list, is_files, Item, known, literal_item, Mark, max_followed, met, of_variable, opaque, operand_at, or_empty, Slot, Stand, items, opaque_count, distinct, then_was, AreSpotsOf, element_spot, goes, has_one_of, is_at, same_spot, has_text, items_of, Spot, spot_of, spots_by, spots_named, spots_of}
+use Rattle.meson_sources.proofs.Words.{cons_option, list_any, bytes_eq, if◌then◌else◌, Ok, ok_or, option_and_then, option_map, ◌&&◌, ◌⊎◌, [], ap, ap₂, arith}
+use Rattle.meson_sources.proofs.Words.{Bool, false, inl, inr, List, map, None, Option, refl, Some, subst, suc, sym, true, zero, ℕ, ◌++◌, ◌+◌, ◌∙◌, ◌∷◌, ◌≡◌}
+use Rattle.meson_sources.proofs.Words.{or_left, or_right, map-append, then_ok, value, Span, an_expression, arguments_parts, listing_parts, LevelArguments}
+use Rattle.meson_sources.proofs.Words.{LevelExpression, LevelListing, LevelOperands, holds_pairs, string_kind, nth, Argument, argument, argument_list}
+use Rattle.meson_sources.proofs.Words.{Arguments, array, call, Expression, identifier, is_named, Listing, listing, Name, named, no_arguments, no_operands}
+use Rattle.meson_sources.proofs.Words.{Nowhere, operand, Operands, pair, Plain, plain, row, string, Bracket, StringKind, child_nodes, node_at, operands_parts}
+use Rattle.meson_sources.proofs.Words.{some-injective, Every, every-append, elements, Numbered, rest, sources_key, child, Placed, one_of, CallRef, NotRemovable}
+use Rattle.meson_sources.proofs.Words.{are_plus, element, empty, expand_by, expand_each, expand_listing, expand_operands, Expansion, fixed, follow_single}
+use Rattle.meson_sources.proofs.Words.{in_list, is_files, Item, known, literal_item, Mark, max_followed, met, of_variable, opaque, operand_at, or_empty, Slot}
+use Rattle.meson_sources.proofs.Words.{Stand, items, opaque_count, distinct, then_was, AreSpotsOf, element_spot, goes, has_one_of, is_at, same_spot, has_text}
+use Rattle.meson_sources.proofs.Words.{items_of, Spot, spot_of, spots_by, spots_named, spots_of}
 use Rattle.meson_sources.proofs.gone.Losses.{no_true}
 use Rattle.meson_sources.proofs.gone.Marks.{slot_gone, head_by, item_left, left_of, slot_left}
 use Rattle.meson_sources.proofs.gone.Named.{alike, distinct_named, named_distinct, some_of, every_weaker}

@@ -1,7 +1,12 @@
 -- Names of files of a target go in turn.
 use Rattle.meson_calls.specs.declared.call.Role.TheVariants as role
 use Rattle.meson_sources.specs.InTurn.{ExtrasGoInTurn, SourcesGoInTurn}
-use Rattle.meson_sources.proofs.Words.{All, Ok, Result, [], ap, append-nil, ap₂, arith, false, length, List, map, refl, Some, subst, sym, true, ℕ, ◌++◌, ◌∙◌, ◌∷◌, ◌≡◌, Span, then_ok, some-injective, Every, Call, call_of, keyword, the_call, IsProject, Loaded, project, kwargs_key, not_hidden, once, sources_key, expression_at, Placed, placed, Project, one_of, target_functions, CallRef, Refusal, once_few, Mark, items, opaque_count, source_marks, MayStandBetween, checked_names, distinct, plain_trees, all_stepped, Step, trees_stand, once_was, then_was, AreSpotsOf, goes, checked_extra, extra_key, extra_marks, items_of, removal_steps, removed_at, Spot, spot_without, spots_by, spots_named, file_names}
+use Rattle.meson_sources.proofs.Words.{All, Ok, Result, [], ap, append-nil, ap₂, arith, false, length, List, map, refl, Some, subst, sym, true, ℕ, ◌++◌, ◌∙◌}
+use Rattle.meson_sources.proofs.Words.{◌∷◌, ◌≡◌, then_ok, Span, some-injective, Every, Call, call_of, keyword, the_call, IsProject, Loaded, project, kwargs_key}
+use Rattle.meson_sources.proofs.Words.{not_hidden, once, sources_key, expression_at, Placed, placed, Project, one_of, target_functions, CallRef, Refusal}
+use Rattle.meson_sources.proofs.Words.{once_few, Mark, items, opaque_count, source_marks, MayStandBetween, checked_names, distinct, plain_trees, all_stepped}
+use Rattle.meson_sources.proofs.Words.{Step, trees_stand, once_was, then_was, AreSpotsOf, goes, checked_extra, extra_key, extra_marks, items_of, removal_steps}
+use Rattle.meson_sources.proofs.Words.{removed_at, Spot, spot_without, spots_by, spots_named, file_names}
 use Rattle.meson_sources.proofs.ShrunkFiles.{MetHolds, MetLost, call_then, extras_hold, extras_lost, named, named_go, sources_hold, sources_lost}
 use Rattle.meson_sources.proofs.added.Homes.{checked_marks}
 use Rattle.meson_sources.proofs.gone.Calls.{moved_place}

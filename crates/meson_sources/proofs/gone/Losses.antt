@@ -1,10 +1,19 @@
 -- Expressions and nodes of trees that have lost strings.
 use Rattle.meson_syntax.specs.declared.operator.Bracket.TheVariants as bracket
 use Rattle.meson_edit.proofs.paths.Mapped.{nth_map}
-use Rattle.meson_sources.proofs.Words.{All, bytes_eq, codes, if◌then◌else◌, not, option_and_then, option_map, ◌&&◌, ◌⊎◌, [], ap, append-nil, ap₂, arith, Bool, false, inl, inr, List, map, None, refl, Some, subst, suc, sym, true, zero, ℕ, ◌++◌, ◌+◌, ◌∙◌, ◌∷◌, ◌≡◌, value, an_expression, arguments_parts, listing_parts, LevelArguments, LevelExpression, LevelListing, LevelOperands, holds_pairs, string_kind, nth, Argument, argument, argument_list, Arguments, arguments_of, array, call, dictionary, Expression, file, identifier, Listing, listing, Name, named, no_arguments, no_operands, Nowhere, operand, Operands, pair, Plain, plain, row, string, Bracket, StringKind, child_nodes, node_at, operands_parts, some-injective, Every, and-then-some, map-some, elements, is_empty, child, place, CallRef, plain_holds, are_plus, expand_by, Expansion, has_names, is_files, is_operand_by, is_plus, is_value_by, met, opaque, Stand, MayStandBetween, arguments_without, but, each_without, expression_without, from_child, Gone, listing_without, operands_without, tree_without}
+use Rattle.meson_sources.proofs.Words.{All, bytes_eq, codes, if◌then◌else◌, not, option_and_then, option_map, ◌&&◌, ◌⊎◌, [], ap, append-nil, ap₂, arith, Bool}
+use Rattle.meson_sources.proofs.Words.{false, inl, inr, List, map, None, refl, Some, subst, suc, sym, true, zero, ℕ, ◌++◌, ◌+◌, ◌∙◌, ◌∷◌, ◌≡◌, value}
+use Rattle.meson_sources.proofs.Words.{an_expression, arguments_parts, listing_parts, LevelArguments, LevelExpression, LevelListing, LevelOperands, holds_pairs}
+use Rattle.meson_sources.proofs.Words.{string_kind, nth, Argument, argument, argument_list, Arguments, arguments_of, array, call, dictionary, Expression, file}
+use Rattle.meson_sources.proofs.Words.{identifier, Listing, listing, Name, named, no_arguments, no_operands, Nowhere, operand, Operands, pair, Plain, plain}
+use Rattle.meson_sources.proofs.Words.{row, string, Bracket, StringKind, child_nodes, node_at, operands_parts, some-injective, Every, and-then-some, map-some}
+use Rattle.meson_sources.proofs.Words.{elements, is_empty, child, place, CallRef, plain_holds, are_plus, expand_by, Expansion, has_names, is_files}
+use Rattle.meson_sources.proofs.Words.{is_operand_by, is_plus, is_value_by, met, opaque, Stand, MayStandBetween, arguments_without, but, each_without}
+use Rattle.meson_sources.proofs.Words.{expression_without, from_child, Gone, listing_without, operands_without, tree_without}
 use Rattle.meson_sources.proofs.gone.Places.{Fits, Stands, any_without, before_all, left_before, node_left, path_left, under_is, under_path, left_same}
 use Rattle.meson_sources.proofs.met.Ways.{node_level}
-use Rattle.meson_sources.proofs.trees.Elements.{IsStringElement, Node, element_any, list_any, root, HasOnePart, part, parts_of_each, string_child, list_parts, one_part}
+use Rattle.meson_sources.proofs.trees.Elements.{IsStringElement, Node, element_any, list_any, root, HasOnePart, part, parts_of_each, string_child, list_parts}
+use Rattle.meson_sources.proofs.trees.Elements.{one_part}
 use Rattle.meson_sources.proofs.trees.Places.{node_between}
 use Rattle.meson_sources.proofs.trees.Scenes.{NodeIn}
 

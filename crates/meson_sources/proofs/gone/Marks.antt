@@ -1,6 +1,13 @@
 -- What is met after strings have gone from lists.
-use Rattle.meson_sources.proofs.Words.{cons_option, bytes_eq, if◌then◌else◌, option_map, ◌&&◌, ◌⊎◌, [], ap, ap₂, Bool, false, inl, inr, List, None, Option, refl, Some, subst, suc, sym, true, zero, ℕ, ◌++◌, ◌+◌, ◌∙◌, ◌∷◌, ◌≡◌, value, string_kind, Argument, argument, Arguments, array, call, Expression, identifier, Listing, listing, named, no_arguments, no_operands, Nowhere, operand, Operands, pair, plain, row, string, StringKind, Numbered, rest, sources_key, child, Placed, one_of, CallRef, are_plus, both_expanded, element, empty, expand_argument, expand_by, expand_each, expand_listing, expand_operands, Expansion, fixed, follow_single, in_list, is_files, is_operand_by, is_single_by, Item, known, literal_item, Mark, max_followed, met, of_variable, opaque, operand_at, or_empty, Slot, Stand, within}
-use Rattle.meson_sources.proofs.gone.Losses.{child_place, place_left, Loses, OperandsLose, ListLoses, EachLoses, ArgumentLoses, files_stay, plus_stay, operand_stays, none_known, value_stays}
+use Rattle.meson_sources.proofs.Words.{cons_option, bytes_eq, if◌then◌else◌, option_map, ◌&&◌, ◌⊎◌, [], ap, ap₂, Bool, false, inl, inr, List, None, Option}
+use Rattle.meson_sources.proofs.Words.{refl, Some, subst, suc, sym, true, zero, ℕ, ◌++◌, ◌+◌, ◌∙◌, ◌∷◌, ◌≡◌, value, string_kind, Argument, argument, Arguments}
+use Rattle.meson_sources.proofs.Words.{array, call, Expression, identifier, Listing, listing, named, no_arguments, no_operands, Nowhere, operand, Operands}
+use Rattle.meson_sources.proofs.Words.{pair, plain, row, string, StringKind, Numbered, rest, sources_key, child, Placed, one_of, CallRef, are_plus}
+use Rattle.meson_sources.proofs.Words.{both_expanded, element, empty, expand_argument, expand_by, expand_each, expand_listing, expand_operands, Expansion}
+use Rattle.meson_sources.proofs.Words.{fixed, follow_single, in_list, is_files, is_operand_by, is_single_by, Item, known, literal_item, Mark, max_followed, met}
+use Rattle.meson_sources.proofs.Words.{of_variable, opaque, operand_at, or_empty, Slot, Stand, within}
+use Rattle.meson_sources.proofs.gone.Losses.{child_place, place_left, Loses, OperandsLose, ListLoses, EachLoses, ArgumentLoses, files_stay, plus_stay}
+use Rattle.meson_sources.proofs.gone.Losses.{operand_stays, none_known, value_stays}
 use Rattle.meson_sources.proofs.gone.Places.{behind_gone, behind_left, before_all, left_before}
 use Rattle.meson_sources.proofs.met.Arguments.{Expand, keyed, list_with, plains, whole, key_count}
 use Rattle.meson_sources.proofs.met.Marks.{mark_contents, contents_append, contents_within, Values, list_by, lists_by, expand_with}

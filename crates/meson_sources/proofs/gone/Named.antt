@@ -1,6 +1,10 @@
 -- The spots of names, and the sources that go with them.
 use Rattle.std.proofs.lemmas.List.Folds.{list_any-append}
-use Rattle.meson_sources.proofs.Words.{filter, list_any, bytes_eq, if◌then◌else◌, Ok, ok_or, option_map, ◌&&◌, ◌||◌, ◌⊎◌, [], ap, ap₂, Bool, false, inl, inr, List, None, Option, refl, Some, subst, sym, true, ℕ, ◌++◌, ◌∙◌, ◌∷◌, ◌≡◌, or_left, or_right, bytes_eq-Decides, Span, then_ok, some-injective, Every, every-append, and-then-some, map-some, child, place, Project, one_of, CallRef, NotRemovable, fixed, in_list, Item, Mark, Slot, items, opaque_count, distinct, distinct_by, then_was, AreSpotsOf, element_spot, has_one_of, is_at, has_text, items_of, Spot, spot_of, spots_by, spots_named, spots_of}
+use Rattle.meson_sources.proofs.Words.{filter, list_any, bytes_eq, if◌then◌else◌, Ok, ok_or, option_map, ◌&&◌, ◌||◌, ◌⊎◌, [], ap, ap₂, Bool, false, inl, inr}
+use Rattle.meson_sources.proofs.Words.{List, None, Option, refl, Some, subst, sym, true, ℕ, ◌++◌, ◌∙◌, ◌∷◌, ◌≡◌, or_left, or_right, bytes_eq-Decides, then_ok}
+use Rattle.meson_sources.proofs.Words.{Span, some-injective, Every, every-append, and-then-some, map-some, child, place, Project, one_of, CallRef, NotRemovable}
+use Rattle.meson_sources.proofs.Words.{fixed, in_list, Item, Mark, Slot, items, opaque_count, distinct, distinct_by, then_was, AreSpotsOf, element_spot}
+use Rattle.meson_sources.proofs.Words.{has_one_of, is_at, has_text, items_of, Spot, spot_of, spots_by, spots_named, spots_of}
 use Rattle.meson_sources.proofs.gone.Spots.{spot_itself, both_true, same_one, Pairwise, pairwise_append, Apart, AreApart}
 use Rattle.meson_sources.proofs.met.Standing.{AllStand, ItemFits, OtherPlace, SlotFits}
 

@@ -1,5 +1,9 @@
 -- Elements go from the lists of a node, and then others from those of what is left: the node is what it is without all of them.
-use Rattle.meson_sources.proofs.Words.{if◌then◌else◌, ◌||◌, [], ap, ap₂, arith, Bool, false, inl, inr, List, refl, Some, subst, suc, sym, true, ℕ, ◌+◌, ◌∙◌, ◌∷◌, ◌≡◌, a_statement, an_expression, arguments_parts, listing_parts, nth, Argument, argument, argument_list, Arguments, arguments_of, array, call, dictionary, evaluate, Expression, Listing, listing, named, no_arguments, Nowhere, pair, plain, child_nodes, some-injective, Every, elements, with_elements, arguments_without, but, expression_without, from_child, Gone, listing_without}
+use Rattle.meson_sources.proofs.Words.{if◌then◌else◌, ◌||◌, [], ap, ap₂, arith, Bool, false, inl, inr, List, refl, Some, subst, suc, sym, true, ℕ, ◌+◌, ◌∙◌}
+use Rattle.meson_sources.proofs.Words.{◌∷◌, ◌≡◌, a_statement, an_expression, arguments_parts, listing_parts, nth, Argument, argument, argument_list, Arguments}
+use Rattle.meson_sources.proofs.Words.{arguments_of, array, call, dictionary, evaluate, Expression, Listing, listing, named, no_arguments, Nowhere, pair, plain}
+use Rattle.meson_sources.proofs.Words.{child_nodes, some-injective, Every, elements, with_elements, arguments_without, but, expression_without, from_child}
+use Rattle.meson_sources.proofs.Words.{Gone, listing_without}
 use Rattle.meson_sources.proofs.gone.Nodes.{filled_left, kind_left, left_list, node_without}
 use Rattle.meson_sources.proofs.gone.OneElement.{no_comma}
 use Rattle.meson_sources.proofs.gone.Places.{each_child, Fits, any_without, before_all, left_before}

@@ -1,10 +1,17 @@
 -- A node without what goes from the lists in it.
 use Rattle.meson_lex.specs.declared.kinds.Kind.TheVariants as k
 use Rattle.meson_syntax.specs.declared.operator.Operator.{Operator}
-use Rattle.meson_sources.proofs.Words.{[], ap, ap₂, arith, Bool, drop, false, length, List, refl, suc, sym, zero, ℕ, ◌+◌, ◌∙◌, ◌∷◌, ◌≡◌, a_block, a_statement, an_expression, branches_parts, Argument, arguments_of, block, branch, Branches, index, Listing, listing, method, named, no_arguments, no_branches, Nowhere, operand, pair, plain, postfix, row, selection, statement, tail, child_nodes, with_elements, arguments_without, block_without, branches_without, but, expression_without, from_child, Gone, listing_without, operands_without, otherwise_without, statement_without, statements_without, tails_without}
+use Rattle.meson_sources.proofs.Words.{[], ap, ap₂, arith, Bool, drop, false, length, List, refl, suc, sym, zero, ℕ, ◌+◌, ◌∙◌, ◌∷◌, ◌≡◌, a_block, a_statement}
+use Rattle.meson_sources.proofs.Words.{an_expression, branches_parts, Argument, arguments_of, block, branch, Branches, index, Listing, listing, method, named}
+use Rattle.meson_sources.proofs.Words.{no_arguments, no_branches, Nowhere, operand, pair, plain, postfix, row, selection, statement, tail, child_nodes}
+use Rattle.meson_sources.proofs.Words.{with_elements, arguments_without, block_without, branches_without, but, expression_without, from_child, Gone}
+use Rattle.meson_sources.proofs.Words.{listing_without, operands_without, otherwise_without, statement_without, statements_without, tails_without}
 use Rattle.meson_sources.proofs.gone.Places.{any_without, each_child}
 use Rattle.meson_sources.proofs.trees.Elements.{Node}
-use Rattle.meson_sources.proofs.trees.Skeletons.{a_conditional, a_loop, a_paren, a_unary, an_assignment, an_evaluation, BlankTail, ListKind, Skeleton, a_list, a_method, a_postfix, a_row, a_selection, a_sequence, an_index, array_kind, call_kind, dictionary_kind, fill, fill_branches, fill_else, fill_list, fill_operands, fill_other, fill_statements, fill_tails, filled, of_kind, part_count, skeleton, whole_list}
+use Rattle.meson_sources.proofs.trees.Skeletons.{a_conditional, a_loop, a_paren, a_unary, an_assignment, an_evaluation, BlankTail, ListKind, Skeleton, a_list}
+use Rattle.meson_sources.proofs.trees.Skeletons.{a_method, a_postfix, a_row, a_selection, a_sequence, an_index, array_kind, call_kind, dictionary_kind, fill}
+use Rattle.meson_sources.proofs.trees.Skeletons.{fill_branches, fill_else, fill_list, fill_operands, fill_other, fill_statements, fill_tails, filled, of_kind}
+use Rattle.meson_sources.proofs.trees.Skeletons.{part_count, skeleton, whole_list}
 
 abbrev pub nothing : Gone
 nothing path k = false

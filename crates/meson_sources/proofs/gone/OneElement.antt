@@ -1,6 +1,10 @@
 -- An element goes from a list of a tree: what is left is the tree without it.
 use Rattle.meson_edit.proofs.sequences.Changed.{changed}
-use Rattle.meson_sources.proofs.Words.{[], ap, ap₂, arith, Bool, false, List, refl, Some, subst, suc, sym, true, zero, ℕ, ◌+◌, ◌∙◌, ◌∷◌, ◌≡◌, ◌≤◌, a_block, an_expression, block_of, list_in, ListIn, nth, Argument, argument, argument_list, Arguments, arguments_of, array, call, dictionary, Expression, file, Listing, listing, named, no_arguments, Nowhere, pair, Plain, plain, child_nodes, list-of-arguments, some-injective, map-some, edited, element_removed, elements, Remove, with_elements, Differ, here, there, arguments_without, block_without, but, expression_without, from_child, Gone, listing_without, tree_without}
+use Rattle.meson_sources.proofs.Words.{[], ap, ap₂, arith, Bool, false, List, refl, Some, subst, suc, sym, true, zero, ℕ, ◌+◌, ◌∙◌, ◌∷◌, ◌≡◌, ◌≤◌, a_block}
+use Rattle.meson_sources.proofs.Words.{an_expression, block_of, list_in, ListIn, nth, Argument, argument, argument_list, Arguments, arguments_of, array, call}
+use Rattle.meson_sources.proofs.Words.{dictionary, Expression, file, Listing, listing, named, no_arguments, Nowhere, pair, Plain, plain, child_nodes}
+use Rattle.meson_sources.proofs.Words.{list-of-arguments, some-injective, map-some, edited, element_removed, elements, Remove, with_elements, Differ, here}
+use Rattle.meson_sources.proofs.Words.{there, arguments_without, block_without, but, expression_without, from_child, Gone, listing_without, tree_without}
 use Rattle.meson_sources.proofs.gone.Nodes.{node_same, nothing}
 use Rattle.meson_sources.proofs.gone.Places.{any_without, each_child}
 use Rattle.meson_sources.proofs.gone.Spots.{but_none, but_one}

@@ -1,5 +1,14 @@
 -- Where nodes stand in trees without some elements, and how many elements are left before others.
-use Rattle.meson_sources.proofs.Words.{if◌then◌else◌, nat_eq, nat_lt, option_and_then, ◌⊎◌, [], add-one, ap, ap₂, arith, Bool, false, inl, inr, length, List, None, refl, Some, subst, suc, sym, true, zero, ℕ, ◌++◌, ◌+◌, ◌<◌, ◌∙◌, ◌∷◌, ◌≡◌, ◌≤◌, eq-eqb, eqb-true, ltb-false, ltb-true, a_block, a_statement, an_expression, arguments_parts, branches_parts, listing_parts, tail_parts, nth, argument, argument_list, Arguments, arguments_of, array, assign, block, branch, Branches, call, conditional, dictionary, evaluate, index, iteration, Listing, listing, method, named, no_arguments, no_branches, no_operands, no_statements, no_tails, nothing_else, Nowhere, operand, Operands, Otherwise, otherwise, pair, paren, plain, postfix, row, selection, statement, Statements, Tail, tail, Tails, unary, child_nodes, node_at, operands_parts, otherwise_parts, statements_parts, tails_parts, some-injective, Every, and-then-some, elements, arguments_without, block_without, branches_without, but, expression_without, from_child, Gone, listing_without, operands_without, otherwise_without, statement_without, statements_without, tail_without, tails_without}
+use Rattle.meson_sources.proofs.Words.{if◌then◌else◌, nat_eq, nat_lt, option_and_then, ◌⊎◌, [], add-one, ap, ap₂, arith, Bool, false, inl, inr, length, List}
+use Rattle.meson_sources.proofs.Words.{None, refl, Some, subst, suc, sym, true, zero, ℕ, ◌++◌, ◌+◌, ◌<◌, ◌∙◌, ◌∷◌, ◌≡◌, ◌≤◌, eq-eqb, eqb-true, ltb-false}
+use Rattle.meson_sources.proofs.Words.{ltb-true, a_block, a_statement, an_expression, arguments_parts, branches_parts, listing_parts, tail_parts, nth, argument}
+use Rattle.meson_sources.proofs.Words.{argument_list, Arguments, arguments_of, array, assign, block, branch, Branches, call, conditional, dictionary, evaluate}
+use Rattle.meson_sources.proofs.Words.{index, iteration, Listing, listing, method, named, no_arguments, no_branches, no_operands, no_statements, no_tails}
+use Rattle.meson_sources.proofs.Words.{nothing_else, Nowhere, operand, Operands, Otherwise, otherwise, pair, paren, plain, postfix, row, selection, statement}
+use Rattle.meson_sources.proofs.Words.{Statements, Tail, tail, Tails, unary, child_nodes, node_at, operands_parts, otherwise_parts, statements_parts}
+use Rattle.meson_sources.proofs.Words.{tails_parts, some-injective, Every, and-then-some, elements, arguments_without, block_without, branches_without, but}
+use Rattle.meson_sources.proofs.Words.{expression_without, from_child, Gone, listing_without, operands_without, otherwise_without, statement_without}
+use Rattle.meson_sources.proofs.Words.{statements_without, tail_without, tails_without}
 use Rattle.meson_sources.proofs.gone.Spots.{but_none}
 use Rattle.meson_sources.proofs.trees.Elements.{HasOnePart, Node, list_any}
 

@@ -1,6 +1,7 @@
 -- Spots that are the same or differ, and lists without some of their elements.
 use Rattle.std.specs.Cmp.Lexicographic.{pointwise}
-use Rattle.meson_sources.proofs.Words.{AllPairs, if◌then◌else◌, nat_eq, ⊤, ◌&&◌, ◌||◌, [], ap, ap₂, arith, Bool, false, get_or, length, List, refl, suc, sym, true, zero, ℕ, ◌++◌, ◌<◌, ◌∙◌, ◌∷◌, ◌≡◌, eq-eqb, eqb-true, Every, every-append, place, same_spot, is_path, Spot, but}
+use Rattle.meson_sources.proofs.Words.{AllPairs, if◌then◌else◌, nat_eq, ⊤, ◌&&◌, ◌||◌, [], ap, ap₂, arith, Bool, false, get_or, length, List, refl, suc, sym}
+use Rattle.meson_sources.proofs.Words.{true, zero, ℕ, ◌++◌, ◌<◌, ◌∙◌, ◌∷◌, ◌≡◌, eq-eqb, eqb-true, Every, every-append, place, same_spot, is_path, Spot, but}
 use Rattle.meson_sources.proofs.trees.Elements.{without}
 
 -- ==== What holds of each element of a list and each later one.
@@ -68,11 +69,6 @@ pointwise_is (m ∷ list) (n ∷ path) = ap (λ b. nat_eq m n && b) (pointwise_i
 module _ {X : Type 0} where
   abbrev pub kept_by : Bool → X → List X → List X
   kept_by b x l = if b then l else x ∷ l
-
-  pub but_same : (f g : ℕ → Bool) → ((n : ℕ) → f n ≡ g n) → (xs : List X) → but f xs ≡ but g xs
-  but_same f g same [] = refl
-  but_same f g same (x ∷ xs) =
-      ap (λ b. kept_by b x (but (λ n. f (suc n)) xs)) (same 0) ∙ ap (λ l. kept_by (g 0) x l) (but_same (λ n. f (suc n)) (λ n. g (suc n)) (λ n. same (suc n)) xs)
 
   pub but_none : (f : ℕ → Bool) → ((n : ℕ) → f n ≡ false) → (xs : List X) → but f xs ≡ xs
   but_none f none [] = refl

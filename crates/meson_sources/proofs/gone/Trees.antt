@@ -2,7 +2,18 @@
 use Rattle.meson_calls.specs.Calls as calls
 use Rattle.meson_syntax.specs.declared.operator.Bracket.TheVariants as bracket
 use Rattle.meson_edit.proofs.sequences.Deepened.{removals-stay-within}
-use Rattle.meson_sources.proofs.Words.{Nowhere, filter, All, if◌then◌else◌, nat_eq, Ok, option_and_then, option_map, Result, slice_set, ◌&&◌, ◌||◌, [], ap, ap₂, arith, Bool, false, List, map, refl, Some, subst, suc, sym, true, zero, ℕ, ◌++◌, ◌∙◌, ◌∷◌, ◌≡◌, ◌≤◌, eq-eqb, ne_eqb, All-cons, All-head, All-nil, All-set, All-tail, Span, then_ok, a_block, a_statement, an_expression, arguments_parts, listing_parts, file_depth, Flagged, LevelListing, ListAt, nth, argument, Arguments, array, call, dictionary, evaluate, file, Listing, listing, named, no_arguments, pair, Plain, plain, Bracket, child_nodes, some-injective, Every, and-then-some, map-some, edited, element_removed, elements, Remove, with_elements, removals-keep-levels, AreParsed, Loaded, project, once, sources_key, child, place, Project, CallRef, Refusal, by_each_child, empty, fixed, in_list, Item, known, Mark, opaque, Slot, items, opaque_count, source_marks, AreDoable, MayStandBetween, none, one, checked_names, distinct, plain_trees, all_stepped, Step, stepped, trees_stand, once_was, then_was, all_nth, change_there, element_spot, goes, same_spot, trees_without, checked_extra, extra_marks, has_text, is_path, items_of, removal, removal_steps, removals_after, removed_at, Spot, spot_of, spot_without, spots_by, spots_named, spots_of, block_without, each_without, from_child, Gone, tree_without}
+use Rattle.meson_sources.proofs.Words.{filter, All, if◌then◌else◌, nat_eq, Ok, option_and_then, option_map, Result, slice_set, ◌&&◌, ◌||◌, [], ap, ap₂, arith}
+use Rattle.meson_sources.proofs.Words.{Bool, false, List, map, refl, Some, subst, suc, sym, true, zero, ℕ, ◌++◌, ◌∙◌, ◌∷◌, ◌≡◌, ◌≤◌, eq-eqb, ne_eqb, All-cons}
+use Rattle.meson_sources.proofs.Words.{All-head, All-nil, All-set, All-tail, then_ok, Span, a_block, a_statement, an_expression, arguments_parts, listing_parts}
+use Rattle.meson_sources.proofs.Words.{file_depth, Flagged, LevelListing, ListAt, nth, Nowhere, argument, Arguments, array, call, dictionary, evaluate, file}
+use Rattle.meson_sources.proofs.Words.{Listing, listing, named, no_arguments, pair, Plain, plain, Bracket, child_nodes, some-injective, Every, and-then-some}
+use Rattle.meson_sources.proofs.Words.{map-some, edited, element_removed, elements, Remove, with_elements, removals-keep-levels, AreParsed, Loaded, project}
+use Rattle.meson_sources.proofs.Words.{once, sources_key, child, place, Project, CallRef, Refusal, by_each_child, empty, fixed, in_list, Item, known, Mark}
+use Rattle.meson_sources.proofs.Words.{opaque, Slot, items, opaque_count, source_marks, AreDoable, MayStandBetween, none, one, checked_names, distinct}
+use Rattle.meson_sources.proofs.Words.{plain_trees, all_stepped, Step, stepped, trees_stand, once_was, then_was, all_nth, change_there, element_spot, goes}
+use Rattle.meson_sources.proofs.Words.{same_spot, trees_without, checked_extra, extra_marks, has_text, is_path, items_of, removal, removal_steps}
+use Rattle.meson_sources.proofs.Words.{removals_after, removed_at, Spot, spot_of, spot_without, spots_by, spots_named, spots_of, block_without, each_without}
+use Rattle.meson_sources.proofs.Words.{from_child, Gone, tree_without}
 use Rattle.meson_sources.proofs.added.Homes.{checked_marks}
 use Rattle.meson_sources.proofs.gone.Losses.{child_in}
 use Rattle.meson_sources.proofs.gone.Named.{every_both, every_weaker, spots_apart, some_spots}
@@ -11,7 +22,8 @@ use Rattle.meson_sources.proofs.gone.OneElement.{Alone, element_goes}
 use Rattle.meson_sources.proofs.gone.Places.{any_without, each_child}
 use Rattle.meson_sources.proofs.gone.Spots.{or_with_none, Apart, AreApart, but_none}
 use Rattle.meson_sources.proofs.gone.Twice.{left_without, moved_spot, moved_there, stays_there, trees_twice, SpotStays, moved_twice, spot_left, still_apart}
-use Rattle.meson_sources.proofs.met.Standing.{SpotStands, StringIn, spot_in, RemovalsDoable, AllStand, SlotStands, MarkStands, SourcesMayBeRemoved, ExtrasMayBeRemoved}
+use Rattle.meson_sources.proofs.met.Standing.{SpotStands, StringIn, spot_in, RemovalsDoable, AllStand, SlotStands, MarkStands, SourcesMayBeRemoved}
+use Rattle.meson_sources.proofs.met.Standing.{ExtrasMayBeRemoved}
 use Rattle.meson_sources.proofs.met.Ways.{node_level}
 use Rattle.meson_sources.proofs.trees.Elements.{Node}
 use Rattle.meson_sources.proofs.trees.Scenes.{NodeIn}

@@ -1,10 +1,17 @@
 -- Elements go, and then others from where they stand then.
 use Rattle.std.proofs.lemmas.List.Sums.{sum_by-cons}
-use Rattle.meson_sources.proofs.Words.{count_by, All, cond, if◌then◌else◌, nat_eq, nat_lt, option_and_then, ◌&&◌, ◌||◌, [], ap, append-nil, ap₂, arith, Bool, false, List, map, None, refl, Some, subst, suc, sym, true, zero, ℕ, ◌++◌, ◌+◌, ◌∙◌, ◌∷◌, ◌≡◌, eq-eqb, eqb-true, ltb-false, ltb-true, ne_eqb, or_right, a_block, an_expression, nth, argument, argument_list, Arguments, array, Block, call, dictionary, file, Listing, listing, named, no_arguments, Nowhere, pair, Plain, plain, string, StringKind, child_nodes, node_at, some-injective, Every, and-then-some, elements, child, place, CallRef, by_each_child, MayStandBetween, element_spot, goes, same_spot, trees_without, is_before, is_path, number_without, path_without, Spot, spot_without, arguments_without, but, each_without, from_child, Gone, listing_without, tree_without}
+use Rattle.meson_sources.proofs.Words.{count_by, All, cond, if◌then◌else◌, nat_eq, nat_lt, option_and_then, ◌&&◌, ◌||◌, [], ap, append-nil, ap₂, arith, Bool}
+use Rattle.meson_sources.proofs.Words.{false, List, map, None, refl, Some, subst, suc, sym, true, zero, ℕ, ◌++◌, ◌+◌, ◌∙◌, ◌∷◌, ◌≡◌, eq-eqb, eqb-true}
+use Rattle.meson_sources.proofs.Words.{ltb-false, ltb-true, ne_eqb, or_right, a_block, an_expression, nth, argument, argument_list, Arguments, array, Block}
+use Rattle.meson_sources.proofs.Words.{call, dictionary, file, Listing, listing, named, no_arguments, Nowhere, pair, Plain, plain, string, StringKind}
+use Rattle.meson_sources.proofs.Words.{child_nodes, node_at, some-injective, Every, and-then-some, elements, child, place, CallRef, by_each_child}
+use Rattle.meson_sources.proofs.Words.{MayStandBetween, element_spot, goes, same_spot, trees_without, is_before, is_path, number_without, path_without, Spot}
+use Rattle.meson_sources.proofs.Words.{spot_without, arguments_without, but, each_without, from_child, Gone, listing_without, tree_without}
 use Rattle.meson_sources.proofs.gone.Losses.{at_child, at_itself, gone_at, place_left, child_place, fits, node_moved, stands, LostString, child_in}
 use Rattle.meson_sources.proofs.gone.Named.{every_weaker, some_of}
 use Rattle.meson_sources.proofs.gone.NodeTwice.{ChildThen, node_then}
-use Rattle.meson_sources.proofs.gone.Places.{OneMore, as_many, left_same, one_fewer, before_all, left_before, path_left, same_left, under_is, under_path, Stands, any_without, nth_but}
+use Rattle.meson_sources.proofs.gone.Places.{OneMore, as_many, left_same, one_fewer, before_all, left_before, path_left, same_left, under_is, under_path}
+use Rattle.meson_sources.proofs.gone.Places.{Stands, any_without, nth_but}
 use Rattle.meson_sources.proofs.gone.Spots.{apart_not_same, same_paths, Apart, AreApart, apart_of, or_with_none, same_one}
 use Rattle.meson_sources.proofs.met.Standing.{StringIn}
 use Rattle.meson_sources.proofs.trees.Elements.{at_stands, root, stands_at, with_them, Node, element_any, list_any, string_child}

@@ -1,5 +1,10 @@
 -- Variables stand for what is left of their values after strings have gone from lists of sources.
-use Rattle.meson_sources.proofs.Words.{All, if◌then◌else◌, not, option_and_then, option_map, ◌&&◌, [], ap, ap₂, Bool, false, inl, inr, List, None, Option, refl, Some, subst, suc, sym, true, zero, ℕ, ◌++◌, ◌+◌, ◌∙◌, ◌∷◌, ◌≡◌, Span, a_block, a_statement, an_expression, LevelExpression, block_of, nth, Block, block, erase_expression, Expression, no_statements, Nowhere, Plain, Statement, statement, Statements, child_nodes, node_at, statements_parts, some-injective, and-then-some, Loaded, project, trees, child, place, Placed, placed, Project, CallRef, all_known, Assigned, assignments, is_outermost, is_set_otherwise, only_value, single, MayStandBetween, plain_trees, each_without, expression_without, from_child, Gone}
+use Rattle.meson_sources.proofs.Words.{All, if◌then◌else◌, not, option_and_then, option_map, ◌&&◌, [], ap, ap₂, Bool, false, inl, inr, List, None, Option, refl}
+use Rattle.meson_sources.proofs.Words.{Some, subst, suc, sym, true, zero, ℕ, ◌++◌, ◌+◌, ◌∙◌, ◌∷◌, ◌≡◌, Span, a_block, a_statement, an_expression}
+use Rattle.meson_sources.proofs.Words.{LevelExpression, block_of, nth, Block, block, erase_expression, Expression, no_statements, Nowhere, Plain, Statement}
+use Rattle.meson_sources.proofs.Words.{statement, Statements, child_nodes, node_at, statements_parts, some-injective, and-then-some, Loaded, project, trees}
+use Rattle.meson_sources.proofs.Words.{child, place, Placed, placed, Project, CallRef, all_known, Assigned, assignments, is_outermost, is_set_otherwise}
+use Rattle.meson_sources.proofs.Words.{only_value, single, MayStandBetween, plain_trees, each_without, expression_without, from_child, Gone}
 use Rattle.meson_sources.proofs.gone.Held.{same_there}
 use Rattle.meson_sources.proofs.gone.Losses.{child_place, fits_none, node_moved, place_left, Lost, at_child, gone_at, loses, strings_lost, Loses}
 use Rattle.meson_sources.proofs.gone.Marks.{BothStand, ValueLoses}

@@ -1,6 +1,11 @@
 -- What is met in the arguments of a call.
 use Rattle.meson_syntax.specs.declared.operator.Bracket.TheVariants as bracket
-use Rattle.meson_sources.proofs.Words.{cons_option, filter_map, bytes_eq, if◌then◌else◌, Ok, option_map, ◌⊎◌, [], ap, arith, Bool, false, inl, inr, length, List, map, None, refl, Some, subst, suc, sym, true, zero, ℕ, ◌++◌, ◌+◌, ◌∙◌, ◌∷◌, ◌≡◌, ◌≤◌, an_expression, Any, arguments_parts, LevelArguments, LevelExpression, holds_pairs, Argument, argument, Arguments, arguments_of, bare_name, erase_arguments, Expression, Name, named, no_arguments, Nowhere, pair, plain, Bracket, kept_number, Numbered, numbered, value_with_name, value_without_name, once, rest, sources_key, child, CallRef, both_expanded, Expansion, fixed, in_list, nothing_met, Slot, Stand, list_of_slot, Differ, strings, extra_key}
+use Rattle.meson_sources.proofs.Words.{cons_option, filter_map, bytes_eq, if◌then◌else◌, Ok, option_map, ◌⊎◌, [], ap, arith, Bool, false, inl, inr, length}
+use Rattle.meson_sources.proofs.Words.{List, map, None, refl, Some, subst, suc, sym, true, zero, ℕ, ◌++◌, ◌+◌, ◌∙◌, ◌∷◌, ◌≡◌, ◌≤◌, an_expression, Any}
+use Rattle.meson_sources.proofs.Words.{arguments_parts, LevelArguments, LevelExpression, holds_pairs, Argument, argument, Arguments, arguments_of, bare_name}
+use Rattle.meson_sources.proofs.Words.{erase_arguments, Expression, Name, named, no_arguments, Nowhere, pair, plain, Bracket, kept_number, Numbered, numbered}
+use Rattle.meson_sources.proofs.Words.{value_with_name, value_without_name, once, rest, sources_key, child, CallRef, both_expanded, Expansion, fixed, in_list}
+use Rattle.meson_sources.proofs.Words.{nothing_met, Slot, Stand, list_of_slot, Differ, strings, extra_key}
 use Rattle.meson_sources.proofs.met.Outcomes.{Outcome, Along, joined, nothing_both, still, along_same, along_first, along_behind}
 use Rattle.meson_sources.proofs.trees.Places.{below, below_child}
 use Rattle.meson_sources.proofs.trees.Shapes.{Becomes, differ_none, differ_here, differ_there}

@@ -1,22 +1,30 @@
 -- What is met in a call after another list has got strings.
 use Rattle.meson_syntax.specs.Paths as paths
 use Rattle.meson_syntax.specs.declared.operator.Bracket.TheVariants as bracket
-use Rattle.meson_sources.proofs.Words.{All, ◌⊎◌, [], ap, Bool, false, inl, inr, IsUtf8, length, List, None, Option, refl, Some, subst, sym, true, ℕ, ◌++◌, ◌∙◌, ◌∷◌, ◌≡◌, ◌≤◌, bytes_eq-Decides, Span, a_block, a_statement, an_expression, Any, arguments_parts, block_of, nth, Argument, Arguments, arguments_of, array, assign, call, dictionary, erase_name, Expression, Listing, listing, Name, Nowhere, Plain, child_nodes, node_at, some-injective, Every, and-then-some, IsProject, Loaded, project, BuildFile, child, expression_at, nth_file, Placed, one_of, target_functions, CallRef, expand_by, Expansion, fixed, is_files, is_operand_by, is_value_by, Mark, max_followed, met, opaque, Stand, single, MayStandBetween, plain_trees, Differ, strings, file_names}
+use Rattle.meson_sources.proofs.Words.{All, ◌⊎◌, [], ap, Bool, false, inl, inr, IsUtf8, length, List, None, Option, refl, Some, subst, sym, true, ℕ, ◌++◌, ◌∙◌}
+use Rattle.meson_sources.proofs.Words.{◌∷◌, ◌≡◌, ◌≤◌, bytes_eq-Decides, Span, a_block, a_statement, an_expression, Any, arguments_parts, block_of, nth}
+use Rattle.meson_sources.proofs.Words.{Argument, Arguments, arguments_of, array, assign, call, dictionary, erase_name, Expression, Listing, listing, Name}
+use Rattle.meson_sources.proofs.Words.{Nowhere, Plain, child_nodes, node_at, some-injective, Every, and-then-some, IsProject, Loaded, project, BuildFile, child}
+use Rattle.meson_sources.proofs.Words.{expression_at, nth_file, Placed, one_of, target_functions, CallRef, expand_by, Expansion, fixed, is_files, is_operand_by}
+use Rattle.meson_sources.proofs.Words.{is_value_by, Mark, max_followed, met, opaque, Stand, single, MayStandBetween, plain_trees, Differ, strings, file_names}
 use Rattle.meson_sources.proofs.added.Homes.{all_stand}
-use Rattle.meson_sources.proofs.added.Turns.{ListTurns, Turn, an_array, a_call as call_turn, a_dictionary, below_first, new_list, none_by_files, none_by_level, old_list}
+use Rattle.meson_sources.proofs.added.Turns.{ListTurns, Turn, an_array, a_call as call_turn, a_dictionary, below_first, new_list, none_by_files, none_by_level}
+use Rattle.meson_sources.proofs.added.Turns.{old_list}
 use Rattle.meson_sources.proofs.met.Arguments.{keys_same, list_with, as_sources, as_whole, same_keys, keyed, key_blanks}
 use Rattle.meson_sources.proofs.met.Expressions.{files_alike, operand_alike}
 use Rattle.meson_sources.proofs.met.Files.{FileKind, GoesTo, met_in, not_clear, of_extras, FilesGrown, answered_alike}
 use Rattle.meson_sources.proofs.met.GrownLists.{array_brings, call_brings, files_stay}
 use Rattle.meson_sources.proofs.met.Marks.{values_of, expand_with}
 use Rattle.meson_sources.proofs.met.Outcomes.{gist, Grows, Clear, Either, as_before, grown, How, stays, comes, Outcome, Along, along_same, opaque_both}
-use Rattle.meson_sources.proofs.met.Ways.{node_level, placed_of, kin_v, kin_c, always, arguments_above, far_call, becomes_same, node_below, kin_x, KinV, call_above, level_v, opaque_call}
+use Rattle.meson_sources.proofs.met.Ways.{node_level, placed_of, kin_v, kin_c, always, arguments_above, far_call, becomes_same, node_below, kin_x, KinV}
+use Rattle.meson_sources.proofs.met.Ways.{call_above, level_v, opaque_call}
 use Rattle.meson_sources.proofs.told.NamedAgain.{KeepsNames, named_stays}
 use Rattle.meson_sources.proofs.told.Staying.{Alike, calls_alike, grown_tells, array_told, call_told, told_along}
 use Rattle.meson_sources.proofs.told.Targets.{node_tells}
 use Rattle.meson_sources.proofs.told.Variables.{target_no_files, files_names, files_no_matter, files_no_target}
 use Rattle.meson_sources.proofs.trees.Calls.{CallIn, CallNode, bare_arguments, bare_form, called, stands_bare}
-use Rattle.meson_sources.proofs.trees.Places.{expression_node, below, below_child, below_itself, no_statement, node_between, owner, owner_is, single_named, Far, IsIt, far_deeper, far_apart, aside_far, above_it, under, without_last, below_steps}
+use Rattle.meson_sources.proofs.trees.Places.{expression_node, below, below_child, below_itself, no_statement, node_between, owner, owner_is, single_named, Far}
+use Rattle.meson_sources.proofs.trees.Places.{IsIt, far_deeper, far_apart, aside_far, above_it, under, without_last, below_steps}
 use Rattle.meson_sources.proofs.trees.Scenes.{NodeIn, names_of, node_above, next_in, node_away, same_places}
 use Rattle.meson_sources.proofs.trees.Shapes.{a_call, shape, Becomes, became_new, became_old}
 use Rattle.meson_sources.proofs.trees.Skeletons.{blanks}

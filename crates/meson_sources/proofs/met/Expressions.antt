@@ -1,8 +1,15 @@
 -- What is met in an expression that stays, and in one in which another node stands.
 use Rattle.meson_syntax.specs.declared.operator.Bracket.TheVariants as bracket
 use Rattle.meson_syntax.specs.declared.operator.Operator.{Operator}
-use Rattle.meson_sources.proofs.Words.{bytes_eq, codes, if◌then◌else◌, not, ◌&&◌, [], ap, ap₂, arith, Bool, false, List, None, Option, refl, Some, subst, suc, sym, true, zero, ℕ, ◌+◌, ◌∙◌, ◌∷◌, ◌≡◌, ◌≤◌, value, an_expression, Any, arguments_parts, LevelArguments, LevelExpression, LevelOperands, holds_pairs, string_kind, Argument, argument, Arguments, array, call, Expression, identifier, is_named, Listing, listing, named, no_arguments, no_operands, Nowhere, operand, Operands, pair, plain, row, string, Bracket, expression_parts, operands_parts, child, one_of, CallRef, are_plus, both_expanded, element, expand_argument, expand_by, expand_each, expand_listing, expand_operands, Expansion, has_names, in_list, is_files, is_operand_by, is_plus, literal_item, met, opaque, operand_at, Slot, Stand, list_of_slot, Differ}
-use Rattle.meson_sources.proofs.met.Outcomes.{Outcome, stays, joined, nothing_both, opaque_both, outcome_within, Along, still, along_same, along_first, along_behind, along_within}
+use Rattle.meson_sources.proofs.Words.{bytes_eq, codes, if◌then◌else◌, not, ◌&&◌, [], ap, ap₂, arith, Bool, false, List, None, Option, refl, Some, subst, suc}
+use Rattle.meson_sources.proofs.Words.{sym, true, zero, ℕ, ◌+◌, ◌∙◌, ◌∷◌, ◌≡◌, ◌≤◌, value, an_expression, Any, arguments_parts, LevelArguments, LevelExpression}
+use Rattle.meson_sources.proofs.Words.{LevelOperands, holds_pairs, string_kind, Argument, argument, Arguments, array, call, Expression, identifier, is_named}
+use Rattle.meson_sources.proofs.Words.{Listing, listing, named, no_arguments, no_operands, Nowhere, operand, Operands, pair, plain, row, string, Bracket}
+use Rattle.meson_sources.proofs.Words.{expression_parts, operands_parts, child, one_of, CallRef, are_plus, both_expanded, element, expand_argument, expand_by}
+use Rattle.meson_sources.proofs.Words.{expand_each, expand_listing, expand_operands, Expansion, has_names, in_list, is_files, is_operand_by, is_plus}
+use Rattle.meson_sources.proofs.Words.{literal_item, met, opaque, operand_at, Slot, Stand, list_of_slot, Differ}
+use Rattle.meson_sources.proofs.met.Outcomes.{Outcome, stays, joined, nothing_both, opaque_both, outcome_within, Along, still, along_same, along_first}
+use Rattle.meson_sources.proofs.met.Outcomes.{along_behind, along_within}
 use Rattle.meson_sources.proofs.trees.Places.{below, below_child}
 use Rattle.meson_sources.proofs.trees.Shapes.{Shape, an_array, a_call, a_leaf, another, shape, Becomes, differ_none, differ_here, differ_there}
 use Rattle.meson_sources.proofs.trees.Skeletons.{blanks, list_blanks, operators, same_arguments, same_operands}

@@ -1,5 +1,11 @@
 -- The extra files of a target whose call has got an argument for them.
-use Rattle.meson_sources.proofs.Words.{option_and_then, option_map, [], ap, append-nil, arith, false, inr, IsUtf8, length, List, map, None, refl, Some, subst, sym, ℕ, ◌++◌, ◌+◌, ◌∙◌, ◌∷◌, ◌≡◌, ◌≤◌, Span, an_expression, argument_parts, arguments_parts, list_at, list_in, ListAt, ListIn, value_of, Argument, Arguments, arguments_of, array, call, dictionary, erase_expression, Expression, Listing, listing, named, Nowhere, pair, Plain, plain, string, list-of-arguments, some-injective, Every, elements, with_value, lists-stay, Call, literal_of, Numbered, Loaded, project, Placed, Project, CallRef, Expansion, fixed, max_followed, plain_trees, ArgumentComes, ArgumentGrows, array_holding, elements_found, extra_argument, OnlyList, strings, extra_files, extra_key, is_plain, file_names}
+use Rattle.meson_sources.proofs.Words.{option_and_then, option_map, [], ap, append-nil, arith, false, inr, IsUtf8, length, List, map, None, refl, Some, subst}
+use Rattle.meson_sources.proofs.Words.{sym, ℕ, ◌++◌, ◌+◌, ◌∙◌, ◌∷◌, ◌≡◌, ◌≤◌, Span, an_expression, argument_parts, arguments_parts, list_at, list_in, ListAt}
+use Rattle.meson_sources.proofs.Words.{ListIn, value_of, Argument, Arguments, arguments_of, array, call, dictionary, erase_expression, Expression, Listing}
+use Rattle.meson_sources.proofs.Words.{listing, named, Nowhere, pair, Plain, plain, string, list-of-arguments, some-injective, Every, elements, with_value}
+use Rattle.meson_sources.proofs.Words.{lists-stay, Call, literal_of, Numbered, Loaded, project, Placed, Project, CallRef, Expansion, fixed, max_followed}
+use Rattle.meson_sources.proofs.Words.{plain_trees, ArgumentComes, ArgumentGrows, array_holding, elements_found, extra_argument, OnlyList, strings, extra_files}
+use Rattle.meson_sources.proofs.Words.{extra_key, is_plain, file_names}
 use Rattle.meson_sources.proofs.added.Turns.{listing_form}
 use Rattle.meson_sources.proofs.gone.Held.{same_there}
 use Rattle.meson_sources.proofs.met.Arguments.{keyed, list_with, as_whole, key_count, key_length}

@@ -2,10 +2,19 @@
 use Rattle.meson_syntax.specs.declared.operator.Bracket.TheVariants as bracket
 use Rattle.meson_sources.proofs.met.Arguments as extra
 use Rattle.meson_variables.specs.declared.source.Sources as found
-use Rattle.meson_sources.proofs.Words.{cons_option, filter, bytes_eq, if◌then◌else◌, not, Ok, option_and_then, option_map, [], ap, append-nil, ap₂, arith, Bool, false, length, List, map, None, Option, refl, Some, subst, suc, sym, true, ℕ, ◌++◌, ◌+◌, ◌∙◌, ◌∷◌, ◌≡◌, ◌≤◌, map-append, Span, arguments_parts, LevelArguments, argument, Arguments, erase_arguments, erase_expression, Expression, named, no_arguments, Nowhere, pair, plain, some-injective, Every, every-append, Call, call_of, Numbered, Loaded, project, kwargs_key, once, rest, sources_key, child, Placed, placed, Project, one_of, CallRef, once_few, both_expanded, empty, expand, Expansion, fixed, in_list, Item, known, Mark, max_followed, opaque, Slot, then_expand, expand_arguments, first_empty, first_list, hidden, items, list_of_slot, opaque_count, or_option, source_item, source_marks, sources, sources_of_call, sources_of_marks, SourceItem, plain_trees, extra_files, extra_of_call, extra_key, extra_marks, Reading, source_texts, TextsCome}
+use Rattle.meson_sources.proofs.Words.{cons_option, filter, bytes_eq, if◌then◌else◌, not, Ok, option_and_then, option_map, [], ap, append-nil, ap₂, arith, Bool}
+use Rattle.meson_sources.proofs.Words.{false, length, List, map, None, Option, refl, Some, subst, suc, sym, true, ℕ, ◌++◌, ◌+◌, ◌∙◌, ◌∷◌, ◌≡◌, ◌≤◌, map-append}
+use Rattle.meson_sources.proofs.Words.{Span, arguments_parts, LevelArguments, argument, Arguments, erase_arguments, erase_expression, Expression, named}
+use Rattle.meson_sources.proofs.Words.{no_arguments, Nowhere, pair, plain, some-injective, Every, every-append, Call, call_of, Numbered, Loaded, project}
+use Rattle.meson_sources.proofs.Words.{kwargs_key, once, rest, sources_key, child, Placed, placed, Project, one_of, CallRef, once_few, both_expanded, empty}
+use Rattle.meson_sources.proofs.Words.{expand, Expansion, fixed, in_list, Item, known, Mark, max_followed, opaque, Slot, then_expand, expand_arguments}
+use Rattle.meson_sources.proofs.Words.{first_empty, first_list, hidden, items, list_of_slot, opaque_count, or_option, source_item, source_marks, sources}
+use Rattle.meson_sources.proofs.Words.{sources_of_call, sources_of_marks, SourceItem, plain_trees, extra_files, extra_of_call, extra_key, extra_marks, Reading}
+use Rattle.meson_sources.proofs.Words.{source_texts, TextsCome}
 use Rattle.meson_sources.proofs.gone.Marks.{Left, head_by, item_left, left_append, left_of, slot_gone}
 use Rattle.meson_sources.proofs.met.Arguments.{keyed, keys, list_with, plains, whole, key_bare, key_count, key_length}
-use Rattle.meson_sources.proofs.met.Marks.{bare_mark, bare, both_bare, expand_with, expand_bare, values_of, mark_contents, contents_append, contents_bare, contents_texts, contents_unknown}
+use Rattle.meson_sources.proofs.met.Marks.{bare_mark, bare, both_bare, expand_with, expand_bare, values_of, mark_contents, contents_append, contents_bare}
+use Rattle.meson_sources.proofs.met.Marks.{contents_texts, contents_unknown}
 use Rattle.meson_sources.proofs.met.Outcomes.{gist, Clear, gist_append, Grows, grows_first, texts_are, texts_come, unknown_is, as_unknown, moved}
 use Rattle.meson_sources.proofs.trees.Calls.{CallIn, bare_arguments, called, CallNode, call_again}
 use Rattle.meson_sources.proofs.trees.Places.{IsIt}

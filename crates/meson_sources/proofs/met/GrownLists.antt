@@ -1,11 +1,18 @@
 -- What is met in a list that gets strings.
 use Rattle.meson_syntax.specs.declared.operator.StringKind.TheVariants as quotes
 use Rattle.meson_lex.proofs.Written.{literal_value}
-use Rattle.meson_sources.proofs.Words.{cons_option, filter_map, All, bytes_eq, codes, if◌then◌else◌, not, option_map, ◌&&◌, [], ap, append-nil, ap₂, arith, Bool, false, IsUtf8, length, List, None, Option, refl, Some, subst, suc, sym, true, zero, ℕ, ◌++◌, ◌+◌, ◌<◌, ◌∙◌, ◌∷◌, ◌≡◌, ◌≤◌, All-head, All-tail, filter_map-append, literal, value, Any, string_kind, value_of, Argument, arguments_of, array, call, Expression, listing, Name, named, Nowhere, pair, plain, string, Every, with_value, kept_number, literal_of, Numbered, numbered, value_with_name, rest, child, one_of, CallRef, both_expanded, element, expand_by, expand_each, Expansion, fixed, has_names, in_list, is_files, known, literal_item, Mark, max_followed, met, nothing_met, opaque, Stand, within, list_of_slot, string_of, array_holding, extra_argument, strings, extra_key, is_plain}
+use Rattle.meson_sources.proofs.Words.{cons_option, filter_map, All, bytes_eq, codes, if◌then◌else◌, not, option_map, ◌&&◌, [], ap, append-nil, ap₂, arith}
+use Rattle.meson_sources.proofs.Words.{Bool, false, IsUtf8, length, List, None, Option, refl, Some, subst, suc, sym, true, zero, ℕ, ◌++◌, ◌+◌, ◌<◌, ◌∙◌, ◌∷◌}
+use Rattle.meson_sources.proofs.Words.{◌≡◌, ◌≤◌, All-head, All-tail, filter_map-append, literal, value, Any, string_kind, value_of, Argument, arguments_of}
+use Rattle.meson_sources.proofs.Words.{array, call, Expression, listing, Name, named, Nowhere, pair, plain, string, Every, with_value, kept_number, literal_of}
+use Rattle.meson_sources.proofs.Words.{Numbered, numbered, value_with_name, rest, child, one_of, CallRef, both_expanded, element, expand_by, expand_each}
+use Rattle.meson_sources.proofs.Words.{Expansion, fixed, has_names, in_list, is_files, known, literal_item, Mark, max_followed, met, nothing_met, opaque, Stand}
+use Rattle.meson_sources.proofs.Words.{within, list_of_slot, string_of, array_holding, extra_argument, strings, extra_key, is_plain}
 use Rattle.meson_sources.proofs.met.Arguments.{Expand, list_with, plains, keys, keys_same, keyed}
 use Rattle.meson_sources.proofs.met.Expressions.{argument_same, each_same}
 use Rattle.meson_sources.proofs.met.Marks.{Values, expand_with}
-use Rattle.meson_sources.proofs.met.Outcomes.{gist, gist_append, gist_within, all_known, Grows, grows_first, grows_behind, moved, Clear, Either, as_before, grown, How, stays, comes, Outcome, Along, still, Gist}
+use Rattle.meson_sources.proofs.met.Outcomes.{gist, gist_append, gist_within, all_known, Grows, grows_first, grows_behind, moved, Clear, Either, as_before}
+use Rattle.meson_sources.proofs.met.Outcomes.{grown, How, stays, comes, Outcome, Along, still, Gist}
 
 -- ==== A list that gets strings behind some of its elements: what is met in it, and these.
 

@@ -1,6 +1,14 @@
 -- What variables stand for without spans, and what marks tell.
 use Rattle.meson_variables.specs.Expansion.{is_list_operand}
-use Rattle.meson_sources.proofs.Words.{filter, bytes_eq, codes, if◌then◌else◌, not, Ok, ok_or, option_and_then, option_map, ◌&&◌, [], ap, ap₂, Bool, false, List, map, None, Option, refl, Some, suc, sym, true, zero, ℕ, ◌++◌, ◌+◌, ◌∙◌, ◌∷◌, ◌≡◌, map-append, value, then_ok, string_kind, Argument, argument, Arguments, array, call, erase_argument, erase_arguments, erase_expression, erase_listing, erase_operands, Expression, identifier, Listing, listing, named, no_arguments, no_operands, Nowhere, operand, Operands, pair, plain, row, string, Placed, placed, Project, one_of, CallRef, NotRemovable, are_plus, both_expanded, element, empty, expand, expand_argument, expand_by, expand_each, expand_listing, expand_operands, Expansion, follow_single, has_names, is_files, is_list_variable, is_operand_by, is_plus, is_single_by, is_value_by, Item, known, literal_item, Mark, max_followed, met, of_variable, opaque, operand_at, or_empty, Stand, within, items, opaque_count, single, has_text, items_of, spot_of, spots_by, spots_named, spots_of}
+use Rattle.meson_sources.proofs.Words.{filter, bytes_eq, codes, if◌then◌else◌, not, Ok, ok_or, option_and_then, option_map, ◌&&◌, [], ap, ap₂, Bool, false}
+use Rattle.meson_sources.proofs.Words.{List, map, None, Option, refl, Some, suc, sym, true, zero, ℕ, ◌++◌, ◌+◌, ◌∙◌, ◌∷◌, ◌≡◌, map-append, then_ok, value}
+use Rattle.meson_sources.proofs.Words.{string_kind, Argument, argument, Arguments, array, call, erase_argument, erase_arguments, erase_expression}
+use Rattle.meson_sources.proofs.Words.{erase_listing, erase_operands, Expression, identifier, Listing, listing, named, no_arguments, no_operands, Nowhere}
+use Rattle.meson_sources.proofs.Words.{operand, Operands, pair, plain, row, string, Placed, placed, Project, one_of, CallRef, NotRemovable, are_plus}
+use Rattle.meson_sources.proofs.Words.{both_expanded, element, empty, expand, expand_argument, expand_by, expand_each, expand_listing, expand_operands}
+use Rattle.meson_sources.proofs.Words.{Expansion, follow_single, has_names, is_files, is_list_variable, is_operand_by, is_plus, is_single_by, is_value_by, Item}
+use Rattle.meson_sources.proofs.Words.{known, literal_item, Mark, max_followed, met, of_variable, opaque, operand_at, or_empty, Stand, within, items}
+use Rattle.meson_sources.proofs.Words.{opaque_count, single, has_text, items_of, spot_of, spots_by, spots_named, spots_of}
 
 -- ==== What variables stand for, in trees without spans; and that an expansion looks at no span.
 

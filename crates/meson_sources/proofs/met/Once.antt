@@ -1,8 +1,16 @@
 -- What is met in an expression, and behind variables that it names, stands where it says, and is met once.
-use Rattle.meson_sources.proofs.Words.{bytes_eq, if◌then◌else◌, ◌&&◌, ◌||◌, ◌⊎◌, [], ap, arith, Bool, false, inl, inr, List, None, Option, refl, Some, subst, suc, sym, true, zero, ℕ, ◌++◌, ◌+◌, ◌∙◌, ◌∷◌, ◌≡◌, ◌≤◌, or_left, or_right, bytes_eq-Decides, value, Span, holds_values, string_kind, list_in, ListIn, Argument, argument, argument_list, Arguments, array, call, Expression, identifier, Listing, listing, named, no_arguments, no_operands, operand, Operands, pair, plain, row, string, StringKind, elements, child, expression_at, Placed, Project, one_of, CallRef, child_stands, list_here, are_plus, both_expanded, element, expand, expand_argument, expand_by, expand_each, expand_listing, expand_operands, Expansion, follow_single, is_files, is_list_operand, Item, literal_item, met, nothing_met, of_variable, opaque, operand_at, Stand, within, items, single}
+use Rattle.meson_sources.proofs.Words.{bytes_eq, if◌then◌else◌, ◌&&◌, ◌||◌, ◌⊎◌, [], ap, arith, Bool, false, inl, inr, List, None, Option, refl, Some, subst}
+use Rattle.meson_sources.proofs.Words.{suc, sym, true, zero, ℕ, ◌++◌, ◌+◌, ◌∙◌, ◌∷◌, ◌≡◌, ◌≤◌, or_left, or_right, bytes_eq-Decides, value, Span, holds_values}
+use Rattle.meson_sources.proofs.Words.{string_kind, list_in, ListIn, Argument, argument, argument_list, Arguments, array, call, Expression, identifier, Listing}
+use Rattle.meson_sources.proofs.Words.{listing, named, no_arguments, no_operands, operand, Operands, pair, plain, row, string, StringKind, elements, child}
+use Rattle.meson_sources.proofs.Words.{expression_at, Placed, Project, one_of, CallRef, child_stands, list_here, are_plus, both_expanded, element, expand}
+use Rattle.meson_sources.proofs.Words.{expand_argument, expand_by, expand_each, expand_listing, expand_operands, Expansion, follow_single, is_files}
+use Rattle.meson_sources.proofs.Words.{is_list_operand, Item, literal_item, met, nothing_met, of_variable, opaque, operand_at, Stand, within, items, single}
 use Rattle.meson_sources.proofs.gone.Named.{every_weaker}
-use Rattle.meson_sources.proofs.met.Regions.{Beneath, From, Known, Meets, New, both_once, from_beneath, none_met, opaque_once, other_child, some_within, wider, within_once, MeetsWithin}
-use Rattle.meson_sources.proofs.met.Standing.{ElementAt, Elements, Operated, SlotOf, elements_stand, first_stands, others_stand, row_stands, slot_stands, SlotFits}
+use Rattle.meson_sources.proofs.met.Regions.{Beneath, From, Known, Meets, New, both_once, from_beneath, none_met, opaque_once, other_child, some_within, wider}
+use Rattle.meson_sources.proofs.met.Regions.{within_once, MeetsWithin}
+use Rattle.meson_sources.proofs.met.Standing.{ElementAt, Elements, Operated, SlotOf, elements_stand, first_stands, others_stand, row_stands, slot_stands}
+use Rattle.meson_sources.proofs.met.Standing.{SlotFits}
 use Rattle.meson_sources.proofs.trees.Elements.{AreLevel}
 use Rattle.meson_sources.proofs.trees.Places.{below_itself, single_stands}
 

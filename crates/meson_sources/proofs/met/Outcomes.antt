@@ -1,5 +1,7 @@
 -- What marks say, and what becomes of what is met in another tree.
-use Rattle.meson_sources.proofs.Words.{[], ap, append_assoc, ap₂, Bool, false, List, map, None, Option, refl, Some, suc, sym, true, ℕ, ◌++◌, ◌∙◌, ◌∷◌, ◌≡◌, Nowhere, Every, every-append, CallRef, both_expanded, empty, Expansion, known, Mark, met, opaque, or_empty, within, items, opaque_count, TextsCome}
+use Rattle.meson_sources.proofs.Words.{[], ap, append_assoc, ap₂, Bool, false, List, map, None, Option, refl, Some, suc, sym, true, ℕ, ◌++◌, ◌∙◌, ◌∷◌, ◌≡◌}
+use Rattle.meson_sources.proofs.Words.{Nowhere, Every, every-append, CallRef, both_expanded, empty, Expansion, known, Mark, met, opaque, or_empty, within}
+use Rattle.meson_sources.proofs.Words.{items, opaque_count, TextsCome}
 use Rattle.meson_sources.proofs.trees.Places.{list_of_mark}
 
 -- ==== What marks say without places: of each known source its text, and each that is not known.

@@ -1,11 +1,16 @@
 -- Whose region a place is in, and that what is met stands where it says and is met once.
 use Rattle.meson_syntax.specs.Paths as paths
-use Rattle.meson_sources.proofs.Words.{◌⊎◌, [], ap, append-nil, append_assoc, ap₂, Bool, false, inl, inr, List, None, Option, refl, Some, subst, sym, true, ℕ, ◌++◌, ◌∙◌, ◌∷◌, ◌≡◌, ◌≤◌, bytes_eq-Decides, Span, a_block, an_expression, Any, block_of, call, Expression, listing, node_at, some-injective, Every, every-append, and-then-some, BuildFile, child, expression_at, nth_file, place, Placed, Project, one_of, CallRef, both_expanded, empty, Expansion, is_files, Item, known, Mark, met, nothing_met, opaque, or_empty, within, items, single}
+use Rattle.meson_sources.proofs.Words.{◌⊎◌, [], ap, append-nil, append_assoc, ap₂, Bool, false, inl, inr, List, None, Option, refl, Some, subst, sym, true, ℕ}
+use Rattle.meson_sources.proofs.Words.{◌++◌, ◌∙◌, ◌∷◌, ◌≡◌, ◌≤◌, bytes_eq-Decides, Span, a_block, an_expression, Any, block_of, call, Expression, listing}
+use Rattle.meson_sources.proofs.Words.{node_at, some-injective, Every, every-append, and-then-some, BuildFile, child, expression_at, nth_file, place, Placed}
+use Rattle.meson_sources.proofs.Words.{Project, one_of, CallRef, both_expanded, empty, Expansion, is_files, Item, known, Mark, met, nothing_met, opaque}
+use Rattle.meson_sources.proofs.Words.{or_empty, within, items, single}
 use Rattle.meson_sources.proofs.gone.Named.{every_weaker}
 use Rattle.meson_sources.proofs.gone.Spots.{Pairwise, pairwise_append}
 use Rattle.meson_sources.proofs.met.Standing.{MarkStands, OtherPlace, SlotFits}
 use Rattle.meson_sources.proofs.trees.Calls.{CallIn}
-use Rattle.meson_sources.proofs.trees.Places.{expression_node, below, below_child, below_itself, no_statement, node_between, owner, owner_is, single_named, without_last, below_steps}
+use Rattle.meson_sources.proofs.trees.Places.{expression_node, below, below_child, below_itself, no_statement, node_between, owner, owner_is, single_named}
+use Rattle.meson_sources.proofs.trees.Places.{without_last, below_steps}
 
 -- ==== Whose region a place is in: that of a call's arguments or that of the value of a variable. No place is in two.
 

@@ -1,7 +1,14 @@
 -- What a target holds stands where its slot says.
 use Rattle.meson_syntax.specs.declared.operator.Bracket.TheVariants as bracket
 use Rattle.meson_calls.specs.declared.call.Role.TheVariants as role
-use Rattle.meson_sources.proofs.Words.{All, is_some, Ok, Result, ◌&&◌, [], ap, arith, Bool, false, IsUtf8, List, None, Option, refl, Some, subst, suc, true, ℕ, ◌+◌, ◌∙◌, ◌≡◌, Span, an_expression, holds_values, list_in, ListIn, nth, Argument, argument, argument_list, Arguments, erase, Expression, no_operands, Nowhere, operand, Operands, Plain, plain, row, string, StringKind, operands_parts, Every, elements, CallThere, ListThere, Call, first_argument, the_call, AreParsed, Loaded, project, child, expression_at, Placed, Project, one_of, target_functions, CallRef, Refusal, calls_stand, role_found, RoleAt, child_stands, list_here, values_no_pairs, empty, fixed, in_list, Item, known, Mark, opaque, Slot, Stand, items, source_marks, AreDoable, plain_trees, Step, element_erased, plain_place, tree_there, extra_added, extra_marks, extra_removed, removal_steps, sources_added, sources_removed, Spot}
+use Rattle.meson_sources.proofs.Words.{All, is_some, Ok, Result, ◌&&◌, [], ap, arith, Bool, false, IsUtf8, List, None, Option, refl, Some, subst, suc, true, ℕ}
+use Rattle.meson_sources.proofs.Words.{◌+◌, ◌∙◌, ◌≡◌, Span, an_expression, holds_values, list_in, ListIn, nth, Argument, argument, argument_list, Arguments}
+use Rattle.meson_sources.proofs.Words.{erase, Expression, no_operands, Nowhere, operand, Operands, Plain, plain, row, string, StringKind, operands_parts, Every}
+use Rattle.meson_sources.proofs.Words.{elements, CallThere, ListThere, Call, first_argument, the_call, AreParsed, Loaded, project, child, expression_at, Placed}
+use Rattle.meson_sources.proofs.Words.{Project, one_of, target_functions, CallRef, Refusal, calls_stand, role_found, RoleAt, child_stands, list_here}
+use Rattle.meson_sources.proofs.Words.{values_no_pairs, empty, fixed, in_list, Item, known, Mark, opaque, Slot, Stand, items, source_marks, AreDoable}
+use Rattle.meson_sources.proofs.Words.{plain_trees, Step, element_erased, plain_place, tree_there, extra_added, extra_marks, extra_removed, removal_steps}
+use Rattle.meson_sources.proofs.Words.{sources_added, sources_removed, Spot}
 use Rattle.meson_sources.proofs.gone.Spots.{Pairwise, AreApart}
 use Rattle.meson_sources.proofs.trees.Elements.{IsElementAt, IsStringElement, AreLevel, value_stands}
 

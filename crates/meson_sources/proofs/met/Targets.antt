@@ -2,11 +2,18 @@
 use Rattle.meson_calls.specs.declared.call.Role.TheVariants as role
 use Rattle.meson_steps.proofs.ArgumentValues.{named_value}
 use Rattle.meson_sources.specs.MetOnce.{ItemsAreMetOnce}
-use Rattle.meson_sources.proofs.Words.{cons_option, filter_map, All, Ok, option_map, ⊤, [], ap, append-nil, arith, false, List, None, Option, refl, Some, subst, suc, sym, ℕ, ◌++◌, ◌+◌, ◌∙◌, ◌∷◌, ◌≡◌, ◌≤◌, All-cons, All-nil, Span, nth, Argument, argument, argument_list, Arguments, call, Expression, Listing, listing, named, no_arguments, pair, plain, some-injective, Every, every-append, elements, Call, kept_number, keyword, Numbered, numbered, numbered_arguments, positional, value_with_name, value_without_name, the_call, AreParsed, Loaded, project, kwargs_key, rest, sources_key, child, Placed, Project, CallRef, both_expanded, expand, Expansion, fixed, in_list, is_files, max_followed, Slot, Stand, expand_arguments, hidden, items, source_marks, extra_key, extra_marks}
+use Rattle.meson_sources.proofs.Words.{cons_option, filter_map, All, Ok, option_map, ⊤, [], ap, append-nil, arith, false, List, None, Option, refl, Some, subst}
+use Rattle.meson_sources.proofs.Words.{suc, sym, ℕ, ◌++◌, ◌+◌, ◌∙◌, ◌∷◌, ◌≡◌, ◌≤◌, All-cons, All-nil, Span, nth, Argument, argument, argument_list, Arguments}
+use Rattle.meson_sources.proofs.Words.{call, Expression, Listing, listing, named, no_arguments, pair, plain, some-injective, Every, every-append, elements}
+use Rattle.meson_sources.proofs.Words.{Call, kept_number, keyword, Numbered, numbered, numbered_arguments, positional, value_with_name, value_without_name}
+use Rattle.meson_sources.proofs.Words.{the_call, AreParsed, Loaded, project, kwargs_key, rest, sources_key, child, Placed, Project, CallRef, both_expanded}
+use Rattle.meson_sources.proofs.Words.{expand, Expansion, fixed, in_list, is_files, max_followed, Slot, Stand, expand_arguments, hidden, items, source_marks}
+use Rattle.meson_sources.proofs.Words.{extra_key, extra_marks}
 use Rattle.meson_sources.proofs.gone.Named.{every_weaker}
 use Rattle.meson_sources.proofs.gone.Spots.{Pairwise, all_pairs}
 use Rattle.meson_sources.proofs.met.Once.{expand_once}
-use Rattle.meson_sources.proofs.met.Regions.{Beneath, Comes, Meets, both_once, items_both, none_met, other_child, InRegion, argument_inside, child_inside, one_region, value_inside}
+use Rattle.meson_sources.proofs.met.Regions.{Beneath, Comes, Meets, both_once, items_both, none_met, other_child, InRegion, argument_inside, child_inside}
+use Rattle.meson_sources.proofs.met.Regions.{one_region, value_inside}
 use Rattle.meson_sources.proofs.met.Standing.{ElementAt, StandsAs, elements_stand, AllStand, ItemFits, MarkStands, OtherPlace, SlotFits}
 use Rattle.meson_sources.proofs.told.Variables.{target_no_files}
 use Rattle.meson_sources.proofs.trees.Calls.{CallIn, called, target_at}

@@ -1,5 +1,8 @@
 -- Variables that stand for the same in two projects, or for an expression in which another node stands on the way to it: what is met behind them.
-use Rattle.meson_sources.proofs.Words.{◌&&◌, ◌⊎◌, [], ap, ap₂, Bool, false, inl, inr, List, None, refl, Some, subst, suc, sym, true, zero, ℕ, ◌∙◌, ◌∷◌, ◌≡◌, an_expression, Any, LevelExpression, array, call, Expression, identifier, Nowhere, row, string, operands_parts, child, Placed, one_of, CallRef, are_plus, expand_by, Expansion, follow_single, is_operand_by, is_single_by, is_value_by, Mark, max_followed, met, of_variable, opaque, Stand, list_of_slot}
+use Rattle.meson_sources.proofs.Words.{◌&&◌, ◌⊎◌, [], ap, ap₂, Bool, false, inl, inr, List, None, refl, Some, subst, suc, sym, true, zero, ℕ, ◌∙◌, ◌∷◌, ◌≡◌}
+use Rattle.meson_sources.proofs.Words.{an_expression, Any, LevelExpression, array, call, Expression, identifier, Nowhere, row, string, operands_parts, child}
+use Rattle.meson_sources.proofs.Words.{Placed, one_of, CallRef, are_plus, expand_by, Expansion, follow_single, is_operand_by, is_single_by, is_value_by, Mark}
+use Rattle.meson_sources.proofs.Words.{max_followed, met, of_variable, opaque, Stand, list_of_slot}
 use Rattle.meson_sources.proofs.met.Expressions.{along, files_alike, kind_along, operand_alike, plus_alike, expression_same}
 use Rattle.meson_sources.proofs.met.Marks.{Values, list_by, lists_by, expand_with}
 use Rattle.meson_sources.proofs.met.Outcomes.{Either, as_before, grown, How, stays, comes, Outcome, Along, opaque_both}

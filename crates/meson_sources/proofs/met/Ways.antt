@@ -2,13 +2,21 @@
 use Rattle.meson_syntax.specs.declared.operator.Bracket.TheVariants as bracket
 use Rattle.meson_syntax.specs.Tree as tree
 use Rattle.meson_syntax.proofs.paths.Fits.{LevelNode}
-use Rattle.meson_sources.proofs.Words.{All, bytes_eq, if◌then◌else◌, option_map, ◌||◌, ◌⊎◌, [], ap, ap₂, Bool, false, inl, inr, List, None, Option, refl, Some, subst, suc, sym, true, zero, ℕ, ◌++◌, ◌∙◌, ◌∷◌, ◌≡◌, bytes_eq-Decides, Span, a_block, an_expression, Any, arguments_parts, LevelArguments, LevelExpression, LevelFile, block_of, expression_of, expression_on_path, Node, nth, of_block, of_expression, of_statement, reach, Sort, Arguments, call, erase_expression, Expression, file, Listing, Name, Nowhere, Plain, child_nodes, expression_any, node_at, expression-reached, some-injective, and-then-some, reach-fits, Loaded, project, child, expression_at, place, Placed, one_of, CallRef, expand_by, expand_listing, Expansion, follow_single, is_files, is_operand_by, is_value_by, max_followed, met, opaque, Stand, within, list_of_slot, single, MayStandBetween, plain_trees, Differ, here, there, all_nth}
+use Rattle.meson_sources.proofs.Words.{All, bytes_eq, if◌then◌else◌, option_map, ◌||◌, ◌⊎◌, [], ap, ap₂, Bool, false, inl, inr, List, None, Option, refl, Some}
+use Rattle.meson_sources.proofs.Words.{subst, suc, sym, true, zero, ℕ, ◌++◌, ◌∙◌, ◌∷◌, ◌≡◌, bytes_eq-Decides, Span, a_block, an_expression, Any}
+use Rattle.meson_sources.proofs.Words.{arguments_parts, LevelArguments, LevelExpression, LevelFile, block_of, expression_of, expression_on_path, Node, nth}
+use Rattle.meson_sources.proofs.Words.{of_block, of_expression, of_statement, reach, Sort, Arguments, call, erase_expression, Expression, file, Listing, Name}
+use Rattle.meson_sources.proofs.Words.{Nowhere, Plain, child_nodes, expression_any, node_at, expression-reached, some-injective, and-then-some, reach-fits}
+use Rattle.meson_sources.proofs.Words.{Loaded, project, child, expression_at, place, Placed, one_of, CallRef, expand_by, expand_listing, Expansion}
+use Rattle.meson_sources.proofs.Words.{follow_single, is_files, is_operand_by, is_value_by, max_followed, met, opaque, Stand, within, list_of_slot, single}
+use Rattle.meson_sources.proofs.Words.{MayStandBetween, plain_trees, Differ, here, there, all_nth}
 use Rattle.meson_sources.proofs.met.Arguments.{whole, whole_same, whole_along}
 use Rattle.meson_sources.proofs.met.Expressions.{along}
 use Rattle.meson_sources.proofs.met.Marks.{Values, expand_with, list_by, lists_by, bare_value, values_of}
 use Rattle.meson_sources.proofs.met.Outcomes.{Outcome, Along, along_same, opaque_both}
 use Rattle.meson_sources.proofs.met.Variables.{Kin, Level, followed, levels, same_holds, Equal, OnTheWay, neither, equal, on_the_way}
-use Rattle.meson_sources.proofs.trees.Places.{below, below_itself, Far, IsIt, far_deeper, far_apart, aside_far, above_it, node_between, single_stands, under, below_below, one_goes_on}
+use Rattle.meson_sources.proofs.trees.Places.{below, below_itself, Far, IsIt, far_deeper, far_apart, aside_far, above_it, node_between, single_stands, under}
+use Rattle.meson_sources.proofs.trees.Places.{below_below, one_goes_on}
 use Rattle.meson_sources.proofs.trees.Scenes.{NodeIn, bare_in, names_of, node_above, next_in, node_away, same_in, value_apart}
 use Rattle.meson_sources.proofs.trees.Shapes.{Becomes, on_path}
 use Rattle.meson_sources.proofs.trees.Skeletons.{blanks}

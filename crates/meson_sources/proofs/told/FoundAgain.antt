@@ -7,7 +7,11 @@ use Rattle.meson_calls.specs.Parts as part
 use Rattle.meson_calls.specs.Naming.{or_else, part_set_to, set_to, value_of_assignment, with_name}
 use Rattle.meson_calls.proofs.CallsReached.{InProject, every_chosen, every_part}
 use Rattle.meson_calls.proofs.PartsContained.{all_has}
-use Rattle.meson_sources.proofs.Words.{cons_option, Contains, bytes_eq, if◌then◌else◌, Ok, option_map, slice_index_or, ◌⊎◌, [], ap, arith, Bool, false, inl, inr, length, List, map, None, Option, refl, Some, subst, suc, sym, true, zero, ℕ, ◌+◌, ◌<◌, ◌∙◌, ◌∷◌, ◌≡◌, Span, block_of, assign, Expression, Name, Statement, some-injective, Every, all_chosen, Call, call_of, first_literal, is, part_call, only_one, the_call, Part, parts, BuildFile, child, nth_file, place, Placed, placed, Project, has_role, is_target_call, with_role, CallRef, any}
+use Rattle.meson_sources.proofs.Words.{cons_option, Contains, bytes_eq, if◌then◌else◌, Ok, option_map, slice_index_or, ◌⊎◌, [], ap, arith, Bool, false, inl}
+use Rattle.meson_sources.proofs.Words.{inr, length, List, map, None, Option, refl, Some, subst, suc, sym, true, zero, ℕ, ◌+◌, ◌<◌, ◌∙◌, ◌∷◌, ◌≡◌, Span}
+use Rattle.meson_sources.proofs.Words.{block_of, assign, Expression, Name, Statement, some-injective, Every, all_chosen, Call, call_of, first_literal, is}
+use Rattle.meson_sources.proofs.Words.{part_call, only_one, the_call, Part, parts, BuildFile, child, nth_file, place, Placed, placed, Project, has_role}
+use Rattle.meson_sources.proofs.Words.{is_target_call, with_role, CallRef, any}
 use Rattle.meson_sources.proofs.told.Targets.{Naming, a_target, a_variable, tell_call, tell_statement, told}
 use Rattle.meson_sources.proofs.trees.Places.{node_between}
 

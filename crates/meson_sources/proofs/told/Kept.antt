@@ -2,13 +2,21 @@
 use Rattle.meson_syntax.specs.declared.operator.Assignment.TheVariants as assignment
 use Rattle.meson_calls.specs.declared.call.Role.TheVariants as role
 use Rattle.meson_sources.proofs.told.Variables as tells
-use Rattle.meson_sources.proofs.Words.{cons_option, All, if◌then◌else◌, is_some, option_and_then, option_map, ◌&&◌, [], ap, append-nil, ap₂, arith, Bool, false, inl, inr, List, None, Option, refl, Some, subst, suc, sym, true, ℕ, ◌++◌, ◌+◌, ◌∙◌, ◌∷◌, ◌≡◌, a_block, a_statement, an_expression, nth, argument, Arguments, arguments_of, array, assign, call, Expression, identifier, iteration, Listing, listing, Name, named, no_arguments, Nowhere, pair, Plain, plain, row, Statement, string, child_nodes, is_empty, call_of, first_literal, literal_of, parts_of_file, child, place, has_role, is_target_call, one_of, target_functions, CallRef, by_each_child, MayStandBetween, arguments_without, but, each_without, expression_without, from_child, Gone, statement_without, tree_without}
-use Rattle.meson_sources.proofs.gone.Losses.{no_true, EachLoses, Loses, holds_none, IsExpression, children_are, fits, gone_string, nth_without, root_without, Lost, at_child, at_itself, child_in, call_lost, gone_at, strings_lost}
+use Rattle.meson_sources.proofs.Words.{cons_option, All, if◌then◌else◌, is_some, option_and_then, option_map, ◌&&◌, [], ap, append-nil, ap₂, arith, Bool, false}
+use Rattle.meson_sources.proofs.Words.{inl, inr, List, None, Option, refl, Some, subst, suc, sym, true, ℕ, ◌++◌, ◌+◌, ◌∙◌, ◌∷◌, ◌≡◌, a_block, a_statement}
+use Rattle.meson_sources.proofs.Words.{an_expression, nth, argument, Arguments, arguments_of, array, assign, call, Expression, identifier, iteration, Listing}
+use Rattle.meson_sources.proofs.Words.{listing, Name, named, no_arguments, Nowhere, pair, Plain, plain, row, Statement, string, child_nodes, is_empty, call_of}
+use Rattle.meson_sources.proofs.Words.{first_literal, literal_of, parts_of_file, child, place, has_role, is_target_call, one_of, target_functions, CallRef}
+use Rattle.meson_sources.proofs.Words.{by_each_child, MayStandBetween, arguments_without, but, each_without, expression_without, from_child, Gone}
+use Rattle.meson_sources.proofs.Words.{statement_without, tree_without}
+use Rattle.meson_sources.proofs.gone.Losses.{no_true, EachLoses, Loses, holds_none, IsExpression, children_are, fits, gone_string, nth_without, root_without}
+use Rattle.meson_sources.proofs.gone.Losses.{Lost, at_child, at_itself, child_in, call_lost, gone_at, strings_lost}
 use Rattle.meson_sources.proofs.gone.Marks.{FirstStays}
 use Rattle.meson_sources.proofs.gone.Places.{Fits, any_without, children_left, each_child}
 use Rattle.meson_sources.proofs.gone.Spots.{but_none}
 use Rattle.meson_sources.proofs.met.Ways.{node_level}
-use Rattle.meson_sources.proofs.told.Targets.{a_target, call_by, first_plain, SameNames, a_variable, call_tells, first_is, in_all, in_any, node_tells, own, tell_call}
+use Rattle.meson_sources.proofs.told.Targets.{a_target, call_by, first_plain, SameNames, a_variable, call_tells, first_is, in_all, in_any, node_tells, own}
+use Rattle.meson_sources.proofs.told.Targets.{tell_call}
 use Rattle.meson_sources.proofs.told.Variables.{children_alike, matters, told, node_told, of_any, of_children}
 use Rattle.meson_sources.proofs.trees.Elements.{root, Node}
 use Rattle.meson_sources.proofs.trees.Scenes.{NodeIn, SameTells, file_tells}

@@ -1,11 +1,17 @@
 -- The id of a target names its call again where the trees tell the same of targets.
 use Rattle.meson_syntax.specs.declared.operator.Assignment.TheVariants as assignment
 use Rattle.meson_calls.specs.declared.call.Role.TheVariants as role
-use Rattle.meson_sources.proofs.Words.{bytes_eq, if◌then◌else◌, nat_eq, Ok, option_map, ◌⊎◌, [], ap, ap₂, Bool, false, inl, inr, List, map, None, Option, refl, Some, subst, suc, sym, true, ℕ, ◌++◌, ◌+◌, ◌∙◌, ◌∷◌, ◌≡◌, eq-eqb, eqb-true, filter_map-append, Span, File, a_block, a_statement, an_expression, Any, block_of, nth, array, assign, erase, erase_expression, erase_name, Expression, file, Name, Nowhere, Plain, view, Assignment, Parsed, node_at, some-injective, map-some, Call, call_of, first_literal, the_call, Loaded, named_trees, project, views, parts, parts_from, parts_of_file, child, Placed, placed, has_role, is_target_call, CallRef, role_found, erase_any, plain_trees, tree_there, FilesGrow, Reading}
+use Rattle.meson_sources.proofs.Words.{bytes_eq, if◌then◌else◌, nat_eq, Ok, option_map, ◌⊎◌, [], ap, ap₂, Bool, false, inl, inr, List, map, None, Option, refl}
+use Rattle.meson_sources.proofs.Words.{Some, subst, suc, sym, true, ℕ, ◌++◌, ◌+◌, ◌∙◌, ◌∷◌, ◌≡◌, eq-eqb, eqb-true, filter_map-append, File, Span, a_block}
+use Rattle.meson_sources.proofs.Words.{a_statement, an_expression, Any, block_of, nth, array, assign, erase, erase_expression, erase_name, Expression, file}
+use Rattle.meson_sources.proofs.Words.{Name, Nowhere, Plain, view, Assignment, Parsed, node_at, some-injective, map-some, Call, call_of, first_literal}
+use Rattle.meson_sources.proofs.Words.{the_call, Loaded, named_trees, project, views, parts, parts_from, parts_of_file, child, Placed, placed, has_role}
+use Rattle.meson_sources.proofs.Words.{is_target_call, CallRef, role_found, erase_any, plain_trees, tree_there, FilesGrow, Reading}
 use Rattle.meson_sources.proofs.met.Files.{FilesGrown}
 use Rattle.meson_sources.proofs.told.FoundAgain.{Names, SetAt, again}
 use Rattle.meson_sources.proofs.told.Staying.{Alike, alike_along}
-use Rattle.meson_sources.proofs.told.Targets.{Naming, expression_erased, in_any, in_file, parts_file, tell, tell_call, told, SameNames, a_target, a_variable, own, names_itself}
+use Rattle.meson_sources.proofs.told.Targets.{Naming, expression_erased, in_any, in_file, parts_file, tell, tell_call, told, SameNames, a_target, a_variable}
+use Rattle.meson_sources.proofs.told.Targets.{own, names_itself}
 use Rattle.meson_sources.proofs.trees.Calls.{span_tree}
 use Rattle.meson_sources.proofs.trees.Elements.{root}
 use Rattle.meson_sources.proofs.trees.Places.{expression_node, node_bare, node_with_spans, root_bare, below, below_itself, no_statement, node_between, under}

@@ -2,8 +2,14 @@
 use Rattle.meson_sources.proofs.trees.Shapes as shapes
 use Rattle.meson_sources.proofs.told.Variables as tells
 use Rattle.meson_syntax.specs.declared.operator.Assignment.TheVariants as assignment
-use Rattle.meson_sources.proofs.Words.{cons_option, list_any, if◌then◌else◌, is_some, option_and_then, option_map, ◌&&◌, ◌⊎◌, [], ap, ap₂, Bool, false, inl, inr, List, map, None, Option, refl, Some, subst, sym, true, ℕ, ◌++◌, ◌+◌, ◌∙◌, ◌∷◌, ◌≡◌, a_block, a_statement, an_expression, Any, arguments_parts, list_in, ListIn, Argument, argument, Arguments, arguments_of, array, assign, call, dictionary, Expression, identifier, Listing, listing, Name, named, no_arguments, Nowhere, pair, plain, string, child_nodes, some-injective, first_literal, literal_of, child, is_target_call, one_of, target_functions, CallRef, Differ, here, there, strings, is_plain}
-use Rattle.meson_sources.proofs.told.Targets.{first_is, first_plain, Naming, a_target, a_variable, in_any, in_all, in_arguments, in_expression, in_listing, own, node_tells, call_by, call_tells}
+use Rattle.meson_sources.proofs.Words.{cons_option, list_any, if◌then◌else◌, is_some, option_and_then, option_map, ◌&&◌, ◌⊎◌, [], ap, ap₂, Bool, false, inl}
+use Rattle.meson_sources.proofs.Words.{inr, List, map, None, Option, refl, Some, subst, sym, true, ℕ, ◌++◌, ◌+◌, ◌∙◌, ◌∷◌, ◌≡◌, a_block, a_statement}
+use Rattle.meson_sources.proofs.Words.{an_expression, Any, arguments_parts, list_in, ListIn, Argument, argument, Arguments, arguments_of, array, assign, call}
+use Rattle.meson_sources.proofs.Words.{dictionary, Expression, identifier, Listing, listing, Name, named, no_arguments, Nowhere, pair, plain, string}
+use Rattle.meson_sources.proofs.Words.{child_nodes, some-injective, first_literal, literal_of, child, is_target_call, one_of, target_functions, CallRef, Differ}
+use Rattle.meson_sources.proofs.Words.{here, there, strings, is_plain}
+use Rattle.meson_sources.proofs.told.Targets.{first_is, first_plain, Naming, a_target, a_variable, in_any, in_all, in_arguments, in_expression, in_listing, own}
+use Rattle.meson_sources.proofs.told.Targets.{node_tells, call_by, call_tells}
 use Rattle.meson_sources.proofs.told.Variables.{Told, matters, name_texts, of_any, of_children, own as own_told, node_told, children_alike}
 use Rattle.meson_sources.proofs.trees.Shapes.{Shape, a_leaf, shape, Becomes, differ_none, a_call, an_assignment}
 use Rattle.meson_sources.proofs.trees.Skeletons.{blanks}

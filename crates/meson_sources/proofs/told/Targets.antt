@@ -4,7 +4,14 @@ use Rattle.meson_syntax.specs.Tree as tree
 use Rattle.meson_calls.specs.declared.call.Role.TheVariants as role
 use Rattle.meson_calls.specs.Parts as part
 use Rattle.meson_steps.proofs.ToldAlike.{anywhere}
-use Rattle.meson_sources.proofs.Words.{cons_option, filter_map, if◌then◌else◌, is_some, option_and_then, option_map, ◌&&◌, [], ap, append_assoc, ap₂, Bool, List, map, None, Option, refl, Some, sym, true, ℕ, ◌++◌, ◌+◌, ◌∙◌, ◌∷◌, ◌≡◌, filter_map-append, a_block, a_statement, an_expression, Any, argument_parts, arguments_parts, listing_parts, block_of, Argument, argument, Arguments, assign, call, erase, erase_arguments, erase_expression, erase_listing, erase_statement, Expression, file, Listing, listing, named, no_arguments, Nowhere, pair, Plain, plain, Statement, string, child_nodes, Call, call_of, first_literal, first_of, kept_number, literal_of, numbered, value_without_name, Part, parts_of_file, child, place, Placed, has_role, is_target_call, one_of, target_functions, CallRef, children_erased, erase_any, by_children, Each, itself, parts_are, parts_below, parts_of}
+use Rattle.meson_sources.proofs.Words.{cons_option, filter_map, if◌then◌else◌, is_some, option_and_then, option_map, ◌&&◌, [], ap, append_assoc, ap₂, Bool}
+use Rattle.meson_sources.proofs.Words.{List, map, None, Option, refl, Some, sym, true, ℕ, ◌++◌, ◌+◌, ◌∙◌, ◌∷◌, ◌≡◌, filter_map-append, a_block, a_statement}
+use Rattle.meson_sources.proofs.Words.{an_expression, Any, argument_parts, arguments_parts, listing_parts, block_of, Argument, argument, Arguments, assign}
+use Rattle.meson_sources.proofs.Words.{call, erase, erase_arguments, erase_expression, erase_listing, erase_statement, Expression, file, Listing, listing}
+use Rattle.meson_sources.proofs.Words.{named, no_arguments, Nowhere, pair, Plain, plain, Statement, string, child_nodes, Call, call_of, first_literal, first_of}
+use Rattle.meson_sources.proofs.Words.{kept_number, literal_of, numbered, value_without_name, Part, parts_of_file, child, place, Placed, has_role}
+use Rattle.meson_sources.proofs.Words.{is_target_call, one_of, target_functions, CallRef, children_erased, erase_any, by_children, Each, itself, parts_are}
+use Rattle.meson_sources.proofs.Words.{parts_below, parts_of}
 
 pub data Naming : Type 0 where
   a_target : List ℕ → Option (List ℕ) → Naming

@@ -7,7 +7,14 @@ use Rattle.meson_steps.proofs.ToldAlike.{nodes_alike}
 use Rattle.meson_calls.specs.Folders.{file_in}
 use Rattle.meson_calls.specs.Subdirs.{enters_unknown, has_name, is_there, meant_file}
 use Rattle.meson_steps.proofs.ErasedParts.{bare_call, bare_part, bare_placed, call_alike, first_alike, parts_erased}
-use Rattle.meson_sources.proofs.Words.{cons_option, filter_map, list_any, bytes_eq, codes, if◌then◌else◌, is_none, not, option_and_then, option_map, ◌&&◌, ◌||◌, [], ap, ap₂, Bool, false, List, map, None, Option, refl, Some, suc, sym, true, zero, ℕ, ◌++◌, ◌+◌, ◌∙◌, ◌∷◌, ◌≡◌, filter_map-append, bytes_eq-Decides, File, a_block, a_statement, an_expression, Any, arguments_parts, nth, Arguments, assign, erase, erase_names, erase_statement, Expression, iteration, Listing, listing, Name, Nowhere, Statement, Assignment, child_nodes, all_chosen, Call, call_of, first_literal, is, part_call, named_trees, is_set, Part, parts, parts_from, BuildFile, child, nth_file, Placed, placed, Project, one_of, target_functions, CallRef, any, parts_are, parts_below, parts_of, has_names, is_files, all_known, Assigned, assignments, is_iterated, is_outermost, is_set_otherwise, one_of_names, only_value, part_assigned, sets_unknown, sets_variable, single}
+use Rattle.meson_sources.proofs.Words.{cons_option, filter_map, list_any, bytes_eq, codes, if◌then◌else◌, is_none, not, option_and_then, option_map, ◌&&◌, ◌||◌}
+use Rattle.meson_sources.proofs.Words.{[], ap, ap₂, Bool, false, List, map, None, Option, refl, Some, suc, sym, true, zero, ℕ, ◌++◌, ◌+◌, ◌∙◌, ◌∷◌, ◌≡◌}
+use Rattle.meson_sources.proofs.Words.{filter_map-append, bytes_eq-Decides, File, a_block, a_statement, an_expression, Any, arguments_parts, nth, Arguments}
+use Rattle.meson_sources.proofs.Words.{assign, erase, erase_names, erase_statement, Expression, iteration, Listing, listing, Name, Nowhere, Statement}
+use Rattle.meson_sources.proofs.Words.{Assignment, child_nodes, all_chosen, Call, call_of, first_literal, is, part_call, named_trees, is_set, Part, parts}
+use Rattle.meson_sources.proofs.Words.{parts_from, BuildFile, child, nth_file, Placed, placed, Project, one_of, target_functions, CallRef, any, parts_are}
+use Rattle.meson_sources.proofs.Words.{parts_below, parts_of, has_names, is_files, all_known, Assigned, assignments, is_iterated, is_outermost}
+use Rattle.meson_sources.proofs.Words.{is_set_otherwise, one_of_names, only_value, part_assigned, sets_unknown, sets_variable, single}
 
 -- ==== What tells of variables in a project: assignments, loops, and calls that may set variables or enter folders.
 

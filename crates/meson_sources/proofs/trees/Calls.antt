@@ -1,6 +1,10 @@
 -- A call by its parts: where it stands, and with spans again where it stands without them.
 use Rattle.meson_calls.specs.declared.call.Role.TheVariants as role
-use Rattle.meson_sources.proofs.Words.{is_some, Ok, option_and_then, [], ap, Bool, List, map, refl, Some, subst, suc, sym, true, zero, ℕ, ◌∙◌, ◌∷◌, ◌≡◌, Span, File, a_block, an_expression, block_of, expression_on_path, nth, Arguments, call, erase, erase_arguments, erase_expression, erase_name, Expression, listing, Name, Nowhere, Plain, view, Parsed, node_at, some-injective, Call, call_of, first_argument, the_call, Loaded, named_trees, project, views, BuildFile, expression_at, nth_file, Placed, placed, Project, has_role, one_of, target_functions, CallRef, role_found, plain_trees}
+use Rattle.meson_sources.proofs.Words.{is_some, Ok, option_and_then, [], ap, Bool, List, map, refl, Some, subst, suc, sym, true, zero, ℕ, ◌∙◌, ◌∷◌, ◌≡◌, File}
+use Rattle.meson_sources.proofs.Words.{Span, a_block, an_expression, block_of, expression_on_path, nth, Arguments, call, erase, erase_arguments}
+use Rattle.meson_sources.proofs.Words.{erase_expression, erase_name, Expression, listing, Name, Nowhere, Plain, view, Parsed, node_at, some-injective, Call}
+use Rattle.meson_sources.proofs.Words.{call_of, first_argument, the_call, Loaded, named_trees, project, views, BuildFile, expression_at, nth_file, Placed}
+use Rattle.meson_sources.proofs.Words.{placed, Project, has_role, one_of, target_functions, CallRef, role_found, plain_trees}
 use Rattle.meson_sources.proofs.gone.Spots.{both_true}
 use Rattle.meson_sources.proofs.trees.Places.{node_with_spans}
 use Rattle.meson_sources.proofs.trees.Scenes.{NodeIn, bare_in}

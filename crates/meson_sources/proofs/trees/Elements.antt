@@ -5,7 +5,14 @@ use Rattle.meson_lex.specs.Located.{located}
 use Rattle.meson_syntax.specs.Reads.{of_files}
 use Rattle.meson_syntax.proofs.parsing.Levels.{file-level}
 use Rattle.meson_steps.proofs.ListParts.{list_part}
-use Rattle.meson_sources.proofs.Words.{option_and_then, option_map, [], ap, ap₂, Bool, drop, false, length, List, map, None, Option, refl, Some, subst, suc, sym, take, true, zero, ℕ, ◌++◌, ◌∙◌, ◌∷◌, ◌≡◌, Span, a_block, a_statement, an_expression, Any, argument_parts, arguments_parts, listing_parts, LevelArguments, LevelFile, LevelListing, holds_pairs, block_of, list_at, list_in, ListAt, ListIn, nth, value_of, Argument, argument, argument_list, Arguments, arguments_of, array, call, dictionary, Expression, Listing, listing, named, no_arguments, Nowhere, pair, Plain, plain, string, view, Bracket, StringKind, Parsed, child_nodes, expression_any, node_at, expression-reached, list-reached, list-of-arguments, some-injective, Every, and-then-some, list-fits, elements, with_elements, AreParsed, named_trees, views, BuildFile, child, expression_at, nth_file, Project, CallRef, list_of, value_below}
+use Rattle.meson_sources.proofs.Words.{option_and_then, option_map, [], ap, ap₂, Bool, drop, false, length, List, map, None, Option, refl, Some, subst, suc}
+use Rattle.meson_sources.proofs.Words.{sym, take, true, zero, ℕ, ◌++◌, ◌∙◌, ◌∷◌, ◌≡◌, Span, a_block, a_statement, an_expression, Any, argument_parts}
+use Rattle.meson_sources.proofs.Words.{arguments_parts, listing_parts, LevelArguments, LevelFile, LevelListing, holds_pairs, block_of, list_at, list_in, ListAt}
+use Rattle.meson_sources.proofs.Words.{ListIn, nth, value_of, Argument, argument, argument_list, Arguments, arguments_of, array, call, dictionary, Expression}
+use Rattle.meson_sources.proofs.Words.{Listing, listing, named, no_arguments, Nowhere, pair, Plain, plain, string, view, Bracket, StringKind, Parsed}
+use Rattle.meson_sources.proofs.Words.{child_nodes, expression_any, node_at, expression-reached, list-reached, list-of-arguments, some-injective, Every}
+use Rattle.meson_sources.proofs.Words.{and-then-some, list-fits, elements, with_elements, AreParsed, named_trees, views, BuildFile, child, expression_at}
+use Rattle.meson_sources.proofs.Words.{nth_file, Project, CallRef, list_of, value_below}
 
 -- ==== The list of a node, and its elements.
 

@@ -4,7 +4,14 @@ use Rattle.meson_calls.proofs.CallsReached.{InProject, every_chosen, every_part}
 use Rattle.meson_calls.proofs.nodes.Sorts.{IsExpression, may_stand}
 use Rattle.meson_syntax.specs.Tree.{File}
 use Rattle.meson_edit.proofs.paths.Mapped.{nth_map}
-use Rattle.meson_sources.proofs.Words.{bytes_eq, if◌then◌else◌, nat_eq, not, option_and_then, option_map, ◌&&◌, ◌⊎◌, [], ap, append-nil, append_assoc, ap₂, arith, Bool, false, inl, inr, List, None, Option, refl, Some, subst, suc, sym, true, zero, ℕ, ◌++◌, ◌+◌, ◌∙◌, ◌∷◌, ◌≡◌, eq-eqb, eqb-true, append_cancel_left, Span, a_block, a_statement, an_expression, Any, block_of, expression_on_path, nth, assign, erase, erase_expression, Expression, file, Name, Nowhere, Statement, Assignment, child_nodes, expression_any, node_at, expression-reached, some-injective, Every, every-nth, and-then-some, map-some, is_set, Part, parts, BuildFile, child, expression_at, nth_file, place, Placed, placed, Project, CallRef, assigned_stands, children_erased, erase_any, any, empty, known, Mark, opaque, list_of_slot, or_option, all_known, Assigned, assigned_by, assignments, is_outermost, is_set_otherwise, only_value, part_assigned, single}
+use Rattle.meson_sources.proofs.Words.{bytes_eq, if◌then◌else◌, nat_eq, not, option_and_then, option_map, ◌&&◌, ◌⊎◌, [], ap, append-nil, append_assoc, ap₂}
+use Rattle.meson_sources.proofs.Words.{arith, Bool, false, inl, inr, List, None, Option, refl, Some, subst, suc, sym, true, zero, ℕ, ◌++◌, ◌+◌, ◌∙◌, ◌∷◌, ◌≡◌}
+use Rattle.meson_sources.proofs.Words.{eq-eqb, eqb-true, append_cancel_left, Span, a_block, a_statement, an_expression, Any, block_of, expression_on_path, nth}
+use Rattle.meson_sources.proofs.Words.{assign, erase, erase_expression, Expression, file, Name, Nowhere, Statement, Assignment, child_nodes, expression_any}
+use Rattle.meson_sources.proofs.Words.{node_at, expression-reached, some-injective, Every, every-nth, and-then-some, map-some, is_set, Part, parts, BuildFile}
+use Rattle.meson_sources.proofs.Words.{child, expression_at, nth_file, place, Placed, placed, Project, CallRef, assigned_stands, children_erased, erase_any}
+use Rattle.meson_sources.proofs.Words.{any, empty, known, Mark, opaque, list_of_slot, or_option, all_known, Assigned, assigned_by, assignments, is_outermost}
+use Rattle.meson_sources.proofs.Words.{is_set_otherwise, only_value, part_assigned, single}
 
 -- ==== The list in which a mark is met, and places below others.
 

@@ -1,6 +1,10 @@
 -- A project before and after one node of it has become another one: the nodes at places, and what variables stand for.
 use Rattle.meson_syntax.specs.Paths as paths
-use Rattle.meson_sources.proofs.Words.{nat_eq, option_and_then, option_map, [], ap, ap₂, arith, Bool, false, List, map, None, Option, refl, Some, subst, suc, sym, true, ℕ, ◌++◌, ◌+◌, ◌∙◌, ◌∷◌, ◌≡◌, eq-eqb, eqb-true, Span, File, a_block, an_expression, Any, block_of, nth, erase, erase_expression, Expression, file, Nowhere, Plain, child_nodes, node_at, some-injective, and-then-some, Loaded, named_trees, project, trees, parts_from, parts_of_file, BuildFile, child, expression_at, nth_file, place, Placed, CallRef, single, plain_trees, differ_new, differ_old, differ_other, tree_there}
+use Rattle.meson_sources.proofs.Words.{nat_eq, option_and_then, option_map, [], ap, ap₂, arith, Bool, false, List, map, None, Option, refl, Some, subst, suc}
+use Rattle.meson_sources.proofs.Words.{sym, true, ℕ, ◌++◌, ◌+◌, ◌∙◌, ◌∷◌, ◌≡◌, eq-eqb, eqb-true, File, Span, a_block, an_expression, Any, block_of, nth, erase}
+use Rattle.meson_sources.proofs.Words.{erase_expression, Expression, file, Nowhere, Plain, child_nodes, node_at, some-injective, and-then-some, Loaded}
+use Rattle.meson_sources.proofs.Words.{named_trees, project, trees, parts_from, parts_of_file, BuildFile, child, expression_at, nth_file, place, Placed}
+use Rattle.meson_sources.proofs.Words.{CallRef, single, plain_trees, differ_new, differ_old, differ_other, tree_there}
 use Rattle.meson_sources.proofs.told.Variables.{of_any, told, told_both, told_erased, file_names_erased, file_names, value_place, value_place_is}
 use Rattle.meson_sources.proofs.trees.Places.{bare_node, expression_node, node_with_spans, below, no_statement, node_between, single_named, Far, without_last}
 use Rattle.meson_sources.proofs.trees.Shapes.{Becomes, OnPath, on_path}

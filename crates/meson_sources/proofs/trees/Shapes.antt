@@ -1,7 +1,11 @@
 -- A node put where a path leads: on each step the node keeps its shape and its other children.
 use Rattle.meson_sources.proofs.trees.Skeletons as skeletons
 use Rattle.meson_syntax.specs.declared.operator.Operator.{Operator}
-use Rattle.meson_sources.proofs.Words.{option_and_then, option_map, [], ap, arith, List, refl, Some, subst, suc, sym, zero, ℕ, ◌++◌, ◌∙◌, ◌∷◌, ◌≡◌, Word, a_block, an_expression, Any, around, block_of, children, Hole, list_at, list_in, list_of_node, list_within, ListAt, ListIn, Node, nth_hole, of_block, of_expression, of_statement, reach, Sort, Argument, Block, Expression, file, Listing, Name, Nowhere, Plain, Assignment, any_of, child_nodes, node_at, some-injective, every-nth, and-then-some, map-some, every-at-nth, children_put, Differ, differ_new, differ_old, here, PutsAmong, there}
+use Rattle.meson_sources.proofs.Words.{option_and_then, option_map, [], ap, arith, List, refl, Some, subst, suc, sym, zero, ℕ, ◌++◌, ◌∙◌, ◌∷◌, ◌≡◌, Word}
+use Rattle.meson_sources.proofs.Words.{a_block, an_expression, Any, around, block_of, children, Hole, list_at, list_in, list_of_node, list_within, ListAt}
+use Rattle.meson_sources.proofs.Words.{ListIn, Node, nth_hole, of_block, of_expression, of_statement, reach, Sort, Argument, Block, Expression, file, Listing}
+use Rattle.meson_sources.proofs.Words.{Name, Nowhere, Plain, Assignment, any_of, child_nodes, node_at, some-injective, every-nth, and-then-some, map-some}
+use Rattle.meson_sources.proofs.Words.{every-at-nth, children_put, Differ, differ_new, differ_old, here, PutsAmong, there}
 use Rattle.meson_sources.proofs.trees.Skeletons.{Skeleton, SkeletonStays, skeleton, skeletons_stay}
 
 -- ---- shapes

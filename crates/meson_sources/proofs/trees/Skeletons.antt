@@ -7,7 +7,17 @@ use Rattle.meson_lex.specs.declared.kinds.Kind.{Kind}
 use Rattle.meson_syntax.specs.declared.operator.Operator.{Operator}
 use Rattle.meson_syntax.specs.declared.operator.UnaryOperator.{UnaryOperator}
 use Rattle.meson_syntax.specs.Tree.{breaks, continues}
-use Rattle.meson_sources.proofs.Words.{⊤, [], ap, append-nil, ap₂, Bool, drop, false, length, List, refl, suc, sym, ℕ, ◌++◌, ◌∙◌, ◌∷◌, ◌≡◌, new_line, Word, a_block, a_statement, an_expression, Any, arguments_parts, branches_parts, listing_parts, argument_words, arguments_words, block_words, branches_words, comma_words, expression_words, mark, operator_words, otherwise_words, tail_words, tails_words, closes, opens, all_around, argument_children, arguments_children, branches_children, children, expression_children, Hole, listing_children, Node, of_block, of_expression, of_statement, operands_children, otherwise_children, Sort, statement_children, statements_children, tail_children, tails_children, Argument, argument, Arguments, arguments_of, array, assign, block, boolean, branch, Branches, call, conditional, dictionary, evaluate, Expression, identifier, index, iteration, Listing, listing, method, Name, named, no_arguments, no_branches, no_operands, no_statements, no_tails, nothing_else, Nowhere, operand, Operands, Otherwise, otherwise, pair, paren, plain, postfix, row, selection, Statement, statement, Statements, string, Tail, tail, Tails, unary, Assignment, Bracket, StringKind, any_of, child_nodes, operands_parts, otherwise_parts, statements_parts, tails_parts, Every, every-append, every-around}
+use Rattle.meson_sources.proofs.Words.{⊤, [], ap, append-nil, ap₂, Bool, drop, false, length, List, refl, suc, sym, ℕ, ◌++◌, ◌∙◌, ◌∷◌, ◌≡◌, new_line, Word}
+use Rattle.meson_sources.proofs.Words.{a_block, a_statement, an_expression, Any, arguments_parts, branches_parts, listing_parts, argument_words}
+use Rattle.meson_sources.proofs.Words.{arguments_words, block_words, branches_words, comma_words, expression_words, mark, operator_words, otherwise_words}
+use Rattle.meson_sources.proofs.Words.{tail_words, tails_words, closes, opens, all_around, argument_children, arguments_children, branches_children, children}
+use Rattle.meson_sources.proofs.Words.{expression_children, Hole, listing_children, Node, of_block, of_expression, of_statement, operands_children}
+use Rattle.meson_sources.proofs.Words.{otherwise_children, Sort, statement_children, statements_children, tail_children, tails_children, Argument, argument}
+use Rattle.meson_sources.proofs.Words.{Arguments, arguments_of, array, assign, block, boolean, branch, Branches, call, conditional, dictionary, evaluate}
+use Rattle.meson_sources.proofs.Words.{Expression, identifier, index, iteration, Listing, listing, method, Name, named, no_arguments, no_branches, no_operands}
+use Rattle.meson_sources.proofs.Words.{no_statements, no_tails, nothing_else, Nowhere, operand, Operands, Otherwise, otherwise, pair, paren, plain, postfix}
+use Rattle.meson_sources.proofs.Words.{row, selection, Statement, statement, Statements, string, Tail, tail, Tails, unary, Assignment, Bracket, StringKind}
+use Rattle.meson_sources.proofs.Words.{any_of, child_nodes, operands_parts, otherwise_parts, statements_parts, tails_parts, Every, every-append, every-around}
 
 -- any value
 abbrev some_value : Expression Nowhere

@@ -1,7 +1,8 @@
-use Rattle.std.proofs.Common.{◌∙◌, nat_le, ◌-◌, suc, refl, sym, ap}
-use Rattle.std.specs.Prelude.{max}
+use Rattle.meson_edit.proofs.Words.{◌∙◌, nat_le, ◌-◌, suc, refl, sym, ap, max}
 use Rattle.meson_edit.proofs.Fitting.{one-more, both, first-fails, seen, told, element-fails, element-fits, all-fit}
-use Rattle.meson_edit.proofs.DeepViews.{expr_deep, operand_deep, operands_deep, tail_deep, tails_deep, arg_deep, args_deep, deep_paren, deep_array, deep_dictionary, deep_call, deep_unary, deep_row, deep_postfix, deep_conditional, deep_operand, deep_method, deep_index, deep_list, deep_plain, deep_named, deep_pair}
+use Rattle.meson_edit.proofs.DeepViews.{expr_deep, operand_deep, operands_deep, tail_deep, tails_deep, arg_deep, args_deep, deep_paren, deep_array}
+use Rattle.meson_edit.proofs.DeepViews.{deep_dictionary, deep_call, deep_unary, deep_row, deep_postfix, deep_conditional, deep_operand, deep_method, deep_index}
+use Rattle.meson_edit.proofs.DeepViews.{deep_list, deep_plain, deep_named, deep_pair}
 use Rattle.meson_edit.proofs.depth.+expressions.Goals as goal
 
 -- ---- elements of lists

@@ -1,7 +1,5 @@
-use Rattle.std.proofs.Common.{◌≡◌, nat_le, List, ℕ, drop}
-use Rattle.meson_syntax.specs.Grammar.{operands_depth, tails_depth, arguments_depth}
-use Rattle.meson_syntax.specs.Tree.{operands_of, tails_of, arguments_of}
-use Rattle.meson_syntax.specs.View.{operands_view, tails_view, args_view}
+use Rattle.meson_edit.proofs.Words.{◌≡◌, nat_le, List, ℕ, drop, operands_depth, tails_depth, arguments_depth, operands_of, tails_of, arguments_of}
+use Rattle.meson_edit.proofs.Words.{operands_view, tails_view, args_view}
 use Rattle.meson_edit.proofs.depth.+expressions.Given as goal
 
 -- the elements before have room, so all have where those that are left have

@@ -1,6 +1,7 @@
-use Rattle.std.proofs.Common.{◌∙◌, nat_le, ◌-◌, refl, sym, ap}
+use Rattle.meson_edit.proofs.Words.{◌∙◌, nat_le, ◌-◌, refl, sym, ap}
 use Rattle.meson_edit.proofs.Fitting.{one-more, both, first-fails, seen, told, element-fails, element-fits, all-fit}
-use Rattle.meson_edit.proofs.DeepViews.{stmt_deep, stmts_deep, branch_deep, branches_deep, block_deep, otherwise_deep, deep_evaluate, deep_assign, deep_if, deep_foreach, deep_block, deep_branch}
+use Rattle.meson_edit.proofs.DeepViews.{stmt_deep, stmts_deep, branch_deep, branches_deep, block_deep, otherwise_deep, deep_evaluate, deep_assign, deep_if}
+use Rattle.meson_edit.proofs.DeepViews.{deep_foreach, deep_block, deep_branch}
 use Rattle.meson_edit.proofs.depth.+statements.Goals as goal
 
 -- ---- blocks

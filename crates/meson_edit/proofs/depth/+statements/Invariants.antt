@@ -1,7 +1,4 @@
-use Rattle.std.proofs.Common.{◌≡◌, nat_le, List, ℕ, drop}
-use Rattle.meson_syntax.specs.Grammar.{branches_depth, statements_depth}
-use Rattle.meson_syntax.specs.Tree.{branches_of, statements_of}
-use Rattle.meson_syntax.specs.View.{branches_view, stmts_view}
+use Rattle.meson_edit.proofs.Words.{◌≡◌, nat_le, List, ℕ, drop, branches_depth, statements_depth, branches_of, statements_of, branches_view, stmts_view}
 use Rattle.meson_edit.proofs.depth.+statements.Given as goal
 
 -- those before have room, so all have where those that are left have

@@ -1,7 +1,6 @@
-use Rattle.meson_syntax.specs.Tree.{Nowhere}
+use Rattle.meson_edit.proofs.Words.{Nowhere, list-fits}
 use Rattle.meson_edit.proofs.exchange.Lists.{lists-exchange}
 use Rattle.meson_edit.proofs.exchange.ReadAgain.{read-again}
-use Rattle.meson_syntax.proofs.paths.Reaching.{list-fits}
 use Rattle.meson_edit.proofs.trees.exchange.Goals as goal
 
 pub returns : goal.returns

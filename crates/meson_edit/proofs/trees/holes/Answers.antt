@@ -1,6 +1,4 @@
-use Rattle.meson_syntax.specs.Tree.{Nowhere}
-use Rattle.meson_syntax.specs.Paths.{of_block}
-use Rattle.meson_syntax.proofs.paths.Reaching.{reach-fits, list-fits}
+use Rattle.meson_edit.proofs.Words.{of_block, Nowhere, reach-fits, list-fits}
 use Rattle.meson_edit.proofs.trees.holes.Goals as goal
 
 pub returns : goal.returns

@@ -1,21 +1,8 @@
 -- What a request means is done on its call, task by task, or it is refused as is meant.
-use Rattle.std.proofs.Common.{◌<◌, ◌≡◌, length, sym, ap, ◌∙◌, subst, arith}
-use Rattle.std.specs.Prelude.{OnOk}
-use Rattle.std.proofs.lemmas.Result.{err_from_is_err_and}
-use Rattle.meson_splice.specs.Files.{bytes_at}
-use Rattle.meson_calls.specs.Calls.{value_with_name}
-use Rattle.meson_calls.specs.Loading.{IsProject, named_trees, project, views}
-use Rattle.meson_steps.specs.Done.{IsDone, MayNotBeDone, unmeant}
-use Rattle.meson_steps.specs.ResultLimits.{plain_trees}
-use Rattle.meson_steps.specs.Working.{so_far}
-use Rattle.meson_calls.specs.NamedArguments.{not_hidden, kept_args, kwargs_key}
-use Rattle.meson_calls.specs.Refusals.{IfRefused}
-use Rattle.meson_keywords.specs.Changing.{CallStands, request_steps}
-use Rattle.meson_keywords.specs.Tasking.{asked}
-use Rattle.meson_keywords.specs.TaskSteps.{tasks_steps}
+use Rattle.meson_keywords.proofs.Words.{◌<◌, ◌≡◌, length, sym, ap, ◌∙◌, subst, arith, OnOk, err_from_is_err_and, bytes_at, value_with_name, IsProject}
+use Rattle.meson_keywords.proofs.Words.{named_trees, project, views, not_hidden, kept_args, kwargs_key, IfRefused, as_many, place_is, IsDone, MayNotBeDone}
+use Rattle.meson_keywords.proofs.Words.{unmeant, plain_trees, so_far, CallStands, request_steps, tasks_steps, asked}
 use Rattle.meson_calls.proofs.CallLists.{inside}
-use Rattle.meson_calls.proofs.Loads.{as_many}
-use Rattle.meson_calls.proofs.OneCall.{place_is}
 use Rattle.meson_keywords.proofs.Requests.{none_named, in_trees, stands, no_words, hides, task_by_task, parsed_as, of_trees}
 use Rattle.meson_keywords.proofs.changing.changed.Goals as goal
 

@@ -1,6 +1,5 @@
-use Rattle.std.proofs.Common.{◌++◌, ◌∙◌, arith}
+use Rattle.meson_keywords.proofs.Words.{◌++◌, ◌∙◌, arith, err_from_is_err_and}
 use Rattle.meson_keywords.proofs.CallKnown.{within_files, within_trees}
-use Rattle.std.proofs.lemmas.Result.{err_from_is_err_and}
 use Rattle.meson_steps.proofs.StepTaken.{when_ok}
 use Rattle.meson_keywords.proofs.TasksGo.{args_known, no_list, task_done, task_under_way}
 use Rattle.meson_keywords.proofs.changing.do_task.Goals as goal

@@ -1,10 +1,8 @@
-use Rattle.std.proofs.Common.{◌∙◌, ap, subst, sym}
-use Rattle.std.proofs.lemmas.Result.{IfOk-weaker}
+use Rattle.meson_keywords.proofs.Words.{◌∙◌, ap, subst, sym, IfOk-weaker, if_refused}
 use Rattle.meson_calls.specs.Notes.{note_views}
 use Rattle.meson_calls.specs.Spelling.{AreNotesWith, sought_words}
 use Rattle.meson_calls.proofs.GoodNotes.{project_good}
 use Rattle.meson_calls.proofs.NotesWith.{good_with, same_place}
-use Rattle.meson_calls.proofs.OneCall.{if_refused}
 use Rattle.meson_keywords.proofs.changing.place_named.Goals as goal
 
 pub the_call-requires : goal.the_call-requires

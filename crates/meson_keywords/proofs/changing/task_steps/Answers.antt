@@ -1,11 +1,4 @@
-use Rattle.std.proofs.Common.{map, sym, subst}
-use Rattle.meson_calls.specs.Refusals.{RefusedAs}
-use Rattle.std.specs.Prelude.{IfOk}
-use Rattle.meson_syntax.specs.View.{args_view}
-use Rattle.meson_steps.specs.Meanings.{AreMeant}
-use Rattle.meson_keywords.specs.Tasking.{TaskIs}
-use Rattle.meson_keywords.specs.Tasks.{add}
-use Rattle.meson_keywords.specs.TaskSteps.{task_steps}
+use Rattle.meson_keywords.proofs.Words.{map, sym, subst, IfOk, args_view, RefusedAs, AreMeant, task_steps, TaskIs, add}
 use Rattle.meson_keywords.proofs.changing.task_steps.Goals as goal
 
 pub returns-in-Set-clause-meant : goal.returns-in-Set-clause-meant

@@ -1,15 +1,5 @@
-use Rattle.std.proofs.Common.{◌∙◌, sym, subst}
-use Rattle.std.specs.Prelude.{◌≢◌}
-use Rattle.std.specs.Vec.Iter.{into_iter_items}
-use Rattle.std.proofs.lemmas.List.{nil_from_length}
-use Rattle.std.proofs.lemmas.Result.{err_from_is_err_and}
-use Rattle.meson_calls.specs.declared.refusal.Refusal.TheVariants.{OutOfMemory}
-use Rattle.meson_steps.specs.Done.{MayNotBeDone}
-use Rattle.meson_steps.specs.ResultLimits.{plain_trees}
-use Rattle.meson_steps.specs.Working.{so_far}
-use Rattle.meson_keywords.specs.inside.Tasking.{TasksAre}
-use Rattle.meson_keywords.specs.TaskSteps.{tasks_steps}
-use Rattle.meson_steps.proofs.UnderWay.{refused_anyway}
+use Rattle.meson_keywords.proofs.Words.{◌∙◌, sym, subst, ◌≢◌, into_iter_items, nil_from_length, err_from_is_err_and, OutOfMemory, MayNotBeDone, plain_trees}
+use Rattle.meson_keywords.proofs.Words.{so_far, refused_anyway, tasks_steps, TasksAre}
 use Rattle.meson_keywords.proofs.TasksLeft.{TasksLeft, next_task, task_refused, tasks_first, tasks_more, whole_done}
 use Rattle.meson_keywords.proofs.changing.tasks_done.Goals as goal
 

@@ -1,11 +1,4 @@
-use Rattle.std.proofs.Common.{List}
-use Rattle.std.specs.Vec.Iter.{into_iter_items}
-use Rattle.meson_calls.specs.Loading.{Loaded}
-use Rattle.meson_steps.specs.ResultLimits.{plain_trees}
-use Rattle.meson_steps.specs.Working.{Restores, so_far}
-use Rattle.meson_keywords.specs.inside.Tasking.{TasksAre}
-use Rattle.meson_keywords.specs.Tasks.{Task}
-use Rattle.meson_keywords.specs.TaskSteps.{tasks_steps}
+use Rattle.meson_keywords.proofs.Words.{List, into_iter_items, Loaded, plain_trees, Restores, so_far, tasks_steps, Task, TasksAre}
 use Rattle.meson_keywords.proofs.TasksLeft.{TasksLeft}
 use Rattle.meson_keywords.proofs.changing.tasks_done.Given as goal
 

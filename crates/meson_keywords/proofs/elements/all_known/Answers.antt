@@ -1,8 +1,4 @@
-use Rattle.std.proofs.Common.{◌∙◌, sym, ap}
-use Rattle.std.specs.Prelude.{is_some}
-use Rattle.meson_syntax.specs.View.{arg_view}
-use Rattle.meson_keywords.specs.KeywordEdits.{element_text}
-use Rattle.meson_calls.proofs.ArgumentViews.{plain_view, named_view}
+use Rattle.meson_keywords.proofs.Words.{◌∙◌, sym, ap, is_some, arg_view, plain_view, named_view, element_text}
 use Rattle.meson_keywords.proofs.ElementsSay.{good_plain, known_more, known_not, pair_view}
 use Rattle.meson_keywords.proofs.elements.all_known.Goals as goal
 

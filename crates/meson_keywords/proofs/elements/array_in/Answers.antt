@@ -1,12 +1,6 @@
-use Rattle.std.proofs.Common.{◌∙◌, sym, ap, subst}
-use Rattle.meson_syntax.specs.Grammar.{expression_words}
-use Rattle.meson_syntax.specs.View.{args_view, expr_view, list_view}
+use Rattle.meson_keywords.proofs.Words.{◌∙◌, sym, ap, subst, expression_words, args_view, expr_view, list_view, list_elements, GoodArgs, AreGood, array_view}
+use Rattle.meson_keywords.proofs.Words.{good_args, good_listing, an_array, value_shape}
 use Rattle.meson_syntax.specs.declared.operator.Bracket.TheVariants as bracket
-use Rattle.meson_calls.specs.GoodLists.{GoodArgs}
-use Rattle.meson_keywords.specs.KeywordEdits.{an_array, value_shape}
-use Rattle.meson_calls.specs.Strings.{AreGood}
-use Rattle.meson_edit.proofs.lists.CodeElements.{list_elements}
-use Rattle.meson_calls.proofs.Nested.{array_view, good_args, good_listing}
 use Rattle.meson_keywords.proofs.elements.array_in.Goals as goal
 
 pub returns-in-Array-clause-shape : goal.returns-in-Array-clause-shape

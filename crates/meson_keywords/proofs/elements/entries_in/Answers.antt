@@ -1,13 +1,6 @@
-use Rattle.std.proofs.Common.{◌∙◌, sym, ap, subst}
-use Rattle.std.specs.Prelude.{Some}
-use Rattle.meson_syntax.specs.Grammar.{expression_words}
-use Rattle.meson_syntax.specs.View.{args_view, expr_view, list_view}
+use Rattle.meson_keywords.proofs.Words.{◌∙◌, sym, ap, subst, Some, expression_words, args_view, expr_view, list_view, list_elements, GoodArgs, AreGood}
+use Rattle.meson_keywords.proofs.Words.{good_args, good_listing, entries}
 use Rattle.meson_syntax.specs.declared.operator.Bracket.TheVariants as bracket
-use Rattle.meson_calls.specs.GoodLists.{GoodArgs}
-use Rattle.meson_calls.specs.Strings.{AreGood}
-use Rattle.meson_edit.proofs.lists.CodeElements.{list_elements}
-use Rattle.meson_calls.proofs.Nested.{good_args, good_listing}
-use Rattle.meson_keywords.specs.Options.{entries}
 use Rattle.meson_keywords.proofs.ElementsSay.{dictionary_view}
 use Rattle.meson_keywords.proofs.elements.entries_in.Goals as goal
 

@@ -1,9 +1,4 @@
-use Rattle.std.proofs.Common.{◌∙◌, sym, ap, subst}
-use Rattle.meson_syntax.specs.Grammar.{argument_words}
-use Rattle.meson_syntax.specs.View.{arg_view}
-use Rattle.meson_keywords.specs.KeywordEdits.{says}
-use Rattle.meson_calls.specs.Strings.{AreGood}
-use Rattle.meson_calls.proofs.Nested.{good_arg}
+use Rattle.meson_keywords.proofs.Words.{◌∙◌, sym, ap, subst, argument_words, arg_view, AreGood, good_arg, says}
 use Rattle.meson_keywords.proofs.ElementsSay.{any_here, any_more}
 use Rattle.meson_keywords.proofs.elements.is_there.Goals as goal
 

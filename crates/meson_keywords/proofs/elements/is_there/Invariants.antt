@@ -1,7 +1,4 @@
-use Rattle.std.proofs.Common.{◌≡◌, drop}
-use Rattle.std.specs.List.{list_any}
-use Rattle.meson_syntax.specs.View.{args_view}
-use Rattle.meson_keywords.specs.KeywordEdits.{says}
+use Rattle.meson_keywords.proofs.Words.{◌≡◌, drop, list_any, args_view, says}
 use Rattle.meson_keywords.proofs.elements.is_there.Given as goal
 
 abbrev pub invariant-loop-i : goal.invariant-loop-i

@@ -1,12 +1,5 @@
-use Rattle.std.proofs.Common.{◌∙◌, sym, ap, subst}
-use Rattle.std.specs.Prelude.{is_some}
-use Rattle.meson_syntax.specs.Grammar.{expression_words}
-use Rattle.meson_syntax.specs.View.{arg_view, expr_view}
-use Rattle.meson_calls.specs.Calls.{literal_of}
-use Rattle.meson_calls.specs.Strings.{AreGood}
-use Rattle.meson_calls.proofs.ArgumentViews.{plain_view, named_view}
-use Rattle.meson_calls.proofs.Nested.{good_arg}
-use Rattle.meson_keywords.specs.Options.{key_text}
+use Rattle.meson_keywords.proofs.Words.{◌∙◌, sym, ap, subst, is_some, expression_words, arg_view, expr_view, literal_of, AreGood, plain_view, named_view}
+use Rattle.meson_keywords.proofs.Words.{good_arg, key_text}
 use Rattle.meson_keywords.proofs.ElementsSay.{good_key, keys_more, keys_not, pair_view}
 use Rattle.meson_keywords.proofs.elements.keys_known.Goals as goal
 

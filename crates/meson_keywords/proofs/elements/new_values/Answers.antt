@@ -1,11 +1,5 @@
-use Rattle.std.proofs.Common.{◌≡◌, ◌+◌, List, ℕ, ◌++◌, drop, map, sym, ap, ◌∙◌}
-use Rattle.std.specs.Prelude.{bytes_eq, reverse, ◌||◌}
-use Rattle.std.specs.List.{filter_map, list_any}
-use Rattle.std.proofs.lemmas.List.{map-append}
-use Rattle.meson_syntax.specs.View.{args_view}
-use Rattle.meson_keywords.specs.KeywordEdits.{element_text}
-use Rattle.meson_calls.specs.Roles.{one_of}
-use Rattle.meson_steps.specs.Names.{distinct_by}
+use Rattle.meson_keywords.proofs.Words.{◌≡◌, ◌+◌, List, ℕ, ◌++◌, drop, map, sym, ap, ◌∙◌, bytes_eq, reverse, ◌||◌, filter_map, list_any, map-append, args_view}
+use Rattle.meson_keywords.proofs.Words.{one_of, distinct_by, element_text}
 use Rattle.meson_keywords.proofs.ElementsSay.{rest_mapped, seen_same, told, unseen_more}
 use Rattle.meson_keywords.proofs.elements.new_values.Goals as goal
 use Rattle.meson_keywords.proofs.elements.new_values.Goals.{then-not-is_seen+in_ok-push, else-not-is_seen}

@@ -1,9 +1,4 @@
-use Rattle.std.proofs.Common.{◌≡◌, ◌++◌, drop, map}
-use Rattle.std.specs.Prelude.{reverse}
-use Rattle.std.specs.List.{filter_map}
-use Rattle.meson_syntax.specs.View.{args_view}
-use Rattle.meson_keywords.specs.KeywordEdits.{element_text}
-use Rattle.meson_steps.specs.Names.{distinct_by}
+use Rattle.meson_keywords.proofs.Words.{◌≡◌, ◌++◌, drop, map, reverse, filter_map, args_view, distinct_by, element_text}
 use Rattle.meson_keywords.proofs.elements.new_values.Given as goal
 
 abbrev pub invariant-loop-i : goal.invariant-loop-i

@@ -1,11 +1,5 @@
-use Rattle.std.proofs.Common.{◌≡◌, ◌+◌, List, ℕ, [], ◌∷◌, ◌++◌, drop, map, sym, ap, ◌∙◌}
-use Rattle.std.specs.Prelude.{bytes_eq, reverse, ◌||◌}
-use Rattle.std.specs.List.{list_any}
-use Rattle.std.proofs.lemmas.List.{map-append}
-use Rattle.meson_syntax.specs.View.{expr_view}
-use Rattle.meson_keywords.specs.KeywordEdits.{text_in}
-use Rattle.meson_calls.specs.Roles.{one_of}
-use Rattle.meson_steps.specs.Names.{distinct_by}
+use Rattle.meson_keywords.proofs.Words.{◌≡◌, ◌+◌, List, ℕ, [], ◌∷◌, ◌++◌, drop, map, sym, ap, ◌∙◌, bytes_eq, reverse, ◌||◌, list_any, map-append, expr_view}
+use Rattle.meson_keywords.proofs.Words.{one_of, distinct_by, text_in}
 use Rattle.meson_keywords.proofs.ElementsSay.{rest_mapped, seen_same, lone_told, unseen_more}
 use Rattle.meson_keywords.proofs.elements.other_values.Goals as goal
 use Rattle.meson_keywords.proofs.elements.other_values.Goals.{then-not-is_seen+in_ok-push, else-not-is_seen}

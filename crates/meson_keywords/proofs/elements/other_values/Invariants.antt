@@ -1,9 +1,4 @@
-use Rattle.std.proofs.Common.{◌≡◌, ◌++◌, ◌∷◌, [], drop, map}
-use Rattle.std.specs.Prelude.{Some, reverse}
-use Rattle.meson_syntax.specs.View.{expr_view}
-use Rattle.meson_keywords.specs.KeywordEdits.{text_in}
-use Rattle.meson_calls.specs.ChosenNotes.{Source}
-use Rattle.meson_steps.specs.Names.{distinct_by}
+use Rattle.meson_keywords.proofs.Words.{◌≡◌, ◌++◌, ◌∷◌, [], drop, map, Some, reverse, expr_view, Source, distinct_by, text_in}
 use Rattle.meson_keywords.proofs.elements.other_values.Given as goal
 
 abbrev pub invariant-loop-i : goal.invariant-loop-i

@@ -1,7 +1,4 @@
-use Rattle.std.proofs.Common.{sym, subst}
-use Rattle.meson_syntax.specs.Grammar.{expression_words}
-use Rattle.meson_syntax.specs.View.{expr_view}
-use Rattle.meson_calls.specs.Strings.{AreGood}
+use Rattle.meson_keywords.proofs.Words.{sym, subst, expression_words, expr_view, AreGood}
 use Rattle.meson_keywords.proofs.ElementsSay.{good_key}
 use Rattle.meson_keywords.proofs.elements.passes.Goals as goal
 

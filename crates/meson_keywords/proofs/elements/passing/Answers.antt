@@ -1,14 +1,6 @@
-use Rattle.std.proofs.Common.{◌+◌, ◌++◌, drop, ◌∙◌, sym, ap, subst}
-use Rattle.std.specs.Prelude.{Bool}
-use Rattle.meson_lex.specs.declared.kinds.Span.{Span}
-use Rattle.meson_syntax.specs.Tree.{Argument}
-use Rattle.meson_syntax.specs.Grammar.{argument_words}
-use Rattle.meson_syntax.specs.View.{arg_view, args_view}
-use Rattle.meson_calls.specs.Strings.{AreGood}
-use Rattle.meson_keywords.specs.inside.Tasking.{test_of}
-use Rattle.meson_keywords.specs.KeywordEdits.{passing}
+use Rattle.meson_keywords.proofs.Words.{◌+◌, ◌++◌, drop, ◌∙◌, sym, ap, subst, Bool, Span, argument_words, Argument, arg_view, args_view, AreGood, good_arg}
+use Rattle.meson_keywords.proofs.Words.{passing, test_of}
 use Rattle.meson_keywords.proofs.ElementsSay.{passing_here, passing_more}
-use Rattle.meson_calls.proofs.Nested.{good_arg}
 use Rattle.meson_keywords.proofs.elements.passing.Goals as goal
 use Rattle.meson_keywords.proofs.elements.passing.Goals.{then-branch+in_ok-push, else-branch}
 

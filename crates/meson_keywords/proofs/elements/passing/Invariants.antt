@@ -1,7 +1,4 @@
-use Rattle.std.proofs.Common.{◌≡◌, ◌++◌, drop}
-use Rattle.meson_syntax.specs.View.{args_view}
-use Rattle.meson_keywords.specs.KeywordEdits.{passing}
-use Rattle.meson_keywords.specs.inside.Tasking.{test_of}
+use Rattle.meson_keywords.proofs.Words.{◌≡◌, ◌++◌, drop, args_view, passing, test_of}
 use Rattle.meson_keywords.proofs.elements.passing.Given as goal
 
 abbrev pub invariant-loop-i : goal.invariant-loop-i

@@ -1,5 +1,4 @@
-use Rattle.std.proofs.Common.{◌∙◌, sym}
-use Rattle.meson_syntax.specs.View.{expr_view}
+use Rattle.meson_keywords.proofs.Words.{◌∙◌, sym, expr_view}
 use Rattle.meson_keywords.proofs.ElementsSay.{one_there}
 use Rattle.meson_calls.proofs.FirstValue.{good_value, not_a_name, pair_no_name, value_is}
 use Rattle.meson_keywords.proofs.elements.the_value.Goals as goal

@@ -1,16 +1,10 @@
-use Rattle.std.proofs.Common.{◌++◌, ◌∷◌, [], List, ℕ, length, map, refl, sym, ap, ap₂, ◌∙◌, subst, rules}
-use Rattle.std.specs.Prelude.{Ok, codes}
-use Rattle.std.proofs.lemmas.List.{length-map}
-use Rattle.std.proofs.lemmas.Result.{err_from_is_err_and}
-use Rattle.meson_syntax.specs.View.{arg_view, args_view, expr_view}
-use Rattle.meson_edit.specs.Edits.{Written}
-use Rattle.meson_syntax.specs.Tree.{Argument, Nowhere}
-use Rattle.meson_keywords.specs.ValueKinds.{written_list, written_named}
-use Rattle.meson_keywords.specs.KeywordEdits.{add_by_shape, add_there, behind_all, value_shape, text_in}
-use Rattle.meson_steps.specs.Meanings.{AreBehind}
+use Rattle.meson_keywords.proofs.Words.{◌++◌, ◌∷◌, [], List, ℕ, length, map, refl, sym, ap, ap₂, ◌∙◌, subst, rules, Ok, codes, length-map, err_from_is_err_and}
+use Rattle.meson_keywords.proofs.Words.{Argument, Nowhere, arg_view, args_view, expr_view, Written, AreBehind, add_by_shape, add_there, behind_all, value_shape}
+use Rattle.meson_keywords.proofs.Words.{text_in, written_list, written_named}
 use Rattle.meson_keywords.proofs.StepsBehind.{all_meant, behind_is, by_none, by_some}
 use Rattle.meson_keywords.proofs.keyword_steps.add_steps.Goals as goal
-use Rattle.meson_keywords.proofs.keyword_steps.add_steps.Goals.{in-Some+in_ok-add_to_value-in-Some, in-None+in_ok-list-in-None+in_ok-new-in-None+in_ok-put_behind-in-None}
+use Rattle.meson_keywords.proofs.keyword_steps.add_steps.Goals.{in-Some+in_ok-add_to_value-in-Some}
+use Rattle.meson_keywords.proofs.keyword_steps.add_steps.Goals.{in-None+in_ok-list-in-None+in_ok-new-in-None+in_ok-put_behind-in-None}
 
 pub returns-in_err-found-clause-refused : goal.returns-in_err-found-clause-refused
 returns-in_err-found-clause-refused c =

@@ -1,11 +1,5 @@
-use Rattle.std.proofs.Common.{◌≡◌, ◌∷◌, List, ℕ, map, refl, sym, ap, ◌∙◌}
-use Rattle.std.specs.Prelude.{Err, Ok}
-use Rattle.meson_syntax.specs.View.{expr_view}
-use Rattle.meson_edit.specs.Edits.{Wrap}
-use Rattle.meson_keywords.specs.ValueKinds.{written_element}
-use Rattle.meson_keywords.specs.KeywordEdits.{add_to_lone, all_behind, text_in}
-use Rattle.meson_calls.specs.Project.{child}
-use Rattle.meson_steps.specs.Steps.{step_in}
+use Rattle.meson_keywords.proofs.Words.{◌≡◌, ◌∷◌, List, ℕ, map, refl, sym, ap, ◌∙◌, Err, Ok, expr_view, Wrap, child, step_in, add_to_lone, all_behind, text_in}
+use Rattle.meson_keywords.proofs.Words.{written_element}
 use Rattle.meson_keywords.proofs.StepsBehind.{add_none, behind_result, some_there, then_result}
 use Rattle.meson_keywords.proofs.keyword_steps.add_to_lone.Goals as goal
 

@@ -1,12 +1,5 @@
-use Rattle.std.proofs.Common.{◌≡◌, List, ℕ, length, map, sym, ap, ◌∙◌, subst}
-use Rattle.std.specs.Prelude.{Ok, OnOk}
-use Rattle.std.proofs.lemmas.List.{length-map}
-use Rattle.meson_syntax.specs.View.{arg_view, args_view, expr_view}
-use Rattle.meson_keywords.specs.ValueKinds.{written_element}
-use Rattle.meson_keywords.specs.KeywordEdits.{add_by_shape, all_behind, text_in}
-use Rattle.meson_calls.specs.Project.{child}
-use Rattle.meson_calls.specs.Refusals.{RefusedAs}
-use Rattle.meson_steps.specs.Meanings.{AreBehind}
+use Rattle.meson_keywords.proofs.Words.{◌≡◌, List, ℕ, length, map, sym, ap, ◌∙◌, subst, Ok, OnOk, length-map, arg_view, args_view, expr_view, child, RefusedAs}
+use Rattle.meson_keywords.proofs.Words.{AreBehind, add_by_shape, all_behind, text_in, written_element}
 use Rattle.meson_keywords.proofs.StepsBehind.{behind_result}
 use Rattle.meson_keywords.proofs.keyword_steps.add_to_value.Goals as goal
 

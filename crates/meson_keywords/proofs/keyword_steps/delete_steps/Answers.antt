@@ -1,5 +1,4 @@
-use Rattle.std.proofs.Common.{rules}
-use Rattle.std.proofs.lemmas.Result.{err_from_is_err_and}
+use Rattle.meson_keywords.proofs.Words.{rules, err_from_is_err_and}
 use Rattle.meson_keywords.proofs.keyword_steps.delete_steps.Goals as goal
 
 pub returns-in_err-found-clause-refused : goal.returns-in_err-found-clause-refused

@@ -1,8 +1,4 @@
-use Rattle.std.proofs.Common.{◌≡◌, ◌+◌, ◌++◌, drop, map}
-use Rattle.std.specs.Prelude.{Some}
-use Rattle.meson_keywords.specs.ValueKinds.{written_element}
-use Rattle.meson_keywords.specs.KeywordEdits.{all_behind}
-use Rattle.meson_steps.specs.ListSteps.{bare}
+use Rattle.meson_keywords.proofs.Words.{◌≡◌, ◌+◌, ◌++◌, drop, map, Some, bare, all_behind, written_element}
 use Rattle.meson_keywords.proofs.keyword_steps.put_all_behind.Given as goal
 
 abbrev pub invariant-loop-i : goal.invariant-loop-i

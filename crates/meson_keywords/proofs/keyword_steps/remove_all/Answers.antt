@@ -1,5 +1,4 @@
-use Rattle.std.proofs.Common.{arith}
-use Rattle.std.proofs.lemmas.Grind.{common_steps}
+use Rattle.meson_keywords.proofs.Words.{arith, common_steps}
 use Rattle.meson_keywords.proofs.keyword_steps.remove_all.Goals as goal
 
 pub loop-i-preserved : goal.loop-i-preserved

@@ -1,7 +1,4 @@
-use Rattle.std.proofs.Common.{◌≡◌, ◌++◌, drop, map}
-use Rattle.std.specs.Prelude.{Some}
-use Rattle.meson_keywords.specs.KeywordEdits.{removed_from}
-use Rattle.meson_steps.specs.ListSteps.{bare}
+use Rattle.meson_keywords.proofs.Words.{◌≡◌, ◌++◌, drop, map, Some, bare, removed_from}
 use Rattle.meson_keywords.proofs.keyword_steps.remove_all.Given as goal
 
 abbrev pub invariant-loop-i : goal.invariant-loop-i

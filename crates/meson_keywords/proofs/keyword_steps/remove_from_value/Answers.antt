@@ -1,11 +1,5 @@
-use Rattle.std.proofs.Common.{refl, sym, ap, ◌∙◌, subst}
-use Rattle.meson_calls.specs.Refusals.{RefusedAs}
-use Rattle.std.specs.Prelude.{OnOk, Err}
-use Rattle.meson_syntax.specs.View.{args_view, expr_view}
-use Rattle.meson_keywords.specs.KeywordEdits.{all_of_kind, passing, remove_by_shape, remove_equal, says, text_in}
-use Rattle.meson_edit.specs.Edits.{Remove}
-use Rattle.meson_steps.specs.Steps.{step_in}
-use Rattle.meson_steps.specs.Meanings.{AreBehind}
+use Rattle.meson_keywords.proofs.Words.{refl, sym, ap, ◌∙◌, subst, OnOk, Err, args_view, expr_view, Remove, RefusedAs, AreBehind, step_in, all_of_kind, passing}
+use Rattle.meson_keywords.proofs.Words.{remove_by_shape, remove_equal, says, text_in}
 use Rattle.meson_keywords.proofs.StepsBehind.{behind_is, lone_gone, lone_kept, lone_none, none_more, one_more}
 use Rattle.meson_keywords.proofs.keyword_steps.remove_from_value.Goals as goal
 use Rattle.meson_keywords.proofs.keyword_steps.remove_from_value.Goals.{then-branch+in_ok-push_edit-in-None, else-branch}

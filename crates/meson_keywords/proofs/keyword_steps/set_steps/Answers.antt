@@ -1,18 +1,6 @@
-use Rattle.std.proofs.Common.{◌++◌, ◌∷◌, [], List, length, refl, sym, ap, ◌∙◌, subst, rules}
-use Rattle.std.specs.Prelude.{Option, Result, Ok, codes}
-use Rattle.std.proofs.lemmas.List.{length-map}
-use Rattle.std.proofs.lemmas.Result.{err_from_is_err_and}
-use Rattle.meson_lex.specs.declared.kinds.Span.{Span}
-use Rattle.meson_calls.specs.declared.refusal.Refusal.{Refusal}
-use Rattle.meson_calls.specs.Calls.{Numbered}
-use Rattle.meson_steps.specs.Steps.{Step, step_in}
-use Rattle.meson_syntax.specs.Tree.{Argument, Expression, Nowhere}
-use Rattle.meson_syntax.specs.View.{arg_view, args_view}
-use Rattle.meson_edit.specs.Edits.{Replace, Written}
-use Rattle.meson_keywords.specs.ValueKinds.{written_named}
-use Rattle.meson_keywords.specs.KeywordEdits.{behind_all, set_there}
-use Rattle.meson_steps.specs.inside.WrittenValues.{value_written}
-use Rattle.meson_steps.specs.Meanings.{AreBehind}
+use Rattle.meson_keywords.proofs.Words.{◌++◌, ◌∷◌, [], List, length, refl, sym, ap, ◌∙◌, subst, rules, Option, Result, Ok, codes, length-map}
+use Rattle.meson_keywords.proofs.Words.{err_from_is_err_and, Span, Argument, Expression, Nowhere, arg_view, args_view, Replace, Written, Numbered, Refusal}
+use Rattle.meson_keywords.proofs.Words.{AreBehind, Step, step_in, value_written, behind_all, set_there, written_named}
 use Rattle.meson_keywords.proofs.StepsBehind.{all_meant, behind_is, by_none, by_some, one_more}
 use Rattle.meson_keywords.proofs.keyword_steps.set_steps.Goals as goal
 use Rattle.meson_keywords.proofs.keyword_steps.set_steps.Goals.{in-Some+in_ok-push_edit-in-Some, in-None+in_ok-new-in-None+in_ok-put_behind-in-None}

@@ -1,12 +1,5 @@
-use Rattle.std.proofs.Common.{sym, ap, ◌∙◌, subst}
-use Rattle.std.proofs.lemmas.Result.{err_from_is_err_and}
-use Rattle.std.specs.Prelude.{Err, OnOk}
-use Rattle.meson_syntax.specs.View.{args_view, expr_view}
-use Rattle.meson_calls.specs.Project.{child}
-use Rattle.meson_calls.specs.Refusals.{RefusedAs}
-use Rattle.meson_steps.specs.Meanings.{AreBehind}
-use Rattle.meson_keywords.specs.KeywordEdits.{passing, removed_from}
-use Rattle.meson_keywords.specs.Options.{delete_by_value, has_key, keys_known}
+use Rattle.meson_keywords.proofs.Words.{sym, ap, ◌∙◌, subst, Err, OnOk, err_from_is_err_and, args_view, expr_view, child, RefusedAs, AreBehind, passing}
+use Rattle.meson_keywords.proofs.Words.{removed_from, delete_by_value, has_key, keys_known}
 use Rattle.meson_keywords.proofs.StepsBehind.{behind_is, list_refused, list_taken}
 use Rattle.meson_keywords.proofs.option_steps.delete_by_value.Goals as goal
 

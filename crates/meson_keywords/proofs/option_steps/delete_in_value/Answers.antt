@@ -1,18 +1,11 @@
-use Rattle.std.proofs.Common.{◌∷◌, [], map, refl, sym, ap, ◌∙◌}
-use Rattle.std.proofs.lemmas.Result.{err_from_is_err_and}
-use Rattle.std.specs.Prelude.{Err, Ok, Some}
-use Rattle.meson_syntax.specs.View.{args_view, expr_view}
-use Rattle.meson_edit.specs.Edits.{Remove}
+use Rattle.meson_keywords.proofs.Words.{◌∷◌, [], map, refl, sym, ap, ◌∙◌, Err, Ok, Some, err_from_is_err_and, args_view, expr_view, Remove, literal_of, child}
+use Rattle.meson_keywords.proofs.Words.{NotLiteral, step_in, all_of_kind, passing, removed_from, delete_by_shape, delete_lone, is_entry, is_entry_element}
 use Rattle.meson_keywords.specs.declared.value_kinds.ElementKind.TheVariants as element
-use Rattle.meson_calls.specs.declared.refusal.Refusal.TheVariants.{NotLiteral}
-use Rattle.meson_calls.specs.Calls.{literal_of}
-use Rattle.meson_keywords.specs.KeywordEdits.{all_of_kind, passing, removed_from}
-use Rattle.meson_keywords.specs.Options.{delete_by_shape, delete_lone, is_entry, is_entry_element}
-use Rattle.meson_calls.specs.Project.{child}
-use Rattle.meson_steps.specs.Steps.{step_in}
 use Rattle.meson_keywords.proofs.StepsBehind.{behind_is, list_refused, list_taken, lone_refused, lone_taken, none_more, one_more}
 use Rattle.meson_keywords.proofs.option_steps.delete_in_value.Goals as goal
-use Rattle.meson_keywords.proofs.option_steps.delete_in_value.Goals.{in-Some+in_ok-only_literals-in-Some+in_ok-remove_passing-in-Some, in-None+in_ok-is_element-in-None+else-not-branch+in_ok-is_entry-in-None+then-branch+in_ok-push_edit-in-None, in-None+in_ok-is_element-in-None+else-not-branch+in_ok-is_entry-in-None+else-branch}
+use Rattle.meson_keywords.proofs.option_steps.delete_in_value.Goals.{in-Some+in_ok-only_literals-in-Some+in_ok-remove_passing-in-Some}
+use Rattle.meson_keywords.proofs.option_steps.delete_in_value.Goals.{in-None+in_ok-is_element-in-None+else-not-branch+in_ok-is_entry-in-None+then-branch+in_ok-push_edit-in-None}
+use Rattle.meson_keywords.proofs.option_steps.delete_in_value.Goals.{in-None+in_ok-is_element-in-None+else-not-branch+in_ok-is_entry-in-None+else-branch}
 
 pub only_literals-requires : goal.only_literals-requires
 only_literals-requires c = c.in-Some.ensures.good c.args.subject.source.now c.requires

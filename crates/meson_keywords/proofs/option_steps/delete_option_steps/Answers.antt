@@ -1,9 +1,5 @@
-use Rattle.std.proofs.Common.{[], refl, sym, ap, ◌∙◌, subst, rules}
-use Rattle.std.specs.Prelude.{Ok}
-use Rattle.std.proofs.lemmas.Result.{err_from_is_err_and}
-use Rattle.meson_syntax.specs.View.{expr_view}
-use Rattle.meson_keywords.specs.Options.{delete_by_value, delete_option_there, entries, options_key}
-use Rattle.meson_steps.specs.Meanings.{AreBehind}
+use Rattle.meson_keywords.proofs.Words.{[], refl, sym, ap, ◌∙◌, subst, rules, Ok, err_from_is_err_and, expr_view, AreBehind, delete_by_value}
+use Rattle.meson_keywords.proofs.Words.{delete_option_there, entries, options_key}
 use Rattle.meson_keywords.proofs.StepsBehind.{all_meant, behind_is, by_none, by_some, none_more}
 use Rattle.meson_keywords.proofs.option_steps.delete_option_steps.Goals as goal
 use Rattle.meson_keywords.proofs.option_steps.delete_option_steps.Goals.{in-Some+in_ok-delete_by_value, in_default}

@@ -1,7 +1,4 @@
-use Rattle.std.proofs.Common.{◌++◌, map, ap₂, ◌∙◌}
-use Rattle.std.specs.Prelude.{Some}
-use Rattle.meson_keywords.specs.KeywordEdits.{removed_from}
-use Rattle.meson_steps.specs.ListSteps.{bare}
+use Rattle.meson_keywords.proofs.Words.{◌++◌, map, ap₂, ◌∙◌, Some, bare, removed_from}
 use Rattle.meson_keywords.proofs.option_steps.remove_passing.Goals as goal
 
 pub returns : goal.returns

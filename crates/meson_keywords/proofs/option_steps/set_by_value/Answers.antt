@@ -1,14 +1,6 @@
-use Rattle.std.proofs.Common.{length, sym, ap, ap₂, ◌∙◌, subst}
-use Rattle.std.proofs.lemmas.Result.{err_from_is_err_and}
-use Rattle.std.specs.Prelude.{Err, Ok, OnOk}
-use Rattle.std.proofs.lemmas.List.{length-map}
-use Rattle.meson_syntax.specs.View.{arg_view, args_view, expr_view}
-use Rattle.meson_calls.specs.Calls.{literal_of}
-use Rattle.meson_calls.specs.Project.{child}
-use Rattle.meson_calls.specs.Refusals.{RefusedAs}
-use Rattle.meson_steps.specs.Meanings.{AreBehind}
-use Rattle.meson_keywords.specs.KeywordEdits.{passing, value_shape}
-use Rattle.meson_keywords.specs.Options.{has_key, keys_known, set_by_shape, set_by_value, set_in_dictionary}
+use Rattle.meson_keywords.proofs.Words.{length, sym, ap, ap₂, ◌∙◌, subst, Err, Ok, OnOk, length-map, err_from_is_err_and, arg_view, args_view, expr_view}
+use Rattle.meson_keywords.proofs.Words.{literal_of, child, RefusedAs, AreBehind, passing, value_shape, has_key, keys_known, set_by_shape, set_by_value}
+use Rattle.meson_keywords.proofs.Words.{set_in_dictionary}
 use Rattle.meson_keywords.proofs.StepsBehind.{behind_result, list_refused, list_taken}
 use Rattle.meson_keywords.proofs.option_steps.set_by_value.Goals as goal
 

@@ -1,13 +1,6 @@
-use Rattle.std.proofs.Common.{◌++◌, ◌∷◌, [], map, refl, sym, ap, ◌∙◌}
-use Rattle.std.specs.Prelude.{Some}
-use Rattle.meson_syntax.specs.Tree.{Argument, Nowhere}
-use Rattle.meson_edit.specs.Edits.{Wrap, Written}
+use Rattle.meson_keywords.proofs.Words.{◌++◌, ◌∷◌, [], map, refl, sym, ap, ◌∙◌, Some, Argument, Nowhere, Wrap, Written, bare, step_in, behind_all, set_in_lone}
+use Rattle.meson_keywords.proofs.Words.{written_element}
 use Rattle.meson_keywords.specs.declared.value_kinds.ElementKind.TheVariants as element
-use Rattle.meson_keywords.specs.ValueKinds.{written_element}
-use Rattle.meson_keywords.specs.KeywordEdits.{behind_all}
-use Rattle.meson_steps.specs.ListSteps.{bare}
-use Rattle.meson_keywords.specs.Options.{set_in_lone}
-use Rattle.meson_steps.specs.Steps.{step_in}
 use Rattle.meson_keywords.proofs.StepsBehind.{then_more}
 use Rattle.meson_keywords.proofs.option_steps.set_in_lone.Goals as goal
 

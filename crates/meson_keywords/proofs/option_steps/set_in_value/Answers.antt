@@ -1,14 +1,6 @@
-use Rattle.std.proofs.Common.{length, sym, ap, ap₂, ◌∙◌}
-use Rattle.std.proofs.lemmas.Result.{err_from_is_err_and}
-use Rattle.std.specs.Prelude.{Err, Ok}
-use Rattle.meson_syntax.specs.View.{arg_view, args_view, expr_view}
-use Rattle.std.proofs.lemmas.List.{length-map}
+use Rattle.meson_keywords.proofs.Words.{length, sym, ap, ap₂, ◌∙◌, Err, Ok, length-map, err_from_is_err_and, arg_view, args_view, expr_view, literal_of, child}
+use Rattle.meson_keywords.proofs.Words.{NotLiteral, all_of_kind, passing, is_entry, is_entry_element, set_by_shape, set_in_list, set_in_lone}
 use Rattle.meson_keywords.specs.declared.value_kinds.ElementKind.TheVariants as element
-use Rattle.meson_calls.specs.declared.refusal.Refusal.TheVariants.{NotLiteral}
-use Rattle.meson_calls.specs.Calls.{literal_of}
-use Rattle.meson_keywords.specs.KeywordEdits.{all_of_kind, passing}
-use Rattle.meson_keywords.specs.Options.{is_entry, is_entry_element, set_by_shape, set_in_list, set_in_lone}
-use Rattle.meson_calls.specs.Project.{child}
 use Rattle.meson_keywords.proofs.StepsBehind.{behind_result, list_refused, list_taken, lone_refused}
 use Rattle.meson_keywords.proofs.option_steps.set_in_value.Goals as goal
 

@@ -1,16 +1,8 @@
-use Rattle.std.proofs.Common.{◌∷◌, [], length, refl, sym, ap, ◌∙◌, subst}
-use Rattle.std.specs.Prelude.{Ok}
-use Rattle.std.proofs.lemmas.List.{length-map}
-use Rattle.std.proofs.lemmas.Result.{err_from_is_err_and}
-use Rattle.meson_splice.specs.Patch.{then_ok}
-use Rattle.meson_syntax.specs.Tree.{Argument, Nowhere}
-use Rattle.meson_syntax.specs.View.{arg_view, args_view, expr_view}
-use Rattle.meson_edit.specs.Edits.{Written}
+use Rattle.meson_keywords.proofs.Words.{◌∷◌, [], length, refl, sym, ap, ◌∙◌, subst, Ok, length-map, err_from_is_err_and, then_ok, Argument, Nowhere, arg_view}
+use Rattle.meson_keywords.proofs.Words.{args_view, expr_view, Written, AreBehind, behind_all, entries, option_text, options_key, set_by_value, set_option_there}
+use Rattle.meson_keywords.proofs.Words.{written_list, written_named}
 use Rattle.meson_keywords.specs.declared.value_kinds.ElementKind.TheVariants as element
-use Rattle.meson_keywords.specs.ValueKinds.{written_list, written_named}
-use Rattle.meson_keywords.specs.KeywordEdits.{behind_all, the_value}
-use Rattle.meson_keywords.specs.Options.{entries, option_text, options_key, set_by_value, set_option_there}
-use Rattle.meson_steps.specs.Meanings.{AreBehind}
+use Rattle.meson_keywords.specs.KeywordEdits.{the_value}
 use Rattle.meson_keywords.proofs.StepsBehind.{all_meant, behind_is, by_none, by_some}
 use Rattle.meson_keywords.proofs.option_steps.set_option_steps.Goals as goal
 use Rattle.meson_keywords.proofs.option_steps.set_option_steps.Goals.{in-Some+in_ok-set_by_value-in-Some, in-None+in_ok-new-in-None+in_ok-put_behind-in-None}

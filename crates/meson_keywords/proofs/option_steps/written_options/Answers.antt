@@ -1,7 +1,5 @@
-use Rattle.std.proofs.Common.{◌++◌, ◌∷◌, [], ap, ap₂, ◌∙◌}
-use Rattle.std.specs.Prelude.{codes}
+use Rattle.meson_keywords.proofs.Words.{◌++◌, ◌∷◌, [], ap, ap₂, ◌∙◌, codes, written_list}
 use Rattle.meson_keywords.specs.declared.value_kinds.ElementKind.TheVariants as element
-use Rattle.meson_keywords.specs.ValueKinds.{written_list}
 use Rattle.meson_keywords.proofs.option_steps.written_options.Goals as goal
 
 pub returns-clause-done : goal.returns-clause-done

@@ -1,6 +1,4 @@
-use Rattle.std.proofs.Common.{◌≡◌, ◌++◌, drop, take}
-use Rattle.std.specs.Prelude.{option_map}
-use Rattle.meson_keywords.specs.Tasks.{before_equals}
+use Rattle.meson_keywords.proofs.Words.{◌≡◌, ◌++◌, drop, take, option_map, before_equals}
 use Rattle.meson_keywords.proofs.tasks.before_equals.Given as goal
 
 abbrev pub invariant-loop-i : goal.invariant-loop-i

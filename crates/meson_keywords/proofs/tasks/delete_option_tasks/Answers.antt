@@ -1,9 +1,6 @@
 -- Each option becomes one task.
-use Rattle.std.proofs.Common.{◌+◌, drop, refl, sym, ap, ◌∙◌, subst}
-use Rattle.std.proofs.lemmas.Result.{err_from_is_err_and}
+use Rattle.meson_keywords.proofs.Words.{◌+◌, drop, refl, sym, ap, ◌∙◌, subst, err_from_is_err_and, each_made, delete_option_entry, TasksSoFar}
 use Rattle.meson_keywords.proofs.TasksSoFar.{none_so_far, not_made, one_is, one_made, delete_no_option, delete_option_made}
-use Rattle.meson_keywords.specs.Tasks.{each_made, delete_option_entry}
-use Rattle.meson_keywords.specs.inside.Making.{TasksSoFar}
 use Rattle.meson_keywords.proofs.tasks.delete_option_tasks.Goals as goal
 
 pub loop-i-init : goal.loop-i-init

@@ -1,10 +1,6 @@
 -- One entry: the key once, and then a task for each value.
-use Rattle.std.proofs.Common.{◌≡◌, ◌<◌, ◌≤◌, ◌∷◌, List, ℕ, length, get_or, map, refl, sym, ap, ◌∙◌, subst, arith}
-use Rattle.std.specs.Prelude.{Ok}
-use Rattle.std.proofs.lemmas.List.{get_or-map, length-map, take_all}
-use Rattle.std.proofs.lemmas.Result.{err_from_is_err_and}
-use Rattle.meson_keywords.specs.Tasks.{once, remove}
-use Rattle.meson_keywords.specs.inside.Tasking.{AreTasksBehind}
+use Rattle.meson_keywords.proofs.Words.{◌≡◌, ◌<◌, ◌≤◌, ◌∷◌, List, ℕ, length, get_or, map, refl, sym, ap, ◌∙◌, subst, arith, Ok, get_or-map, length-map}
+use Rattle.meson_keywords.proofs.Words.{take_all, err_from_is_err_and, once, remove, AreTasksBehind}
 use Rattle.meson_keywords.proofs.TasksSoFar.{behind_one, behind_more, more_removed, remove_made, remove_no_list, remove_no_values}
 use Rattle.meson_keywords.proofs.tasks.remove_one.Goals as goal
 

@@ -1,7 +1,4 @@
-use Rattle.std.proofs.Common.{◌∷◌, map}
-use Rattle.std.specs.Prelude.{Ok, take}
-use Rattle.meson_keywords.specs.Tasks.{once, remove}
-use Rattle.meson_keywords.specs.inside.Tasking.{AreTasksBehind}
+use Rattle.meson_keywords.proofs.Words.{◌∷◌, map, Ok, take, once, remove, AreTasksBehind}
 use Rattle.meson_keywords.proofs.tasks.remove_one.Given as goal
 
 abbrev pub invariant-loop-i : goal.invariant-loop-i

@@ -1,8 +1,5 @@
 -- Each entry is taken apart into tasks, one entry after another.
-use Rattle.std.proofs.Common.{◌+◌, drop, sym, ap, ◌∙◌, subst}
-use Rattle.std.proofs.lemmas.Result.{err_from_is_err_and}
-use Rattle.meson_keywords.specs.Tasks.{each_made, remove_entry}
-use Rattle.meson_keywords.specs.inside.Making.{TasksSoFar}
+use Rattle.meson_keywords.proofs.Words.{◌+◌, drop, sym, ap, ◌∙◌, subst, err_from_is_err_and, each_made, remove_entry, TasksSoFar}
 use Rattle.meson_keywords.proofs.TasksSoFar.{none_so_far, not_made, one_made}
 use Rattle.meson_keywords.proofs.tasks.remove_tasks.Goals as goal
 

@@ -1,10 +1,6 @@
 -- Each option and its value become one task.
-use Rattle.std.proofs.Common.{◌+◌, drop, sym, ap, ◌∙◌, subst}
-use Rattle.std.specs.Str.{IsUtf8}
-use Rattle.std.proofs.lemmas.Result.{err_from_is_err_and}
+use Rattle.meson_keywords.proofs.Words.{◌+◌, drop, sym, ap, ◌∙◌, subst, IsUtf8, err_from_is_err_and, each_made, set_option, set_option_entry, TasksSoFar}
 use Rattle.meson_keywords.proofs.TasksSoFar.{none_so_far, not_made, one_is, one_made, set_no_option, set_option_made}
-use Rattle.meson_keywords.specs.Tasks.{each_made, set_option, set_option_entry}
-use Rattle.meson_keywords.specs.inside.Making.{TasksSoFar}
 use Rattle.meson_keywords.proofs.tasks.set_option_tasks.Goals as goal
 
 pub loop-i-init : goal.loop-i-init

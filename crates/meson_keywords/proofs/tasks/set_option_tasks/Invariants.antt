@@ -1,6 +1,4 @@
-use Rattle.std.proofs.Common.{drop}
-use Rattle.meson_keywords.specs.Tasks.{each_made, set_option_entry}
-use Rattle.meson_keywords.specs.inside.Making.{TasksSoFar}
+use Rattle.meson_keywords.proofs.Words.{drop, each_made, set_option_entry, TasksSoFar}
 use Rattle.meson_keywords.proofs.tasks.set_option_tasks.Given as goal
 
 abbrev pub invariant-loop-i : goal.invariant-loop-i

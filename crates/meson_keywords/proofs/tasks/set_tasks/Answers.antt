@@ -1,9 +1,6 @@
 -- Each key and its new value become one task.
-use Rattle.std.proofs.Common.{◌+◌, drop, refl, sym, ap, ◌∙◌, subst}
-use Rattle.std.proofs.lemmas.Result.{err_from_is_err_and}
+use Rattle.meson_keywords.proofs.Words.{◌+◌, drop, refl, sym, ap, ◌∙◌, subst, err_from_is_err_and, each_made, set_entry, TasksSoFar}
 use Rattle.meson_keywords.proofs.TasksSoFar.{none_so_far, not_made, one_is, one_made, set_made, set_no_kind, set_no_value, value_may}
-use Rattle.meson_keywords.specs.Tasks.{each_made, set_entry}
-use Rattle.meson_keywords.specs.inside.Making.{TasksSoFar}
 use Rattle.meson_keywords.proofs.tasks.set_tasks.Goals as goal
 
 pub returns-in_err-kind-clause-refused : goal.returns-in_err-kind-clause-refused

@@ -1,11 +1,7 @@
 -- The test of all texts.
-use Rattle.std.proofs.Common.{◌≡◌, ◌<◌, ◌≤◌, List, ℕ, length, get_or, map, refl, sym, ap, ◌∙◌, subst, arith}
-use Rattle.std.specs.Prelude.{All}
-use Rattle.std.specs.Str.{IsUtf8}
-use Rattle.std.proofs.lemmas.List.{get_or-map, length-map, take_all}
-use Rattle.std.proofs.lemmas.List.Elements.{All-nil}
+use Rattle.meson_keywords.proofs.Words.{◌≡◌, ◌<◌, ◌≤◌, List, ℕ, length, get_or, map, refl, sym, ap, ◌∙◌, subst, arith, All, IsUtf8, get_or-map, length-map}
+use Rattle.meson_keywords.proofs.Words.{take_all, All-nil, all_more}
 use Rattle.meson_keywords.proofs.ElementTests.{all_known, next_known, one_unfit}
-use Rattle.meson_calls.proofs.Loads.{all_more}
 use Rattle.meson_keywords.proofs.WrittenElements.{elements_are}
 use Rattle.meson_keywords.proofs.value_kinds.are_elements.Goals as goal
 

@@ -1,7 +1,5 @@
 -- What is known of the texts so far: they are UTF-8, and the answer is that of the rest.
-use Rattle.std.specs.Prelude.{◌≡◌, All, drop, map, take}
-use Rattle.std.specs.Str.{IsUtf8}
-use Rattle.meson_keywords.specs.ValueKinds.{are_elements}
+use Rattle.meson_keywords.proofs.Words.{◌≡◌, All, drop, map, take, IsUtf8, are_elements}
 use Rattle.meson_keywords.proofs.value_kinds.are_elements.Given as goal
 
 abbrev pub invariant-loop-i : goal.invariant-loop-i

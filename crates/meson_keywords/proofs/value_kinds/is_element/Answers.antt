@@ -1,8 +1,7 @@
 -- The test of one text.
-use Rattle.std.proofs.Common.{ap, ◌∙◌}
-use Rattle.meson_keywords.specs.ValueKinds.{is_identifier}
+use Rattle.meson_keywords.proofs.Words.{ap, ◌∙◌, is_identifier}
 use Rattle.meson_keywords.proofs.ElementTests.{lone_identifier}
-use Rattle.meson_keywords.proofs.IdentifierTexts.{identifier_is}
+use Rattle.meson_steps.proofs.Identifiers.{identifier_is}
 use Rattle.meson_keywords.proofs.value_kinds.is_element.Goals as goal
 
 pub returns-in-Identifier-clause-known : goal.returns-in-Identifier-clause-known

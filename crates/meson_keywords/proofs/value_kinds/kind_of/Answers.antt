@@ -1,6 +1,5 @@
 -- A key of a kind is an identifier of the tables.
-use Rattle.std.proofs.Common.{sym, ◌∙◌, subst}
-use Rattle.meson_keywords.specs.Tasking.{IsKey}
+use Rattle.meson_keywords.proofs.Words.{sym, ◌∙◌, subst, IsKey}
 use Rattle.meson_keywords.proofs.KeyNames.{identifier_list_key, switch_key, text_key, text_list_key}
 use Rattle.meson_keywords.proofs.value_kinds.kind_of.Goals as goal
 

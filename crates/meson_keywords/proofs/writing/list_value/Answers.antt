@@ -1,10 +1,5 @@
 -- A list that is set is that of its texts.
-use Rattle.std.proofs.Common.{◌≡◌, ◌++◌, ◌∷◌, [], List, ℕ, map, sym, subst}
-use Rattle.std.specs.Prelude.{IfOk, Ok}
-use Rattle.meson_splice.specs.Patch.{then_ok}
-use Rattle.meson_keywords.specs.ValueKinds.{element_bytes, written_list}
-use Rattle.meson_steps.specs.inside.WrittenValues.{IsSet}
-use Rattle.meson_steps.specs.WrittenTexts.{comma_between}
+use Rattle.meson_keywords.proofs.Words.{◌≡◌, ◌++◌, ◌∷◌, [], List, ℕ, map, sym, subst, IfOk, Ok, then_ok, comma_between, IsSet, element_bytes, written_list}
 use Rattle.meson_keywords.proofs.WrittenElements.{list_set}
 use Rattle.meson_keywords.proofs.writing.list_value.Goals as goal
 

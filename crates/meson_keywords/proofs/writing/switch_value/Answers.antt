@@ -1,8 +1,4 @@
-use Rattle.std.proofs.Common.{subst}
-use Rattle.std.specs.Prelude.{ok_or, option_map}
-use Rattle.meson_calls.specs.declared.refusal.Refusal.TheVariants.{WrongKind}
-use Rattle.meson_keywords.specs.ValueKinds.{written_switch}
-use Rattle.meson_steps.specs.inside.WrittenValues.{IsSet}
+use Rattle.meson_keywords.proofs.Words.{subst, ok_or, option_map, WrongKind, IsSet, written_switch}
 use Rattle.meson_keywords.proofs.WrittenElements.{switch_is}
 use Rattle.meson_keywords.proofs.writing.switch_value.Goals as goal
 

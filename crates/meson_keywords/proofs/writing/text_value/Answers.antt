@@ -1,8 +1,5 @@
-use Rattle.std.proofs.Common.{sym, subst}
-use Rattle.std.specs.Prelude.{IfOk}
+use Rattle.meson_keywords.proofs.Words.{sym, subst, IfOk, IsSet, written_value}
 use Rattle.meson_keywords.specs.declared.value_kinds.ValueKind.TheVariants as value
-use Rattle.meson_keywords.specs.ValueKinds.{written_value}
-use Rattle.meson_steps.specs.inside.WrittenValues.{IsSet}
 use Rattle.meson_steps.proofs.SetLiterals.{text_set}
 use Rattle.meson_keywords.proofs.writing.text_value.Goals as goal
 

@@ -1,4 +1,4 @@
-use Rattle.std.proofs.Common.{◌≡◌, map, take}
+use Rattle.meson_keywords.proofs.Words.{◌≡◌, map, take}
 use Rattle.meson_keywords.proofs.writing.texts_of.Given as goal
 
 abbrev pub invariant-loop-i : goal.invariant-loop-i

@@ -1,10 +1,6 @@
-use Rattle.std.proofs.Common.{◌≡◌, ◌<◌, ◌≤◌, ◌++◌, List, ℕ, length, get_or, map, sym, ap, ◌∙◌, subst, arith}
-use Rattle.std.specs.Prelude.{All}
-use Rattle.std.specs.Str.{IsUtf8}
-use Rattle.std.proofs.lemmas.List.{get_or-map, length-map, take_all}
-use Rattle.meson_keywords.specs.ValueKinds.{element_bytes}
-use Rattle.meson_calls.proofs.Loads.{all_more}
-use Rattle.meson_keywords.proofs.WrittenElements.{first_behind, next_behind}
+use Rattle.meson_keywords.proofs.Words.{◌≡◌, ◌<◌, ◌≤◌, ◌++◌, List, ℕ, length, get_or, map, sym, ap, ◌∙◌, subst, arith, All, IsUtf8, get_or-map, length-map}
+use Rattle.meson_keywords.proofs.Words.{take_all, all_more, element_bytes}
+use Rattle.meson_steps.proofs.Between.{first_behind, next_behind}
 use Rattle.meson_keywords.proofs.writing.written_list.Goals as goal
 use Rattle.meson_keywords.proofs.writing.written_list.Goals.{then-i-gt0+in_ok-extend_from_slice-2, else-i-gt0}
 

@@ -1,7 +1,4 @@
-use Rattle.std.specs.Prelude.{◌≡◌, ◌∷◌, All, map, take}
-use Rattle.std.specs.Str.{IsUtf8}
-use Rattle.meson_keywords.specs.ValueKinds.{element_bytes}
-use Rattle.meson_steps.specs.WrittenTexts.{comma_between}
+use Rattle.meson_keywords.proofs.Words.{◌≡◌, ◌∷◌, All, map, take, IsUtf8, comma_between, element_bytes}
 use Rattle.meson_keywords.proofs.writing.written_list.Given as goal
 
 abbrev pub invariant-loop-i : goal.invariant-loop-i

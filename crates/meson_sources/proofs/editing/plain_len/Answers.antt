@@ -1,6 +1,6 @@
 use Rattle.meson_sources.proofs.editing.plain_len.Goals as goal
 use Rattle.meson_calls.proofs.Loads.{as_many}
-use Rattle.meson_sources.proofs.Words.{filter, option_map, ap, length, ◌∙◌, Span, bytes_at, list_at, ListAt, args_view, view, is_plain}
+use Rattle.meson_sources.proofs.Words.{filter, option_map, ap, length, ◌∙◌, bytes_at, Span, list_at, ListAt, args_view, view, is_plain}
 use Rattle.meson_sources.proofs.added.Counts.{no_plains, plains_nowhere, plains_there}
 
 pub returns-then-list-trees-clause-counted : goal.returns-then-list-trees-clause-counted

@@ -1,5 +1,7 @@
 use Rattle.meson_sources.proofs.editing.sources_added.Goals as goal
-use Rattle.meson_sources.proofs.Words.{Err, Ok, ap, IsUtf8, length, map, refl, subst, sym, ◌<◌, ◌∙◌, ◌≡◌, ◌≤◌, err_from_is_err_and, value_with_name, kept_args, DuplicateKeyword, project_of, all_gathered, max_followed, gathered, or_call, or_option, bare, checked_names, insertion_steps, plain_len, new_among}
+use Rattle.meson_sources.proofs.Words.{Err, Ok, ap, IsUtf8, length, map, refl, subst, sym, ◌<◌, ◌∙◌, ◌≡◌, ◌≤◌, err_from_is_err_and, value_with_name, kept_args}
+use Rattle.meson_sources.proofs.Words.{DuplicateKeyword, project_of, all_gathered, max_followed, gathered, or_call, or_option, bare, checked_names}
+use Rattle.meson_sources.proofs.Words.{insertion_steps, plain_len, new_among}
 use Rattle.meson_sources.proofs.KeyTexts.{sources_text}
 use Rattle.meson_sources.proofs.commands.Meant.{added, added_twice}
 

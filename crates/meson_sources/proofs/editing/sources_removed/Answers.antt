@@ -1,5 +1,6 @@
 use Rattle.meson_sources.proofs.editing.sources_removed.Goals as goal
-use Rattle.meson_sources.proofs.Words.{Err, Ok, [], ap, IsUtf8, length, subst, sym, ◌<◌, ◌∙◌, ◌≡◌, ◌≤◌, err_from_is_err_and, value_with_name, kept_args, DuplicateKeyword, project_of, all_gathered, max_followed, gathered, checked_names}
+use Rattle.meson_sources.proofs.Words.{Err, Ok, [], ap, IsUtf8, length, subst, sym, ◌<◌, ◌∙◌, ◌≡◌, ◌≤◌, err_from_is_err_and, value_with_name, kept_args}
+use Rattle.meson_sources.proofs.Words.{DuplicateKeyword, project_of, all_gathered, max_followed, gathered, checked_names}
 use Rattle.meson_sources.proofs.KeyTexts.{sources_text}
 use Rattle.meson_sources.proofs.commands.Meant.{as_many_numbers, ms, fields, removed_twice, gone, not_gone}
 

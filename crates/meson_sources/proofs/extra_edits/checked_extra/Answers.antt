@@ -1,5 +1,6 @@
 use Rattle.meson_sources.proofs.extra_edits.checked_extra.Goals as goal
-use Rattle.meson_sources.proofs.Words.{Err, Ok, ap, IsUtf8, length, subst, sym, ◌<◌, ◌∙◌, ◌≡◌, ◌≤◌, err_from_is_err_and, value_with_name, kept_args, kwargs_key, DuplicateKeyword, project_of, checked_names}
+use Rattle.meson_sources.proofs.Words.{Err, Ok, ap, IsUtf8, length, subst, sym, ◌<◌, ◌∙◌, ◌≡◌, ◌≤◌, err_from_is_err_and, value_with_name, kept_args, kwargs_key}
+use Rattle.meson_sources.proofs.Words.{DuplicateKeyword, project_of, checked_names}
 use Rattle.meson_sources.proofs.KeyTexts.{extra_text}
 use Rattle.meson_sources.proofs.commands.Meant.{extra_once, extra_twice}
 

@@ -1,5 +1,6 @@
 use Rattle.meson_sources.proofs.extra_edits.extra_added.Goals as goal
-use Rattle.meson_sources.proofs.Words.{ap, length, map, refl, subst, sym, ◌∙◌, err_from_is_err_and, value_with_name, kept_args, project_of, gathered, or_option, bare, AreBehind, extra_key, insertion_steps, plain_len, new_among, lone_or_new}
+use Rattle.meson_sources.proofs.Words.{ap, length, map, refl, subst, sym, ◌∙◌, err_from_is_err_and, value_with_name, kept_args, project_of, gathered, or_option}
+use Rattle.meson_sources.proofs.Words.{bare, AreBehind, extra_key, insertion_steps, plain_len, new_among, lone_or_new}
 use Rattle.meson_sources.proofs.commands.Meant.{added_unchecked, home_meant, call_meant, call_refused}
 
 pub returns-in_err-marks-clause-refused : goal.returns-in_err-marks-clause-refused

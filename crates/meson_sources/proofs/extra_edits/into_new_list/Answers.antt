@@ -1,6 +1,8 @@
 use Rattle.meson_steps.specs.declared.step.ListEdit.TheVariants as code
 use Rattle.meson_sources.proofs.extra_edits.into_new_list.Goals as goal
-use Rattle.meson_sources.proofs.Words.{OnOk, [], ap, append_assoc, arith, drop, length, map, Option, Some, subst, sym, take, ◌++◌, ◌-◌, ◌∙◌, ◌∷◌, ◌≡◌, drop-cons, length-drop, map-append, take_all, After, bare, step_in, ListStep, insertion_steps, written_keyword, new_list_steps}
+use Rattle.meson_sources.proofs.Words.{OnOk, [], ap, append_assoc, arith, drop, length, map, Option, Some, subst, sym, take, ◌++◌, ◌-◌, ◌∙◌, ◌∷◌, ◌≡◌}
+use Rattle.meson_sources.proofs.Words.{drop-cons, length-drop, map-append, take_all, After, bare, step_in, ListStep, insertion_steps, written_keyword}
+use Rattle.meson_sources.proofs.Words.{new_list_steps}
 
 pub returns-clause-done : goal.returns-clause-done
 returns-clause-done c =

@@ -1,6 +1,7 @@
 -- The extra files of a call are those that its marks tell of, where the keyword is there once.
 use Rattle.meson_sources.proofs.extra_files.extra_files_of.Goals as goal
-use Rattle.meson_sources.proofs.Words.{Err, Ok, ap, IsUtf8, length, rules, subst, sym, ◌<◌, ◌∙◌, ◌≤◌, err_from_is_err_and, value_with_name, kept_args, DuplicateKeyword, project_of, max_followed, gathered, or_call, or_option, extra_gathered}
+use Rattle.meson_sources.proofs.Words.{Err, Ok, ap, IsUtf8, length, rules, subst, sym, ◌<◌, ◌∙◌, ◌≤◌, err_from_is_err_and, value_with_name, kept_args}
+use Rattle.meson_sources.proofs.Words.{DuplicateKeyword, project_of, max_followed, gathered, or_call, or_option, extra_gathered}
 use Rattle.meson_sources.proofs.KeyTexts.{extra_text}
 use Rattle.meson_sources.proofs.commands.Meant.{told_once, told_twice}
 

@@ -1,6 +1,7 @@
 use Rattle.meson_sources.proofs.removing.find_spots.Goals as goal
 use Rattle.std.proofs.lemmas.Grind.{common_steps}
-use Rattle.meson_sources.proofs.Words.{bytes_eq, option_map, ◌||◌, [], ap, arith, drop, get_or, length, map, None, sym, ◌+◌, ◌<◌, ◌∙◌, ◌∷◌, map-append, SourceItem, all_there, before_all, is_some_there, spot_if_there, spot_view, spots_at}
+use Rattle.meson_sources.proofs.Words.{bytes_eq, option_map, ◌||◌, [], ap, arith, drop, get_or, length, map, None, sym, ◌+◌, ◌<◌, ◌∙◌, ◌∷◌, map-append}
+use Rattle.meson_sources.proofs.Words.{SourceItem, all_there, before_all, is_some_there, spot_if_there, spot_view, spots_at}
 use Rattle.meson_sources.proofs.commands.Removals.{spot_here, no_spot_here, one_before, some_spot}
 use Rattle.meson_sources.proofs.removing.find_spots.Goals.{then-eq+in_ok-spot+in-Some+in_ok-push_spot, else-eq}
 

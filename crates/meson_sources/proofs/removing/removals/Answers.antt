@@ -1,6 +1,7 @@
 use Rattle.meson_steps.specs.declared.step.ListEdit.TheVariants as code
 use Rattle.meson_sources.proofs.removing.removals.Goals as goal
-use Rattle.meson_sources.proofs.Words.{[], ap, append_assoc, get_or, map, Some, sym, take, ◌++◌, ◌+◌, ◌∙◌, ◌∷◌, ◌≡◌, map-append, place, bare, ListStep, removal, spot_without, spot_view}
+use Rattle.meson_sources.proofs.Words.{[], ap, append_assoc, get_or, map, Some, sym, take, ◌++◌, ◌+◌, ◌∙◌, ◌∷◌, ◌≡◌, map-append, place, bare, ListStep, removal}
+use Rattle.meson_sources.proofs.Words.{spot_without, spot_view}
 use Rattle.meson_sources.proofs.commands.Removals.{one_step, steps_from}
 
 pub loop-i-preserved : goal.loop-i-preserved

@@ -1,6 +1,7 @@
 use Rattle.meson_sources.proofs.removing.spots_of.Goals as goal
 use Rattle.std.proofs.lemmas.Grind.{common_steps}
-use Rattle.meson_sources.proofs.Words.{add-one, ap, arith, drop, get_or, length, map, rules, sym, true, ◌+◌, ◌∙◌, ◌∷◌, ◌≡◌, drop-cons, joined_spots, spot_view, spots_at, spots_of_names}
+use Rattle.meson_sources.proofs.Words.{add-one, ap, arith, drop, get_or, length, map, rules, sym, true, ◌+◌, ◌∙◌, ◌∷◌, ◌≡◌, drop-cons, joined_spots, spot_view}
+use Rattle.meson_sources.proofs.Words.{spots_at, spots_of_names}
 use Rattle.meson_sources.proofs.commands.Removals.{next_name}
 
 pub loop-i-preserved : goal.loop-i-preserved

@@ -2,7 +2,8 @@ use Rattle.meson_calls.specs.declared.call.Role.TheVariants as role
 use Rattle.meson_sources.specs.declared.targeting.TargetChange.TheVariants as change
 use Rattle.meson_sources.proofs.targeting.target_steps.Goals as goal
 use Rattle.meson_calls.proofs.NotedCalls.{call_file, call_in, none_noted, noted_good}
-use Rattle.meson_sources.proofs.Words.{Err, IfErr, IfOk, ap, subst, sym, ◌∙◌, ◌≡◌, ◌≢◌, err_from_is_err_and, then_ok, project_in, OutOfMemory, AreMeant, change_steps, target_steps}
+use Rattle.meson_sources.proofs.Words.{Err, IfErr, IfOk, ap, subst, sym, ◌∙◌, ◌≡◌, ◌≢◌, err_from_is_err_and, then_ok, project_in, OutOfMemory, AreMeant}
+use Rattle.meson_sources.proofs.Words.{change_steps, target_steps}
 use Rattle.meson_sources.proofs.commands.Targets.{arguments_good, as_many_there, function, steps_are}
 
 pub the_call-requires : goal.the_call-requires

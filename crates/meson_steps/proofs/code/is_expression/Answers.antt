@@ -1,11 +1,7 @@
-use Rattle.std.proofs.Common.{◌≡◌, ◌∷◌, ◌++◌, [], false, sym, ap, ◌∙◌, subst}
+use Rattle.meson_steps.proofs.Words.{◌≡◌, ◌∷◌, ◌++◌, [], false, sym, ap, ◌∙◌, subst, IsItemList, ReadsListWithin, plain, no_arguments, argument, listing}
+use Rattle.meson_steps.proofs.Words.{erase_listing, list_view, is_bare, is_lone}
 use Rattle.std.proofs.lemmas.Result.{IfOk-weaker}
-use Rattle.meson_lex.specs.Items.{IsItemList}
 use Rattle.meson_syntax.specs.declared.operator.Bracket.TheVariants as bracket
-use Rattle.meson_syntax.specs.ReadsList.{ReadsListWithin}
-use Rattle.meson_syntax.specs.Tree.{plain, no_arguments, argument, listing, erase_listing}
-use Rattle.meson_syntax.specs.View.{list_view}
-use Rattle.meson_steps.specs.inside.Bare.{is_bare, is_lone}
 use Rattle.meson_steps.proofs.Bracketed.{bare, complete, lone_erased, sound}
 use Rattle.meson_steps.proofs.code.is_expression.Goals as goal
 

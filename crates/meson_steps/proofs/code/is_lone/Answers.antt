@@ -1,10 +1,4 @@
-use Rattle.std.proofs.Common.{◌≡◌, true, false, sym, ap, ◌∙◌}
-use Rattle.std.specs.Prelude.{◌&&◌, not}
-use Rattle.meson_syntax.specs.View.{args_view, list_view}
-use Rattle.meson_edit.specs.Edits.{elements}
-use Rattle.meson_edit.proofs.lists.CodeElements.{list_elements}
-use Rattle.meson_calls.proofs.Listed.{list_is}
-use Rattle.meson_steps.specs.inside.Bare.{has_trailing, one_plain}
+use Rattle.meson_steps.proofs.Words.{◌≡◌, true, false, sym, ap, ◌∙◌, ◌&&◌, not, args_view, list_view, elements, list_elements, list_is, has_trailing, one_plain}
 use Rattle.meson_steps.proofs.code.is_lone.Goals as goal
 
 pub returns-then-one_plain : goal.returns-then-one_plain

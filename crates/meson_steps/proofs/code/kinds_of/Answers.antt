@@ -1,5 +1,4 @@
-use Rattle.std.proofs.Common.{◌++◌, sym, ap, ◌∙◌}
-use Rattle.std.proofs.lemmas.List.{append-nil}
+use Rattle.meson_steps.proofs.Words.{◌++◌, sym, ap, ◌∙◌, append-nil}
 use Rattle.meson_steps.proofs.ReadKinds.{given_kinds, kinds_read}
 use Rattle.meson_steps.proofs.code.kinds_of.Goals as goal
 

@@ -1,4 +1,4 @@
-use Rattle.std.proofs.Common.{◌≡◌, ◌++◌}
+use Rattle.meson_steps.proofs.Words.{◌≡◌, ◌++◌}
 use Rattle.meson_steps.proofs.ReadKinds.{given_kinds}
 use Rattle.meson_steps.proofs.code.kinds_of.Given as goal
 

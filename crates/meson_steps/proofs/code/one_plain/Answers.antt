@@ -1,6 +1,4 @@
-use Rattle.std.proofs.Common.{sym, ap, ◌∙◌}
-use Rattle.meson_syntax.specs.View.{arg_view}
-use Rattle.meson_steps.specs.inside.Bare.{is_plain}
+use Rattle.meson_steps.proofs.Words.{sym, ap, ◌∙◌, arg_view, is_plain}
 use Rattle.meson_steps.proofs.OneElement.{the_one}
 use Rattle.meson_steps.proofs.code.one_plain.Goals as goal
 

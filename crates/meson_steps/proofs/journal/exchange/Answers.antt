@@ -1,7 +1,5 @@
-use Rattle.std.proofs.Common.{◌≡◌, ◌∙◌, ◌∷◌, ◌++◌, [], ap, get_or, subst, sym}
-use Rattle.std.specs.Prelude.{slice_set}
+use Rattle.meson_steps.proofs.Words.{◌≡◌, ◌∙◌, ◌∷◌, ◌++◌, [], ap, get_or, subst, sym, slice_set, PutsBack}
 use Rattle.meson_steps.specs.declared.journal.Saved.TheVariants as saved
-use Rattle.meson_steps.specs.Journal.{PutsBack}
 use Rattle.meson_steps.proofs.Restoring.{put_tree, puts_back_more}
 use Rattle.meson_steps.proofs.journal.exchange.Goals as goal
 

@@ -1,15 +1,7 @@
-use Rattle.std.proofs.Common.{◌≡◌, ◌∙◌, ◌+◌, ◌∷◌, ◌++◌, [], List, ap, arith, get_or, length, subst, sym, ℕ}
-use Rattle.std.specs.Prelude.{Some, slice_set}
-use Rattle.meson_lex.specs.declared.kinds.Span.{Span}
+use Rattle.meson_steps.proofs.Words.{◌≡◌, ◌∙◌, ◌+◌, ◌∷◌, ◌++◌, [], List, ap, arith, get_or, length, subst, sym, ℕ, Some, slice_set, Span, list_exchanged}
+use Rattle.meson_steps.proofs.Words.{moved_parsed, moved, ListAt, list_at, list_view, view, MayPut, MayShift, PutsBack, changed_tree, settled_tree}
 use Rattle.meson_syntax.specs.declared.tree.List as rust
-use Rattle.meson_syntax.specs.ListPut.{list_exchanged}
-use Rattle.meson_syntax.specs.MovedCode.{moved_parsed}
-use Rattle.meson_syntax.specs.Moving.{moved}
-use Rattle.meson_syntax.specs.Paths.{ListAt, list_at}
-use Rattle.meson_syntax.specs.View.{list_view, view}
 use Rattle.meson_steps.specs.declared.journal.Saved.TheVariants as saved
-use Rattle.meson_steps.specs.Journal.{MayPut, MayShift, PutsBack, changed_tree}
-use Rattle.meson_steps.specs.inside.Journal.{settled_tree}
 use Rattle.meson_steps.proofs.ListFollowed.{followed_back}
 use Rattle.meson_steps.proofs.ListTaken.{goes_back, kept, may_go_back, may_shift, settled_is, unmoved}
 use Rattle.meson_steps.proofs.Restoring.{changed_back, changed_is, changed_there, may_pop, puts_back_more, puts_back_other}

@@ -1,5 +1,4 @@
-use Rattle.std.proofs.Common.{◌∙◌, ap, subst, sym}
-use Rattle.meson_steps.specs.Journal.{MayPutBack, put_back}
+use Rattle.meson_steps.proofs.Words.{◌∙◌, ap, subst, sym, MayPutBack, put_back}
 use Rattle.meson_steps.proofs.Restoring.{may_pop, put_back_push}
 use Rattle.meson_steps.proofs.journal.put_back.Goals as goal
 

@@ -1,5 +1,4 @@
-use Rattle.std.proofs.Common.{◌≡◌, length}
-use Rattle.meson_steps.specs.Journal.{MayPutBack, put_back}
+use Rattle.meson_steps.proofs.Words.{◌≡◌, length, MayPutBack, put_back}
 use Rattle.meson_steps.proofs.journal.put_back.Given as goal
 
 abbrev pub invariant-loop-last : goal.invariant-loop-last

@@ -1,6 +1,4 @@
-use Rattle.std.proofs.Common.{◌∙◌, ap}
-use Rattle.meson_syntax.specs.Paths.{list_at}
-use Rattle.meson_syntax.specs.View.{view}
+use Rattle.meson_steps.proofs.Words.{◌∙◌, ap, list_at, view}
 use Rattle.meson_steps.proofs.journal.put_in.Goals as goal
 
 pub returns-clause-gives : goal.returns-clause-gives

@@ -1,8 +1,4 @@
-use Rattle.std.proofs.Common.{◌∙◌, ◌≤◌, ap, length, sym, arith}
-use Rattle.std.specs.Prelude.{slice_set}
-use Rattle.meson_syntax.specs.declared.tree.Parsed.{Parsed}
-use Rattle.meson_syntax.specs.ListPut.{list_exchanged}
-use Rattle.meson_steps.specs.Journal.{put_one}
+use Rattle.meson_steps.proofs.Words.{◌∙◌, ◌≤◌, ap, length, sym, arith, slice_set, list_exchanged, Parsed, put_one}
 use Rattle.meson_steps.proofs.Restoring.{changed_is, changed_past}
 use Rattle.meson_steps.proofs.journal.put_one.Goals as goal
 

@@ -1,8 +1,5 @@
-use Rattle.std.proofs.Common.{◌∙◌, ap, sym}
-use Rattle.std.specs.Prelude.{option_map}
+use Rattle.meson_steps.proofs.Words.{◌∙◌, ap, sym, option_map, view, placed_edit}
 use Rattle.meson_layout.specs.declared.primitive.Primitive.TheVariants as layout
-use Rattle.meson_syntax.specs.View.{view}
-use Rattle.meson_steps.specs.inside.Working.{placed_edit}
 use Rattle.meson_steps.proofs.layouts.block_primitive.Goals as goal
 
 pub returns-in-Some : goal.returns-in-Some

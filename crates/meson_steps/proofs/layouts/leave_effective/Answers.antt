@@ -1,4 +1,4 @@
-use Rattle.std.proofs.Common.{rules}
+use Rattle.meson_steps.proofs.Words.{rules}
 use Rattle.std.proofs.lemmas.Fn.{filter_same}
 use Rattle.meson_steps.proofs.layouts.leave_effective.Goals as goal
 

@@ -1,8 +1,5 @@
-use Rattle.std.proofs.Common.{◌∙◌, ap, sym}
-use Rattle.std.specs.Prelude.{option_map}
+use Rattle.meson_steps.proofs.Words.{◌∙◌, ap, sym, option_map, list_view, placed_in}
 use Rattle.meson_layout.specs.declared.primitive.Primitive.TheVariants as layout
-use Rattle.meson_syntax.specs.View.{list_view}
-use Rattle.meson_steps.specs.inside.Working.{placed_in}
 use Rattle.meson_steps.proofs.layouts.list_primitive.Goals as goal
 
 pub returns-in-Some : goal.returns-in-Some

@@ -1,6 +1,4 @@
-use Rattle.std.specs.Prelude.{None, Some}
-use Rattle.meson_syntax.specs.Paths.{list_at}
-use Rattle.meson_syntax.specs.View.{view}
+use Rattle.meson_steps.proofs.Words.{None, Some, list_at, view}
 use Rattle.meson_steps.proofs.ListSpots.{looked_spot}
 use Rattle.meson_steps.proofs.layouts.looked_at.Goals as goal
 

@@ -1,5 +1,4 @@
-use Rattle.std.proofs.Common.{◌∙◌, sym}
-use Rattle.meson_syntax.specs.View.{list_view, view}
+use Rattle.meson_steps.proofs.Words.{◌∙◌, sym, list_view, view}
 use Rattle.meson_steps.proofs.PlacedEdits.{placed_none, placed_there}
 use Rattle.meson_steps.proofs.layouts.primitive_of.Goals as goal
 

@@ -1,9 +1,5 @@
-use Rattle.std.proofs.Common.{◌≡◌, ℕ, ◌+◌, ◌≤◌, List, [], ◌∷◌, length, get_or, refl, drop, sym, ap, ◌∙◌, subst}
-use Rattle.std.specs.Prelude.{All, false, ◌==◌}
-use Rattle.std.specs.Str.{IsUtf8}
-use Rattle.std.proofs.lemmas.List.{take_all, at_drop_more}
-use Rattle.meson_steps.specs.Names.{checked_names}
-use Rattle.meson_calls.proofs.Loads.{all_more}
+use Rattle.meson_steps.proofs.Words.{◌≡◌, ℕ, ◌+◌, ◌≤◌, List, [], ◌∷◌, length, get_or, refl, drop, sym, ap, ◌∙◌, subst, All, false, ◌==◌, IsUtf8, take_all}
+use Rattle.meson_steps.proofs.Words.{at_drop_more, all_more, checked_names}
 use Rattle.meson_steps.proofs.names.checked_names.Goals as goal
 
 behind_name : (x : List ℕ) (xs : List (List ℕ)) → (length x == 0) ≡ false → checked_names xs ≡ checked_names (x ∷ xs)

@@ -1,7 +1,4 @@
-use Rattle.std.proofs.Common.{◌≡◌, drop}
-use Rattle.std.specs.Prelude.{All, take}
-use Rattle.std.specs.Str.{IsUtf8}
-use Rattle.meson_steps.specs.Names.{checked_names}
+use Rattle.meson_steps.proofs.Words.{◌≡◌, drop, All, take, IsUtf8, checked_names}
 use Rattle.meson_steps.proofs.names.checked_names.Given as goal
 
 abbrev pub invariant-loop-name : goal.invariant-loop-name

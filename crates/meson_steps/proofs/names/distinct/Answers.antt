@@ -1,8 +1,4 @@
-use Rattle.std.proofs.Common.{◌≡◌, ◌+◌, [], ◌∷◌, ◌++◌, map, drop, sym, ap, ◌∙◌, rules}
-use Rattle.std.specs.Prelude.{reverse, bytes_eq, true, false}
-use Rattle.std.specs.List.{list_any}
-use Rattle.std.proofs.lemmas.List.{map-append}
-use Rattle.meson_steps.specs.Names.{distinct_by}
+use Rattle.meson_steps.proofs.Words.{◌≡◌, ◌+◌, [], ◌∷◌, ◌++◌, map, drop, sym, ap, ◌∙◌, rules, reverse, bytes_eq, true, false, list_any, map-append, distinct_by}
 use Rattle.meson_steps.proofs.SameRead.{same_read}
 use Rattle.meson_steps.proofs.Distincts.{distinct_more, distinct_same}
 use Rattle.meson_steps.proofs.names.distinct.Goals as goal

@@ -1,6 +1,4 @@
-use Rattle.std.proofs.Common.{◌≡◌, ◌++◌, drop, map}
-use Rattle.std.specs.Prelude.{reverse}
-use Rattle.meson_steps.specs.Names.{distinct, distinct_by}
+use Rattle.meson_steps.proofs.Words.{◌≡◌, ◌++◌, drop, map, reverse, distinct, distinct_by}
 use Rattle.meson_steps.proofs.names.distinct.Given as goal
 
 abbrev pub invariant-loop-i : goal.invariant-loop-i

@@ -1,5 +1,4 @@
-use Rattle.std.proofs.Common.{◌≡◌, drop, map, bytes_eq}
-use Rattle.std.specs.List.{list_any}
+use Rattle.meson_steps.proofs.Words.{◌≡◌, drop, map, bytes_eq, list_any}
 use Rattle.meson_steps.proofs.names.is_among.Given as goal
 
 abbrev pub invariant-loop-i : goal.invariant-loop-i

@@ -1,7 +1,4 @@
-use Rattle.std.proofs.Common.{ap, sym, ◌∙◌}
-use Rattle.std.specs.Prelude.{Some, option_map}
-use Rattle.meson_edit.specs.Standing.{argument_span}
-use Rattle.meson_syntax.specs.View.{arg_view}
+use Rattle.meson_steps.proofs.Words.{ap, sym, ◌∙◌, Some, option_map, arg_view, argument_span}
 use Rattle.meson_steps.proofs.ArgumentValues.{element_there, no_element}
 use Rattle.meson_steps.proofs.spans.element_span.Goals as goal
 

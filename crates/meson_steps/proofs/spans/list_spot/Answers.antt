@@ -1,6 +1,4 @@
-use Rattle.std.proofs.Common.{◌∙◌, ap, sym}
-use Rattle.std.specs.Prelude.{option_and_then}
-use Rattle.meson_syntax.specs.View.{view}
+use Rattle.meson_steps.proofs.Words.{◌∙◌, ap, sym, option_and_then, view}
 use Rattle.meson_steps.proofs.ListSpots.{spot_in, spot_reached}
 use Rattle.meson_steps.proofs.spans.list_spot.Goals as goal
 

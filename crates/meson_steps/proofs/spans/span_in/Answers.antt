@@ -1,8 +1,4 @@
-use Rattle.std.proofs.Common.{ap, ◌∙◌, sym}
-use Rattle.std.specs.Prelude.{Some, option_map}
-use Rattle.meson_syntax.specs.Paths.{value_of}
-use Rattle.meson_edit.specs.Standing.{expression_span}
-use Rattle.meson_syntax.specs.View.{arg_view, expr_view}
+use Rattle.meson_steps.proofs.Words.{ap, ◌∙◌, sym, Some, option_map, value_of, arg_view, expr_view, expression_span}
 use Rattle.meson_steps.proofs.ArgumentValues.{plain_span, named_span, pair_span}
 use Rattle.meson_steps.proofs.spans.span_in.Goals as goal
 

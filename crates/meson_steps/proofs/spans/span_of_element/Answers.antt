@@ -1,7 +1,4 @@
-use Rattle.std.proofs.Common.{ap, ◌∙◌, sym}
-use Rattle.meson_edit.specs.Standing.{argument_span}
-use Rattle.meson_syntax.specs.View.{arg_view}
-use Rattle.meson_calls.proofs.ArgumentViews.{plain_view}
+use Rattle.meson_steps.proofs.Words.{ap, ◌∙◌, sym, arg_view, argument_span, plain_view}
 use Rattle.meson_steps.proofs.spans.span_of_element.Goals as goal
 
 pub returns-in-Plain : goal.returns-in-Plain

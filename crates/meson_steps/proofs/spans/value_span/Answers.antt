@@ -1,8 +1,4 @@
-use Rattle.std.proofs.Common.{ap, sym, ◌∙◌}
-use Rattle.std.specs.Prelude.{option_map}
-use Rattle.meson_syntax.specs.Paths.{value_of}
-use Rattle.meson_edit.specs.Standing.{expression_span}
-use Rattle.meson_syntax.specs.View.{arg_view}
+use Rattle.meson_steps.proofs.Words.{ap, sym, ◌∙◌, option_map, value_of, arg_view, expression_span}
 use Rattle.meson_steps.proofs.ArgumentValues.{element_there, no_element, span_of_element}
 use Rattle.meson_steps.proofs.spans.value_span.Goals as goal
 

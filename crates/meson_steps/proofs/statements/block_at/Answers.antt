@@ -1,11 +1,5 @@
-use Rattle.std.proofs.Common.{◌∙◌, ◌+◌, ap, sym, drop, get_or}
-use Rattle.std.specs.Prelude.{option_and_then}
-use Rattle.std.proofs.lemmas.List.{at_drop_more, at_drop_all}
-use Rattle.meson_lex.specs.declared.kinds.Span.{Span}
-use Rattle.meson_syntax.specs.Children.{a_block}
-use Rattle.meson_syntax.specs.inside.Children.{node_at}
-use Rattle.meson_syntax.specs.View.{block_view, view}
-use Rattle.meson_steps.specs.inside.Layers.{block_any, layer_view}
+use Rattle.meson_steps.proofs.Words.{◌∙◌, ◌+◌, ap, sym, drop, get_or, option_and_then, at_drop_more, at_drop_all, Span, a_block, block_view, view, node_at}
+use Rattle.meson_steps.proofs.Words.{block_any, layer_view}
 use Rattle.meson_steps.proofs.BlockNodes.{block_reached, next_below}
 use Rattle.meson_steps.proofs.statements.block_at.Goals as goal
 

@@ -1,9 +1,4 @@
-use Rattle.std.proofs.Common.{◌≡◌, List, ℕ, drop}
-use Rattle.std.specs.Prelude.{option_and_then}
-use Rattle.meson_syntax.specs.Children.{a_block}
-use Rattle.meson_syntax.specs.inside.Children.{node_at}
-use Rattle.meson_syntax.specs.View.{block_view}
-use Rattle.meson_steps.specs.inside.Layers.{block_any, layer_view}
+use Rattle.meson_steps.proofs.Words.{◌≡◌, List, ℕ, drop, option_and_then, a_block, block_view, node_at, block_any, layer_view}
 use Rattle.meson_steps.proofs.statements.block_at.Given as goal
 
 -- the steps that are left go on to the same block

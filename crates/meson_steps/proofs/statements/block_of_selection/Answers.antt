@@ -1,6 +1,4 @@
-use Rattle.std.proofs.Common.{◌≡◌, ◌+◌, ◌-◌, arith}
-use Rattle.meson_syntax.specs.inside.Children.{otherwise_parts}
-use Rattle.meson_syntax.specs.View.{otherwise_view}
+use Rattle.meson_steps.proofs.Words.{◌≡◌, ◌+◌, ◌-◌, arith, otherwise_view, otherwise_parts}
 use Rattle.meson_steps.proofs.StatementsThere.{condition_none, block_here, block_later}
 use Rattle.meson_steps.proofs.statements.block_of_selection.Goals as goal
 

@@ -1,6 +1,4 @@
-use Rattle.std.proofs.Common.{◌≡◌, List, ℕ, drop}
-use Rattle.meson_syntax.specs.inside.Children.{otherwise_parts}
-use Rattle.meson_syntax.specs.View.{otherwise_view}
+use Rattle.meson_steps.proofs.Words.{◌≡◌, List, ℕ, drop, otherwise_view, otherwise_parts}
 use Rattle.meson_steps.proofs.StatementsThere.{look_block}
 use Rattle.meson_steps.proofs.statements.block_of_selection.Given as goal
 

@@ -1,6 +1,4 @@
-use Rattle.std.proofs.Common.{ap, ◌∙◌, sym}
-use Rattle.meson_edit.specs.Standing.{statement_span}
-use Rattle.meson_syntax.specs.View.{stmt_view}
+use Rattle.meson_steps.proofs.Words.{ap, ◌∙◌, sym, stmt_view, statement_span}
 use Rattle.meson_steps.proofs.StatementsThere.{evaluate_view}
 use Rattle.meson_steps.proofs.statements.span_of_stmt.Goals as goal
 

@@ -1,6 +1,4 @@
-use Rattle.std.proofs.Common.{ap, ◌∙◌}
-use Rattle.std.specs.Prelude.{Some, option_map}
-use Rattle.meson_edit.specs.Standing.{statement_span}
+use Rattle.meson_steps.proofs.Words.{ap, ◌∙◌, Some, option_map, statement_span}
 use Rattle.meson_steps.proofs.statements.statement_span.Goals as goal
 
 pub returns-in-Some : goal.returns-in-Some

@@ -1,7 +1,4 @@
-use Rattle.std.proofs.Common.{ap, ◌∙◌, sym}
-use Rattle.std.specs.Prelude.{option_and_then}
-use Rattle.meson_edit.specs.Blocks.{block_at, statement_in}
-use Rattle.meson_syntax.specs.View.{view}
+use Rattle.meson_steps.proofs.Words.{ap, ◌∙◌, sym, option_and_then, view, block_at, statement_in}
 use Rattle.meson_steps.proofs.StatementsThere.{in_inside}
 use Rattle.meson_steps.proofs.statements.stmt_at.Goals as goal
 

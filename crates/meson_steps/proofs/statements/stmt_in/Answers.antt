@@ -1,6 +1,4 @@
-use Rattle.std.proofs.Common.{ap, ◌∙◌}
-use Rattle.std.specs.Prelude.{Some}
-use Rattle.meson_syntax.specs.View.{stmt_view}
+use Rattle.meson_steps.proofs.Words.{ap, ◌∙◌, Some, stmt_view}
 use Rattle.meson_steps.proofs.StatementsThere.{statement_here, statement_past}
 use Rattle.meson_steps.proofs.statements.stmt_in.Goals as goal
 

@@ -1,7 +1,4 @@
-use Rattle.std.specs.Prelude.{◌≢◌}
-use Rattle.meson_calls.specs.declared.refusal.Refusal.TheVariants.{OutOfMemory}
-use Rattle.meson_steps.specs.Done.{MayNotBeDone}
-use Rattle.meson_steps.specs.Working.{so_far}
+use Rattle.meson_steps.proofs.Words.{◌≢◌, OutOfMemory, MayNotBeDone, so_far}
 use Rattle.meson_steps.proofs.UnderWay.{refused_anyway, under_way_first}
 use Rattle.meson_steps.proofs.work.done.Goals as goal
 

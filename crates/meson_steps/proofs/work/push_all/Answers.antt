@@ -1,7 +1,4 @@
-use Rattle.std.proofs.Common.{◌++◌, ap, ◌∙◌, sym, rules}
-use Rattle.std.proofs.lemmas.List.{map-id}
-use Rattle.std.proofs.lemmas.Iterator.Adapters.{YieldsList-from_vec}
-use Rattle.std.proofs.lemmas.Iterator.Consumers.{YieldsList-end}
+use Rattle.meson_steps.proofs.Words.{◌++◌, ap, ◌∙◌, sym, rules, YieldsList-from_vec, YieldsList-end, map-id}
 use Rattle.meson_steps.proofs.work.push_all.Goals as goal
 
 pub returns : goal.returns

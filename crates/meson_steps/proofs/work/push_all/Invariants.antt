@@ -1,4 +1,4 @@
-use Rattle.std.proofs.Common.{◌≡◌, ◌++◌}
+use Rattle.meson_steps.proofs.Words.{◌≡◌, ◌++◌}
 use Rattle.meson_steps.proofs.work.push_all.Given as goal
 
 abbrev pub invariant-loop-splice : goal.invariant-loop-splice

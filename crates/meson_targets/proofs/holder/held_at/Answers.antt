@@ -1,11 +1,4 @@
-use Rattle.std.proofs.Common.{sym, ap, ◌∙◌, arith}
-use Rattle.std.specs.Prelude.{option_and_then}
-use Rattle.meson_splice.specs.Files.{bytes_at}
-use Rattle.meson_edit.specs.Blocks.{block_at, statement_in}
-use Rattle.meson_syntax.specs.View.{stmt_view, view}
-use Rattle.meson_calls.proofs.Loads.{as_many}
-use Rattle.meson_targets.specs.inside.TargetViews.{place_view}
-use Rattle.meson_targets.specs.TargetEdits.{held_by}
+use Rattle.meson_targets.proofs.Words.{sym, ap, ◌∙◌, arith, option_and_then, bytes_at, stmt_view, view, block_at, statement_in, as_many, held_by, place_view}
 use Rattle.meson_targets.proofs.StatementsRemoved.{no_statement, statement_is}
 use Rattle.meson_targets.proofs.holder.held_at.Goals as goal
 

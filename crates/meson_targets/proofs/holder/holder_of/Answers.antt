@@ -1,7 +1,4 @@
-use Rattle.std.proofs.Common.{None, Some, sym, ap, ◌∙◌}
-use Rattle.std.specs.Prelude.{option_map}
-use Rattle.meson_calls.specs.Loading.{named_trees, views}
-use Rattle.meson_targets.specs.inside.TargetViews.{held_view, place_view}
+use Rattle.meson_targets.proofs.Words.{None, Some, sym, ap, ◌∙◌, option_map, named_trees, views, held_view, place_view}
 use Rattle.meson_targets.proofs.Holders.{no_line, on_line}
 use Rattle.meson_targets.proofs.holder.holder_of.Goals as goal
 

@@ -1,6 +1,4 @@
-use Rattle.std.proofs.Common.{◌≡◌, ◌+◌, ◌-◌, ◌<◌, length, take, get_or, sym, ap, ◌∙◌, subst, arith}
-use Rattle.std.specs.Prelude.{option_map}
-use Rattle.meson_calls.specs.Project.{place}
+use Rattle.meson_targets.proofs.Words.{◌≡◌, ◌+◌, ◌-◌, ◌<◌, length, take, get_or, sym, ap, ◌∙◌, subst, arith, option_map, place}
 use Rattle.meson_targets.proofs.StatementsRemoved.{short_path, place_there}
 use Rattle.meson_targets.proofs.holder.statement_of.Goals as goal
 

@@ -1,5 +1,4 @@
-use Rattle.std.proofs.Common.{subst}
-use Rattle.std.specs.Str.{IsUtf8}
+use Rattle.meson_targets.proofs.Words.{subst, IsUtf8}
 use Rattle.meson_targets.proofs.NewTargets.{with_name_text}
 use Rattle.meson_targets.proofs.target_adding.checked_texts.Goals as goal
 

@@ -1,10 +1,5 @@
-use Rattle.std.proofs.Common.{sym, ◌∙◌}
-use Rattle.std.proofs.lemmas.Bool.{eqb-true, eqb-false}
+use Rattle.meson_targets.proofs.Words.{sym, ◌∙◌, eqb-true, eqb-false, project_in, note_views, noted_good, targets_named}
 use Rattle.meson_calls.specs.declared.call.Role.TheVariants as role
-use Rattle.meson_calls.specs.NotedProjects.{project_in}
-use Rattle.meson_calls.specs.Notes.{note_views}
-use Rattle.meson_targets.specs.TargetEdits.{targets_named}
-use Rattle.meson_calls.proofs.NotedCalls.{noted_good}
 use Rattle.meson_calls.proofs.NotesWith.{same_named}
 use Rattle.meson_targets.proofs.NewTargets.{is_taken, is_free}
 use Rattle.meson_calls.proofs.Picked.{name_places}

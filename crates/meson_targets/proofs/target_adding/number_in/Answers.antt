@@ -1,8 +1,4 @@
-use Rattle.std.proofs.Common.{Some, None, sym, ap, ◌∙◌}
-use Rattle.std.specs.Prelude.{option_map, string_bytes}
-use Rattle.std.proofs.lemmas.Bool.{eqb-true, eqb-false}
-use Rattle.meson_splice.specs.Files.{position_of_file}
-use Rattle.meson_calls.proofs.Loads.{as_many}
+use Rattle.meson_targets.proofs.Words.{Some, None, sym, ap, ◌∙◌, option_map, string_bytes, eqb-true, eqb-false, position_of_file, as_many}
 use Rattle.meson_targets.proofs.NewTargets.{root_number, folder_number}
 use Rattle.meson_targets.proofs.target_adding.number_in.Goals as goal
 

@@ -1,5 +1,4 @@
-use Rattle.std.proofs.Common.{◌++◌, ap, ◌∙◌}
-use Rattle.meson_lex.specs.Literals.{literal}
+use Rattle.meson_targets.proofs.Words.{◌++◌, ap, ◌∙◌, literal}
 use Rattle.meson_targets.proofs.NewTargets.{next_source}
 use Rattle.meson_targets.proofs.target_adding.written_target.Goals as goal
 

@@ -1,4 +1,4 @@
-use Rattle.std.proofs.Common.{◌≡◌, take}
+use Rattle.meson_targets.proofs.Words.{◌≡◌, take}
 use Rattle.meson_targets.proofs.NewTargets.{so_far}
 use Rattle.meson_targets.proofs.target_adding.written_target.Given as goal
 

@@ -1,8 +1,4 @@
-use Rattle.std.proofs.Common.{sym, ap, ◌∙◌}
-use Rattle.std.specs.Prelude.{option_map}
-use Rattle.std.proofs.lemmas.Result.{err_from_is_err_and}
-use Rattle.meson_calls.specs.NotedProjects.{project_in}
-use Rattle.meson_targets.specs.inside.TargetViews.{holder_view}
+use Rattle.meson_targets.proofs.Words.{sym, ap, ◌∙◌, option_map, err_from_is_err_and, project_in, holder_view}
 use Rattle.meson_targets.proofs.SetNames.{holder_named}
 use Rattle.meson_targets.proofs.StatementsRemoved.{not_held, in_use, removal_meant}
 use Rattle.meson_targets.proofs.target_removing.call_removed.Goals as goal

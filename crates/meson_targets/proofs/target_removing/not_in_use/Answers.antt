@@ -1,5 +1,4 @@
-use Rattle.std.proofs.Common.{subst}
-use Rattle.meson_targets.specs.inside.TargetViews.{IsNamed}
+use Rattle.meson_targets.proofs.Words.{subst, IsNamed}
 use Rattle.meson_targets.proofs.target_removing.not_in_use.Goals as goal
 
 pub identifier_text-requires : goal.identifier_text-requires

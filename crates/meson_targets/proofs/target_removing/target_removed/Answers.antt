@@ -1,13 +1,7 @@
-use Rattle.std.proofs.Common.{ap, ◌∙◌, subst}
-use Rattle.std.specs.Prelude.{IfOk}
-use Rattle.std.proofs.lemmas.Result.{err_from_is_err_and}
-use Rattle.meson_splice.specs.Patch.{then_ok}
+use Rattle.meson_targets.proofs.Words.{ap, ◌∙◌, subst, IfOk, err_from_is_err_and, then_ok, project_in, none_noted, noted_good, same_place, AreMeant}
+use Rattle.meson_targets.proofs.Words.{target_removed}
 use Rattle.meson_calls.specs.declared.call.Role.TheVariants as role
-use Rattle.meson_calls.specs.NotedProjects.{project_in}
 use Rattle.meson_calls.specs.Refusals.{RefusedAs}
-use Rattle.meson_steps.specs.Meanings.{AreMeant}
-use Rattle.meson_targets.specs.TargetEdits.{target_removed}
-use Rattle.meson_calls.proofs.NotedCalls.{none_noted, noted_good, same_place}
 use Rattle.meson_targets.proofs.StatementsRemoved.{named_at}
 use Rattle.meson_targets.proofs.target_removing.target_removed.Goals as goal
 

@@ -1,10 +1,6 @@
-use Rattle.std.proofs.Common.{◌≡◌, ◌∙◌, sym, ap}
-use Rattle.std.specs.Prelude.{◌&&◌, true, option_map, string_bytes, bytes_eq}
-use Rattle.meson_syntax.specs.View.{text_at, list_view}
-use Rattle.meson_calls.specs.Calls.{is, first_literal}
+use Rattle.meson_targets.proofs.Words.{◌≡◌, ◌∙◌, sym, ap, ◌&&◌, true, option_map, string_bytes, bytes_eq, text_at, list_view, is, first_literal, one_of}
+use Rattle.meson_targets.proofs.Words.{variable_functions}
 use Rattle.meson_calls.specs.ChosenNotes.{call_with}
-use Rattle.meson_calls.specs.Roles.{one_of}
-use Rattle.meson_targets.specs.TargetEdits.{variable_functions}
 use Rattle.meson_targets.proofs.uses.call_uses.Goals as goal
 
 pub returns-in-Some : goal.returns-in-Some

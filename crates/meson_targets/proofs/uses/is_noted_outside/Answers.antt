@@ -1,11 +1,5 @@
-use Rattle.std.proofs.Common.{◌≡◌, ◌∙◌, sym, ap, ap₂, subst, true}
-use Rattle.std.specs.Prelude.{◌&&◌}
-use Rattle.meson_targets.specs.inside.TargetViews.{place_view}
-use Rattle.meson_calls.specs.Notes.{note_view}
-use Rattle.meson_calls.specs.Strings.{AreGood, note_words}
-use Rattle.meson_targets.specs.inside.Uses.{is_outside, note_uses}
+use Rattle.meson_targets.proofs.Words.{◌≡◌, ◌∙◌, sym, ap, ap₂, subst, true, ◌&&◌, note_view, AreGood, note_words, good_at, place_view, is_outside, note_uses}
 use Rattle.meson_variables.proofs.Anys.{any_here}
-use Rattle.meson_calls.proofs.GoodNotes.{good_at}
 use Rattle.meson_targets.proofs.uses.is_noted_outside.Goals as goal
 
 pub note_uses-requires : goal.note_uses-requires

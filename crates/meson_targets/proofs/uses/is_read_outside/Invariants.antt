@@ -1,7 +1,4 @@
-use Rattle.std.proofs.Common.{◌≡◌, take}
-use Rattle.std.specs.Prelude.{false}
-use Rattle.meson_targets.specs.inside.TargetViews.{place_view}
-use Rattle.meson_targets.specs.inside.Uses.{is_read_outside}
+use Rattle.meson_targets.proofs.Words.{◌≡◌, take, false, place_view, is_read_outside}
 use Rattle.meson_targets.proofs.uses.is_read_outside.Given as goal
 
 abbrev pub invariant-loop-i : goal.invariant-loop-i

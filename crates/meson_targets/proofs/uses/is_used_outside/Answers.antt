@@ -1,9 +1,4 @@
-use Rattle.std.proofs.Common.{◌∙◌, sym, ap}
-use Rattle.meson_targets.specs.inside.TargetViews.{place_view}
-use Rattle.meson_calls.specs.NotedProjects.{project_in}
-use Rattle.meson_calls.specs.Notes.{note_views}
-use Rattle.meson_targets.specs.inside.Uses.{is_noted_outside, is_read_outside}
-use Rattle.meson_calls.proofs.GoodNotes.{taken_good}
+use Rattle.meson_targets.proofs.Words.{◌∙◌, sym, ap, project_in, note_views, taken_good, place_view, is_noted_outside, is_read_outside}
 use Rattle.meson_targets.proofs.UsesFound.{when_noted, when_not_noted}
 use Rattle.meson_targets.proofs.uses.is_used_outside.Goals as goal
 

@@ -1,8 +1,4 @@
-use Rattle.std.proofs.Common.{◌≡◌, None, Some, ◌∙◌, ap}
-use Rattle.meson_syntax.proofs.parsing.Steps.{some-injective}
-use Rattle.meson_calls.specs.NotedProjects.{project_in}
-use Rattle.meson_calls.specs.Parts.{parts}
-use Rattle.meson_calls.specs.Walks.{reads_kept, keeper_view, with_parts, read_in}
+use Rattle.meson_targets.proofs.Words.{◌≡◌, None, Some, ◌∙◌, ap, some-injective, project_in, parts, reads_kept, keeper_view, with_parts, read_in}
 use Rattle.meson_calls.proofs.Visits.{all_read}
 use Rattle.meson_targets.proofs.uses.reads_of.Goals as goal
 

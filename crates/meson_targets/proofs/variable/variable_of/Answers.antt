@@ -1,7 +1,4 @@
-use Rattle.std.proofs.Common.{Some, sym, ap, ◌∙◌, subst}
-use Rattle.std.specs.Prelude.{option_and_then, option_map}
-use Rattle.meson_targets.specs.TargetEdits.{Holder, name_set}
-use Rattle.meson_targets.specs.inside.TargetViews.{IsNamed, held_view, holder_view}
+use Rattle.meson_targets.proofs.Words.{Some, sym, ap, ◌∙◌, subst, option_and_then, option_map, Holder, name_set, IsNamed, held_view, holder_view}
 use Rattle.meson_targets.proofs.SetNames.{holder_named}
 use Rattle.meson_targets.proofs.variable.variable_of.Goals as goal
 

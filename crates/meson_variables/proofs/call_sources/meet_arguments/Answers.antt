@@ -1,9 +1,5 @@
-use Rattle.std.proofs.Common.{◌≡◌, ◌<◌, ◌≤◌, length, ◌∙◌, sym, ap, arith}
-use Rattle.meson_calls.specs.Calls.{value_with_name}
-use Rattle.meson_variables.specs.Expansion.{opaque}
-use Rattle.meson_variables.specs.CodeVariables.{project_of}
-use Rattle.meson_calls.specs.NamedArguments.{kwargs_key, kept_args}
-use Rattle.meson_variables.specs.Tallies.{gathered, with_mark}
+use Rattle.meson_variables.proofs.Words.{◌≡◌, ◌<◌, ◌≤◌, length, ◌∙◌, sym, ap, arith, value_with_name, kwargs_key, kept_args, project_of, opaque, gathered}
+use Rattle.meson_variables.proofs.Words.{with_mark}
 use Rattle.meson_variables.proofs.MetAll.{both, met_both, hidden_some, hidden_none}
 use Rattle.meson_variables.proofs.call_sources.meet_arguments.Goals as goal
 

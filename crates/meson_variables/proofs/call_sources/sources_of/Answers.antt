@@ -1,12 +1,5 @@
-use Rattle.std.proofs.Common.{◌≤◌, length, ◌∙◌, sym, ap, arith}
-use Rattle.std.specs.Prelude.{Ok}
-use Rattle.meson_calls.specs.Calls.{value_with_name}
-use Rattle.meson_variables.specs.Expansion.{max_followed}
-use Rattle.meson_variables.specs.CodeVariables.{project_of}
-use Rattle.meson_calls.specs.NamedArguments.{sources_key, kept_args}
-use Rattle.meson_variables.specs.TargetSources.{or_option, or_call}
-use Rattle.meson_variables.specs.ExpandedArguments.{all_gathered}
-use Rattle.meson_variables.specs.Tallies.{gathered}
+use Rattle.meson_variables.proofs.Words.{◌≤◌, length, ◌∙◌, sym, ap, arith, Ok, value_with_name, sources_key, kept_args, project_of, all_gathered, max_followed}
+use Rattle.meson_variables.proofs.Words.{gathered, or_option, or_call}
 use Rattle.meson_variables.proofs.Answered.{answered_once}
 use Rattle.meson_variables.proofs.call_sources.sources_of.Goals as goal
 

@@ -1,6 +1,4 @@
-use Rattle.std.proofs.Common.{◌∙◌, sym, ap}
-use Rattle.meson_syntax.specs.Tree.{is_named}
-use Rattle.meson_syntax.specs.View.{arg_view}
+use Rattle.meson_variables.proofs.Words.{◌∙◌, sym, ap, is_named, arg_view}
 use Rattle.meson_variables.proofs.NamedElements.{names_left, names_of_list, name_found, name_skipped, names_ended}
 use Rattle.meson_variables.proofs.meeting.are_named.Goals as goal
 

@@ -1,7 +1,4 @@
-use Rattle.std.proofs.Common.{◌≡◌, ℕ, List, drop}
-use Rattle.meson_syntax.specs.Tree.{arguments_of}
-use Rattle.meson_syntax.specs.View.{args_view}
-use Rattle.meson_variables.specs.Expansion.{has_names}
+use Rattle.meson_variables.proofs.Words.{◌≡◌, ℕ, List, drop, arguments_of, args_view, has_names}
 use Rattle.meson_variables.proofs.meeting.are_named.Given as goal
 
 abbrev pub invariant-loop-i : goal.invariant-loop-i

@@ -1,7 +1,4 @@
-use Rattle.std.proofs.Common.{◌≡◌, ◌∙◌, sym, ap}
-use Rattle.std.specs.Prelude.{true, not, ◌&&◌, bytes_eq, codes}
-use Rattle.meson_syntax.specs.View.{text_at, list_view}
-use Rattle.meson_variables.specs.Expansion.{are_named}
+use Rattle.meson_variables.proofs.Words.{◌≡◌, ◌∙◌, sym, ap, true, not, ◌&&◌, bytes_eq, codes, text_at, list_view, are_named}
 use Rattle.meson_variables.proofs.meeting.is_files.Goals as goal
 
 pub returns-then-eq : goal.returns-then-eq

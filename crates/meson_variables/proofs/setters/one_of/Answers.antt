@@ -1,6 +1,4 @@
-use Rattle.std.proofs.Common.{◌∙◌, sym, ap}
-use Rattle.std.specs.Prelude.{bytes_eq}
-use Rattle.meson_syntax.specs.View.{name_at}
+use Rattle.meson_variables.proofs.Words.{◌∙◌, sym, ap, bytes_eq, name_at}
 use Rattle.meson_variables.proofs.Anys.{any_here}
 use Rattle.meson_variables.proofs.setters.one_of.Goals as goal
 

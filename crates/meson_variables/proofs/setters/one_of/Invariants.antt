@@ -1,7 +1,4 @@
-use Rattle.std.proofs.Common.{◌≡◌, take}
-use Rattle.std.specs.Prelude.{false}
-use Rattle.meson_syntax.specs.View.{names_at}
-use Rattle.meson_variables.specs.Variables.{one_of_names}
+use Rattle.meson_variables.proofs.Words.{◌≡◌, take, false, names_at, one_of_names}
 use Rattle.meson_variables.proofs.setters.one_of.Given as goal
 
 abbrev pub invariant-loop-i : goal.invariant-loop-i

@@ -1,8 +1,4 @@
-use Rattle.std.proofs.Common.{◌≡◌, ◌∙◌, sym, ap}
-use Rattle.std.specs.Prelude.{◌&&◌, true, false, bytes_eq, codes}
-use Rattle.meson_syntax.specs.View.{text_at, list_view}
-use Rattle.meson_calls.specs.Calls.{is, first_literal}
-use Rattle.meson_calls.specs.ChosenNotes.{call_with}
+use Rattle.meson_variables.proofs.Words.{◌≡◌, ◌∙◌, sym, ap, ◌&&◌, true, false, bytes_eq, codes, text_at, list_view, is, first_literal, call_with}
 use Rattle.meson_variables.proofs.setters.set_name.Goals as goal
 
 pub returns-in_ok-name : goal.returns-in_ok-name

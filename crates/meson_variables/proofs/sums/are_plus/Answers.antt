@@ -1,11 +1,5 @@
-use Rattle.std.proofs.Common.{◌≡◌, ℕ, ◌+◌, ◌<◌, List, length, drop, get_or, ◌∙◌, sym, ap}
-use Rattle.std.specs.Prelude.{Bool, ◌&&◌}
-use Rattle.std.proofs.lemmas.List.{at_drop_more, at_drop_all}
-use Rattle.meson_syntax.specs.declared.tree.Operand.{Operand}
-use Rattle.meson_syntax.specs.Tree.{operands_of}
-use Rattle.meson_syntax.specs.View.{operands_view}
-use Rattle.meson_variables.specs.Expansion.{is_plus, are_plus}
-use Rattle.meson_calls.proofs.Parted.{operand_operator}
+use Rattle.meson_variables.proofs.Words.{◌≡◌, ℕ, ◌+◌, ◌<◌, List, length, drop, get_or, ◌∙◌, sym, ap, Bool, ◌&&◌, at_drop_more, at_drop_all, operands_of}
+use Rattle.meson_variables.proofs.Words.{operands_view, Operand, operand_operator, is_plus, are_plus}
 use Rattle.meson_variables.proofs.sums.are_plus.Goals as goal
 
 abbrev rest_plus : List ℕ → List Operand → Bool

@@ -1,7 +1,4 @@
-use Rattle.std.proofs.Common.{◌≡◌, ℕ, List, drop}
-use Rattle.meson_syntax.specs.Tree.{operands_of}
-use Rattle.meson_syntax.specs.View.{operands_view}
-use Rattle.meson_variables.specs.Expansion.{are_plus}
+use Rattle.meson_variables.proofs.Words.{◌≡◌, ℕ, List, drop, operands_of, operands_view, are_plus}
 use Rattle.meson_variables.proofs.sums.are_plus.Given as goal
 
 abbrev pub invariant-loop-i : goal.invariant-loop-i

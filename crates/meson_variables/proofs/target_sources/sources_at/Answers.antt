@@ -1,17 +1,7 @@
-use Rattle.std.proofs.Common.{◌≡◌, ◌≢◌, ◌∙◌, sym, ap, subst, arith}
-use Rattle.std.specs.Prelude.{Ok, Err, IfOk, IfErr}
-use Rattle.meson_splice.specs.Files.{bytes_at}
+use Rattle.meson_variables.proofs.Words.{◌≡◌, ◌≢◌, ◌∙◌, sym, ap, subst, arith, Ok, Err, IfOk, IfErr, bytes_at, expr_view, list_view, view, call_of, call_with}
+use Rattle.meson_variables.proofs.Words.{GoodListing, placed, OutOfMemory, as_many, no_file, no_expression, project_of, sources_of_call}
 use Rattle.meson_syntax.specs.Paths as paths
-use Rattle.meson_syntax.specs.View.{expr_view, list_view, view}
-use Rattle.meson_calls.specs.declared.refusal.Refusal.TheVariants.{OutOfMemory}
-use Rattle.meson_calls.specs.Calls.{call_of}
-use Rattle.meson_calls.specs.GoodLists.{GoodListing}
-use Rattle.meson_variables.specs.CodeVariables.{project_of}
-use Rattle.meson_calls.specs.ChosenNotes.{call_with}
-use Rattle.meson_calls.specs.Project.{placed}
-use Rattle.meson_variables.specs.TargetSources.{sources_of_call}
-use Rattle.meson_calls.proofs.Loads.{as_many}
-use Rattle.meson_calls.proofs.Standing.{no_file, no_expression, an_expression}
+use Rattle.meson_calls.proofs.Standing.{an_expression}
 use Rattle.meson_calls.proofs.CallsAt.{listing_good}
 use Rattle.meson_variables.proofs.SourcesAt.{sources_found, sources_refused, no_call}
 use Rattle.meson_variables.proofs.target_sources.sources_at.Goals as goal

@@ -1,10 +1,5 @@
-use Rattle.std.proofs.Common.{◌∙◌, sym, ap, subst}
-use Rattle.std.specs.Prelude.{not}
-use Rattle.meson_calls.specs.Notes.{note_view}
-use Rattle.meson_variables.specs.UnknownSetters.{is_unknown_in}
-use Rattle.meson_calls.specs.Strings.{AreGood, note_words}
+use Rattle.meson_variables.proofs.Words.{◌∙◌, sym, ap, subst, not, note_view, AreGood, note_words, good_at, is_unknown_in}
 use Rattle.meson_variables.proofs.Anys.{any_here}
-use Rattle.meson_calls.proofs.GoodNotes.{good_at}
 use Rattle.meson_variables.proofs.unknown_setters.all_known.Goals as goal
 
 pub is_unknown-requires-clause-good : goal.is_unknown-requires-clause-good

@@ -1,7 +1,4 @@
-use Rattle.std.proofs.Common.{◌≡◌, take}
-use Rattle.std.specs.Prelude.{false}
-use Rattle.meson_calls.specs.Notes.{note_views}
-use Rattle.meson_variables.specs.UnknownSetters.{has_unknown}
+use Rattle.meson_variables.proofs.Words.{◌≡◌, take, false, note_views, has_unknown}
 use Rattle.meson_variables.proofs.unknown_setters.all_known.Given as goal
 
 abbrev pub invariant-loop-i : goal.invariant-loop-i

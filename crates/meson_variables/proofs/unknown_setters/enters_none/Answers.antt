@@ -1,9 +1,5 @@
-use Rattle.std.proofs.Common.{◌≡◌, ◌∙◌, sym, ap}
-use Rattle.std.specs.Prelude.{◌&&◌, not, true, bytes_eq, codes}
-use Rattle.meson_syntax.specs.View.{text_at, list_view}
-use Rattle.meson_calls.specs.Calls.{first_literal}
-use Rattle.meson_calls.specs.FileNames.{is_entered, meant_in}
-use Rattle.meson_calls.specs.ChosenNotes.{call_with}
+use Rattle.meson_variables.proofs.Words.{◌≡◌, ◌∙◌, sym, ap, ◌&&◌, not, true, bytes_eq, codes, text_at, list_view, first_literal, call_with, is_entered}
+use Rattle.meson_variables.proofs.Words.{meant_in}
 use Rattle.meson_variables.proofs.unknown_setters.enters_none.Goals as goal
 
 pub returns-in_ok-there : goal.returns-in_ok-there

@@ -1,6 +1,4 @@
-use Rattle.std.proofs.Common.{◌≡◌, ◌∙◌, sym, ap, subst}
-use Rattle.std.specs.Prelude.{Some, IfOk, option_map, string_bytes}
-use Rattle.meson_calls.specs.FileNames.{is_entered, meant_in}
+use Rattle.meson_variables.proofs.Words.{◌≡◌, ◌∙◌, sym, ap, subst, Some, IfOk, option_map, string_bytes, is_entered, meant_in}
 use Rattle.meson_calls.proofs.SubdirNames.{no_folder}
 use Rattle.meson_variables.proofs.unknown_setters.is_entered.Goals as goal
 

@@ -1,8 +1,5 @@
-use Rattle.std.proofs.Common.{◌≡◌, ◌∙◌, sym, ap}
-use Rattle.std.specs.Prelude.{Bool, ◌&&◌, not, is_some, true, false, Option, Some, None, option_map, is_none, string_bytes, bytes_eq, codes, refl}
-use Rattle.meson_syntax.specs.View.{text_at, list_view}
-use Rattle.meson_calls.specs.Calls.{first_literal}
-use Rattle.meson_calls.specs.ChosenNotes.{call_with}
+use Rattle.meson_variables.proofs.Words.{◌≡◌, ◌∙◌, sym, ap, Bool, ◌&&◌, not, is_some, true, false, Option, Some, None, option_map, is_none, string_bytes}
+use Rattle.meson_variables.proofs.Words.{bytes_eq, codes, refl, text_at, list_view, first_literal, call_with}
 use Rattle.meson_variables.proofs.unknown_setters.sets_unknown.Goals as goal
 
 none_alike : {A B : Type 0} (f : A → B) (o : Option A) → is_none o ≡ is_none (option_map f o)

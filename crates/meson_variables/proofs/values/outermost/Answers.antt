@@ -1,8 +1,5 @@
-use Rattle.std.proofs.Common.{◌≡◌, ℕ, ◌<◌, List, [], ◌∷◌, length, get_or, true, refl, sym, ap, ◌∙◌, arith}
-use Rattle.std.specs.Prelude.{◌&&◌, Some, None, if◌then◌else◌}
-use Rattle.meson_syntax.specs.View.{expr_view}
-use Rattle.meson_calls.specs.Project.{child, place, placed}
-use Rattle.meson_variables.specs.Variables.{is_outermost}
+use Rattle.meson_variables.proofs.Words.{◌≡◌, ℕ, ◌<◌, List, [], ◌∷◌, length, get_or, true, refl, sym, ap, ◌∙◌, arith, ◌&&◌, Some, None, if◌then◌else◌}
+use Rattle.meson_variables.proofs.Words.{expr_view, child, place, placed, is_outermost}
 use Rattle.meson_variables.proofs.values.outermost.Goals as goal
 
 one_step : (path : List ℕ) → is_outermost path ≡ true → (d : ℕ) → get_or path 0 d ∷ [] ≡ path

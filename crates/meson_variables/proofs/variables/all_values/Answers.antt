@@ -1,12 +1,5 @@
-use Rattle.std.proofs.Common.{◌≡◌, ◌∙◌, sym, ap, subst}
-use Rattle.std.specs.Prelude.{not}
-use Rattle.std.proofs.lemmas.Result.{IfOk-weaker}
-use Rattle.meson_variables.specs.UnknownSetters.{has_unknown}
-use Rattle.meson_calls.specs.Loading.{named_trees, views}
-use Rattle.meson_variables.specs.inside.Noted.{by_notes}
-use Rattle.meson_calls.specs.Notes.{note_views, notes}
-use Rattle.meson_calls.specs.Strings.{NotesGood}
-use Rattle.meson_calls.proofs.GoodNotes.{project_good}
+use Rattle.meson_variables.proofs.Words.{◌≡◌, ◌∙◌, sym, ap, subst, not, IfOk-weaker, named_trees, views, note_views, notes, NotesGood, project_good}
+use Rattle.meson_variables.proofs.Words.{has_unknown, by_notes}
 use Rattle.meson_variables.proofs.SoughtValues.{all_single}
 use Rattle.meson_variables.proofs.variables.all_values.Goals as goal
 

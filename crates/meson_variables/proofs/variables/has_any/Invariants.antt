@@ -1,6 +1,4 @@
-use Rattle.std.proofs.Common.{◌≡◌, take}
-use Rattle.std.specs.Prelude.{false}
-use Rattle.meson_variables.specs.inside.CodeValues.{has_any}
+use Rattle.meson_variables.proofs.Words.{◌≡◌, take, false, has_any}
 use Rattle.meson_variables.proofs.variables.has_any.Given as goal
 
 abbrev pub invariant-loop-i : goal.invariant-loop-i

@@ -1,10 +1,5 @@
-use Rattle.std.proofs.Common.{◌≡◌, ◌∙◌, refl, sym, ap}
-use Rattle.std.specs.Prelude.{Bool, true, false, not, ◌&&◌, if◌then◌else◌, Option, None}
-use Rattle.std.specs.Option.{option_flatten}
-use Rattle.meson_calls.specs.Notes.{note_views}
-use Rattle.meson_variables.specs.Noted.{assigned_notes, is_set_by}
-use Rattle.meson_variables.specs.inside.Noted.{by_notes}
-use Rattle.meson_variables.specs.Variables.{only_value}
+use Rattle.meson_variables.proofs.Words.{◌≡◌, ◌∙◌, refl, sym, ap, Bool, true, false, not, ◌&&◌, if◌then◌else◌, Option, None, option_flatten, note_views}
+use Rattle.meson_variables.proofs.Words.{assigned_notes, is_set_by, only_value, by_notes}
 use Rattle.meson_variables.proofs.variables.known_values.Goals as goal
 
 turned : {V : Type 0} (b : Bool) (v : Option V) → (if b then None else v) ≡ (if true && not b then v else None)

@@ -1,5 +1,4 @@
-use Rattle.std.proofs.Common.{arith}
-use Rattle.meson_calls.proofs.Loads.{as_many}
+use Rattle.meson_variables.proofs.Words.{arith, as_many}
 use Rattle.meson_variables.proofs.variables.mentioned.Goals as goal
 
 pub bytes-requires : goal.bytes-requires

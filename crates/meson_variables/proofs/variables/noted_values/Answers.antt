@@ -1,10 +1,4 @@
-use Rattle.std.proofs.Common.{◌≡◌, ◌∙◌, length, ap, arith}
-use Rattle.std.specs.Prelude.{not}
-use Rattle.meson_variables.specs.UnknownSetters.{has_unknown}
-use Rattle.meson_variables.specs.inside.Noted.{by_notes}
-use Rattle.meson_calls.specs.NotedProjects.{project_in}
-use Rattle.meson_calls.specs.Notes.{note_views, notes}
-use Rattle.meson_calls.specs.Spelling.{sought_words}
+use Rattle.meson_variables.proofs.Words.{◌≡◌, ◌∙◌, length, ap, arith, not, project_in, note_views, notes, sought_words, has_unknown, by_notes}
 use Rattle.meson_calls.proofs.NotedCalls.{noted_good}
 use Rattle.meson_variables.proofs.SoughtValues.{all_single, one_whole, some_views}
 use Rattle.meson_variables.proofs.variables.noted_values.Goals as goal

@@ -1,9 +1,4 @@
-use Rattle.std.proofs.Common.{◌∙◌, sym, ap, subst}
-use Rattle.std.proofs.lemmas.Result.{IfOk-weaker}
-use Rattle.meson_calls.specs.Notes.{note_views}
-use Rattle.meson_calls.specs.Setters.{AreSetters}
-use Rattle.meson_calls.proofs.GoodNotes.{project_good}
-use Rattle.meson_calls.proofs.SetterReadings.{setters_good}
+use Rattle.meson_variables.proofs.Words.{◌∙◌, sym, ap, subst, IfOk-weaker, note_views, AreSetters, project_good, setters_good}
 use Rattle.meson_variables.proofs.SoughtValues.{some_single}
 use Rattle.meson_variables.proofs.variables.some_values.Goals as goal
 

@@ -1,10 +1,4 @@
-use Rattle.std.proofs.Common.{rules, ◌≡◌, ◌∙◌, sym}
-use Rattle.std.specs.Prelude.{false, not}
-use Rattle.meson_calls.specs.Notes.{note_views}
-use Rattle.meson_variables.specs.Noted.{assigned_notes, is_set_by}
-use Rattle.meson_variables.specs.inside.CodeValues.{has_any}
-use Rattle.meson_variables.specs.UnknownSetters.{has_unknown}
-use Rattle.meson_variables.specs.Variables.{only_value}
+use Rattle.meson_variables.proofs.Words.{rules, ◌≡◌, ◌∙◌, sym, false, not, note_views, assigned_notes, is_set_by, has_unknown, only_value, has_any}
 use Rattle.meson_variables.proofs.NoValues.{known_or_not, none_has}
 use Rattle.meson_variables.proofs.variables.values_named.Goals as goal
 

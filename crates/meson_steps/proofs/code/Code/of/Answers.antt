@@ -1,5 +1,4 @@
-use Rattle.std.proofs.Common.{Some, sym, ap, ◌∙◌}
-use Rattle.meson_steps.specs.Code.{IsExpression}
+use Rattle.meson_steps.proofs.Words.{Some, sym, ap, ◌∙◌, IsExpression}
 use Rattle.meson_steps.proofs.CodeDecided.{code_found, no_code}
 use Rattle.meson_steps.proofs.code.Code.of.Goals as goal
 

@@ -1,7 +1,4 @@
-use Rattle.std.proofs.Common.{ap, ◌∙◌, sym}
-use Rattle.std.specs.Prelude.{option_map}
-use Rattle.meson_syntax.specs.Children.{a_block, a_statement}
-use Rattle.meson_steps.specs.inside.Layers.{layer_view, next_layer}
+use Rattle.meson_steps.proofs.Words.{ap, ◌∙◌, sym, option_map, a_block, a_statement, layer_view, next_layer}
 use Rattle.meson_steps.proofs.statements.Layer.child.Goals as goal
 
 pub returns-in-Some : goal.returns-in-Some

@@ -1,7 +1,4 @@
-use Rattle.std.proofs.Common.{◌+◌, ◌++◌, ap, ◌∙◌, length, subst, arith}
-use Rattle.meson_syntax.specs.Reads.{IsSpannedWithin, wide}
-use Rattle.meson_syntax.specs.View.{view}
-use Rattle.meson_steps.specs.ResultLimits.{saturated}
+use Rattle.meson_steps.proofs.Words.{◌+◌, ◌++◌, ap, ◌∙◌, length, subst, arith, IsSpannedWithin, wide, view, saturated}
 use Rattle.meson_steps.proofs.PatchedFiles.{all_as_many}
 use Rattle.meson_steps.proofs.work.Work.change.Goals as goal
 

@@ -1,7 +1,4 @@
-use Rattle.std.proofs.Common.{◌<◌, get_or, length, subst, sym}
-use Rattle.meson_splice.specs.Files.{bytes_at}
-use Rattle.meson_steps.specs.inside.Held.{IsHeldOf}
-use Rattle.meson_steps.specs.Working.{spot_at}
+use Rattle.meson_steps.proofs.Words.{◌<◌, get_or, length, subst, sym, bytes_at, spot_at, IsHeldOf}
 use Rattle.meson_steps.proofs.HeldLists.{again_of, again_spot, held_spot}
 use Rattle.meson_steps.proofs.HeldWork.{again_changed, then_held}
 use Rattle.meson_steps.proofs.ListChanged.{at_spot}

@@ -1,11 +1,8 @@
-use Rattle.std.proofs.Common.{◌<◌, ◌∙◌, get_or, length, subst, sym}
+use Rattle.meson_steps.proofs.Words.{◌<◌, ◌∙◌, get_or, length, subst, sym, bytes_at, spot_at, IsHeldOf}
 use Rattle.meson_steps.proofs.HeldLists.{first_of}
 use Rattle.meson_steps.proofs.HeldWork.{first_changed, now_held}
 use Rattle.meson_steps.proofs.ListChanged.{at_spot, no_spot, ordered, spot_there}
 use Rattle.meson_steps.proofs.SameRead.{same_read}
-use Rattle.meson_splice.specs.Files.{bytes_at}
-use Rattle.meson_steps.specs.inside.Held.{IsHeldOf}
-use Rattle.meson_steps.specs.Working.{spot_at}
 use Rattle.meson_steps.proofs.work.Work.change_list.Goals as goal
 
 pub unreachable-requires : goal.unreachable-requires

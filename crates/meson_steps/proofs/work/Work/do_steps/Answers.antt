@@ -1,10 +1,6 @@
-use Rattle.std.proofs.Common.{◌≡◌, ◌++◌, [], ◌∷◌, append-nil, rules, sym, ap, ◌∙◌, subst}
-use Rattle.std.specs.Vec.Iter.{into_iter_items}
-use Rattle.std.proofs.lemmas.List.{append_assoc, map-id}
-use Rattle.std.proofs.lemmas.Iterator.Adapters.{YieldsList-from_vec}
-use Rattle.std.proofs.lemmas.Iterator.Consumers.{YieldsList-end}
-use Rattle.meson_steps.specs.inside.Held.{settled}
-use Rattle.meson_steps.specs.Working.{HasReached, IsUnderWay}
+use Rattle.meson_steps.proofs.Words.{◌≡◌, ◌++◌, [], ◌∷◌, rules, sym, ap, ◌∙◌, subst, into_iter_items, YieldsList-from_vec, YieldsList-end, append_assoc, map-id}
+use Rattle.meson_steps.proofs.Words.{HasReached, IsUnderWay, settled}
+use Rattle.std.proofs.Common.{append-nil}
 use Rattle.meson_steps.proofs.HeldWork.{settled_reached}
 use Rattle.meson_steps.proofs.UnderWay.{all_reached, next_step, under_way_more}
 use Rattle.meson_steps.proofs.work.Work.do_steps.Goals as goal

@@ -1,10 +1,4 @@
-use Rattle.std.proofs.Common.{◌≡◌, ◌++◌, List}
-use Rattle.std.specs.Vec.Iter.{into_iter_items}
-use Rattle.meson_calls.specs.Loading.{Loaded}
-use Rattle.meson_steps.specs.declared.step.ListStep.{ListStep}
-use Rattle.meson_steps.specs.inside.Held.{MayHold, settled}
-use Rattle.meson_steps.specs.Steps.{Step}
-use Rattle.meson_steps.specs.Working.{AreUnderWay, IsUnderWay, Restores}
+use Rattle.meson_steps.proofs.Words.{◌≡◌, ◌++◌, List, into_iter_items, Loaded, Step, AreUnderWay, IsUnderWay, Restores, ListStep, MayHold, settled}
 use Rattle.meson_steps.proofs.work.Work.do_steps.Given as goal
 
 abbrev pub invariant-loop-step : goal.invariant-loop-step

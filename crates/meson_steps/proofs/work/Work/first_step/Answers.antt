@@ -1,6 +1,4 @@
-use Rattle.std.proofs.Common.{◌∙◌, Some, sym}
-use Rattle.meson_steps.specs.inside.Held.{settled}
-use Rattle.meson_steps.specs.Working.{standing}
+use Rattle.meson_steps.proofs.Words.{◌∙◌, Some, sym, standing, settled}
 use Rattle.meson_steps.proofs.ListTaken.{no_tree}
 use Rattle.meson_steps.proofs.StepTaken.{code_in_files, code_in_trees, empty_list, some_list, step_may, step_may_list, step_new, step_new_list, step_same}
 use Rattle.meson_steps.proofs.work.Work.first_step.Goals as goal

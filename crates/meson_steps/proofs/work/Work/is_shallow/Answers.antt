@@ -1,11 +1,5 @@
-use Rattle.std.proofs.Common.{◌≡◌, ◌<◌, ◌∙◌, ap, get_or, length, subst, sym, true, arith}
+use Rattle.meson_steps.proofs.Words.{◌≡◌, ◌<◌, ◌∙◌, ap, get_or, length, subst, sym, true, arith, file_depth, max_depth, view, Parsed, is_saved, IsShallow}
 use borrow.Author.Count.{below_more}
-use Rattle.meson_syntax.specs.declared.tree.Parsed.{Parsed}
-use Rattle.meson_syntax.specs.Grammar.{file_depth}
-use Rattle.meson_syntax.specs.Reads.{max_depth}
-use Rattle.meson_syntax.specs.View.{view}
-use Rattle.meson_steps.specs.Journal.{is_saved}
-use Rattle.meson_steps.specs.inside.Working.{IsShallow}
 use Rattle.meson_steps.proofs.SameRead.{same_read}
 use Rattle.meson_steps.proofs.WorkLimits.{fits, passes}
 use Rattle.meson_steps.proofs.work.Work.is_shallow.Goals as goal

@@ -1,6 +1,4 @@
-use Rattle.std.proofs.Common.{ℕ, ◌<◌, ◌≤◌, length}
-use Rattle.meson_splice.specs.Files.{bytes_at}
-use Rattle.meson_syntax.specs.Reads.{max_len}
+use Rattle.meson_steps.proofs.Words.{ℕ, ◌<◌, ◌≤◌, length, bytes_at, max_len}
 use Rattle.meson_steps.proofs.work.Work.is_small.Given as goal
 
 abbrev pub invariant-loop-i : goal.invariant-loop-i

@@ -1,5 +1,4 @@
-use Rattle.std.proofs.Common.{[]}
-use Rattle.meson_splice.specs.declared.file_set.File.{File}
+use Rattle.meson_steps.proofs.Words.{[], File}
 use Rattle.meson_steps.proofs.HeldSteps.{held_are_laid, held_in_files, held_laid, held_ready}
 use Rattle.meson_steps.proofs.work.Work.laid_again.Goals as goal
 

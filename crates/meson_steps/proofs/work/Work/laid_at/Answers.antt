@@ -1,7 +1,4 @@
-use Rattle.std.proofs.Common.{[], arith}
-use Rattle.meson_splice.specs.declared.file_set.File.{File}
-use Rattle.meson_splice.specs.Files.{bytes_at}
-use Rattle.meson_steps.specs.Working.{standing}
+use Rattle.meson_steps.proofs.Words.{[], arith, bytes_at, File, standing}
 use Rattle.meson_steps.proofs.StepTaken.{code_are_laid, code_in_files, code_in_trees, code_laid, code_may_be_laid}
 use Rattle.meson_steps.proofs.work.Work.laid_at.Goals as goal
 

@@ -1,5 +1,4 @@
-use Rattle.std.proofs.Common.{◌<◌, ◌++◌, ◌∙◌, ap, length, subst, arith}
-use Rattle.std.specs.Prelude.{◌^◌}
+use Rattle.meson_steps.proofs.Words.{◌<◌, ◌++◌, ◌∙◌, ap, length, subst, arith, ◌^◌}
 use Rattle.meson_steps.proofs.ListChanged.{around_fits, found_own, is_own, old_within, ordered, own_fits, reads_list, size_is, size_within}
 use Rattle.meson_steps.proofs.PatchedFiles.{all_as_many}
 use Rattle.meson_steps.proofs.work.Work.read_list.Goals as goal

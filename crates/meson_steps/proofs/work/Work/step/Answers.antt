@@ -1,6 +1,4 @@
-use Rattle.std.proofs.Common.{◌∷◌, subst}
-use Rattle.meson_steps.specs.inside.Held.{settled}
-use Rattle.meson_steps.specs.Working.{HasReached}
+use Rattle.meson_steps.proofs.Words.{◌∷◌, subst, HasReached, settled}
 use Rattle.meson_steps.proofs.HeldWork.{settled_reached}
 use Rattle.meson_steps.proofs.work.Work.step.Goals as goal
 

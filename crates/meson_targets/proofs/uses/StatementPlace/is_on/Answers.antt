@@ -1,5 +1,4 @@
-use Rattle.std.proofs.Common.{◌∙◌, sym, ap, [], ◌∷◌, ◌++◌}
-use Rattle.meson_targets.specs.TargetEdits.{goes_through}
+use Rattle.meson_targets.proofs.Words.{◌∙◌, sym, ap, [], ◌∷◌, ◌++◌, goes_through}
 use Rattle.meson_targets.proofs.Throughs.{too_short}
 use Rattle.meson_targets.proofs.uses.StatementPlace.is_on.Goals as goal
 

@@ -1,5 +1,4 @@
-use Rattle.std.proofs.Common.{◌≡◌, [], ◌∷◌, ◌++◌, drop}
-use Rattle.meson_targets.specs.TargetEdits.{goes_through}
+use Rattle.meson_targets.proofs.Words.{◌≡◌, [], ◌∷◌, ◌++◌, drop, goes_through}
 use Rattle.meson_targets.proofs.uses.StatementPlace.is_on.Given as goal
 
 -- what is left of the path goes through what is left of the block's

@@ -1,4 +1,4 @@
-use Rattle.std.proofs.Common.{◌∙◌}
+use Rattle.meson_variables.proofs.Words.{◌∙◌}
 use Rattle.meson_variables.proofs.followed.Followed.has.Goals as goal
 
 pub returns : goal.returns

@@ -1,4 +1,4 @@
-use Rattle.std.specs.Prelude.{bytes_eq}
+use Rattle.meson_variables.proofs.Words.{bytes_eq}
 use Rattle.std.specs.HashSet.{contains_by}
 use Rattle.meson_variables.proofs.FollowedNames.{has_more}
 use Rattle.meson_variables.proofs.followed.Followed.put.Goals as goal

@@ -1,10 +1,5 @@
-use Rattle.std.proofs.Common.{◌≤◌, ◌+◌, length, drop, ◌∙◌, sym, ap, arith}
-use Rattle.std.proofs.lemmas.List.{at_drop_more, at_drop_all}
-use Rattle.meson_calls.specs.Calls.{chosen}
-use Rattle.meson_calls.specs.Notes.{note_view, note_views}
-use Rattle.meson_variables.specs.Noted.{note_assigned, assigned_notes}
-use Rattle.meson_variables.specs.CodeValues.{met_in}
-use Rattle.meson_variables.specs.inside.CodeValues.{with_assigned}
+use Rattle.meson_variables.proofs.Words.{◌≤◌, ◌+◌, length, drop, ◌∙◌, sym, ap, arith, at_drop_more, at_drop_all, chosen, note_view, note_views, met_in}
+use Rattle.meson_variables.proofs.Words.{note_assigned, assigned_notes, with_assigned}
 use Rattle.meson_variables.proofs.Assignments.{resumed, next_met, all_met}
 use Rattle.meson_variables.proofs.values.Values.assigned.Goals as goal
 

@@ -1,7 +1,4 @@
-use Rattle.std.proofs.Common.{◌≡◌, ℕ, List, drop}
-use Rattle.meson_calls.specs.Notes.{note_views}
-use Rattle.meson_variables.specs.Noted.{assigned_notes}
-use Rattle.meson_variables.specs.CodeValues.{met_in, taken}
+use Rattle.meson_variables.proofs.Words.{◌≡◌, ℕ, List, drop, note_views, met_in, taken, assigned_notes}
 use Rattle.meson_variables.proofs.Assignments.{resumed}
 use Rattle.meson_variables.proofs.values.Values.assigned.Given as goal
 

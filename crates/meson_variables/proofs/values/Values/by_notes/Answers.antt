@@ -1,8 +1,4 @@
-use Rattle.std.proofs.Common.{◌∙◌, ap}
-use Rattle.std.specs.Prelude.{if◌then◌else◌, None}
-use Rattle.std.specs.Option.{option_flatten}
-use Rattle.meson_calls.specs.Notes.{note_views}
-use Rattle.meson_variables.specs.Noted.{assigned_notes, is_set_by}
+use Rattle.meson_variables.proofs.Words.{◌∙◌, ap, if◌then◌else◌, None, option_flatten, note_views, assigned_notes, is_set_by}
 use Rattle.meson_variables.proofs.Assignments.{only_taken}
 use Rattle.meson_variables.proofs.values.Values.by_notes.Goals as goal
 

@@ -1,6 +1,4 @@
-use Rattle.std.specs.Prelude.{bytes_eq, None}
-use Rattle.std.specs.HashMap.{get_by}
-use Rattle.std.proofs.lemmas.Map.Text.{hash_map_updates_str}
+use Rattle.meson_variables.proofs.Words.{bytes_eq, None, get_by, hash_map_updates_str}
 use Rattle.meson_variables.proofs.Assignments.{removed}
 use Rattle.meson_variables.proofs.values.Values.forget.Goals as goal
 

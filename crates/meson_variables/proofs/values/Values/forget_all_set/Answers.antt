@@ -1,12 +1,7 @@
-use Rattle.std.proofs.Common.{◌≤◌, length, take, take_all, ◌∙◌, sym, ap, subst, arith}
-use Rattle.std.specs.Prelude.{if◌then◌else◌, None}
-use Rattle.meson_calls.specs.Notes.{note_view, note_views}
-use Rattle.meson_variables.specs.Noted.{note_sets, is_set_by}
-use Rattle.meson_calls.specs.Strings.{AreGood, note_words}
-use Rattle.meson_variables.specs.CodeValues.{value_in}
+use Rattle.meson_variables.proofs.Words.{◌≤◌, length, take, take_all, ◌∙◌, sym, ap, subst, arith, if◌then◌else◌, None, note_view, note_views, AreGood}
+use Rattle.meson_variables.proofs.Words.{note_words, good_at, value_in, note_sets, is_set_by}
 use Rattle.meson_variables.proofs.Anys.{any_more}
 use Rattle.meson_variables.proofs.Assignments.{forgotten}
-use Rattle.meson_calls.proofs.GoodNotes.{good_at}
 use Rattle.meson_variables.proofs.values.Values.forget_all_set.Goals as goal
 
 pub forget_set-requires : goal.forget_set-requires

@@ -1,8 +1,4 @@
-use Rattle.std.proofs.Common.{◌∙◌, sym, ap}
-use Rattle.std.specs.Prelude.{if◌then◌else◌, None, option_map, string_bytes, bytes_eq}
-use Rattle.std.specs.Cmp.Lexicographic.{nat_list_eq_equiv}
-use Rattle.meson_calls.specs.Calls.{is}
-use Rattle.meson_variables.specs.CodeValues.{value_in}
+use Rattle.meson_variables.proofs.Words.{◌∙◌, sym, ap, if◌then◌else◌, None, option_map, string_bytes, bytes_eq, nat_list_eq_equiv, is, value_in}
 use Rattle.meson_variables.proofs.values.Values.forget_called.Goals as goal
 
 pub returns-in-Some : goal.returns-in-Some

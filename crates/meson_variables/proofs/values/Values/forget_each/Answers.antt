@@ -1,8 +1,5 @@
-use Rattle.std.proofs.Common.{◌≤◌, length, take, take_all, ◌∙◌, sym, ap, arith}
-use Rattle.std.specs.Prelude.{if◌then◌else◌, None, bytes_eq}
-use Rattle.meson_syntax.specs.View.{name_at, names_at}
-use Rattle.meson_variables.specs.CodeValues.{value_in}
-use Rattle.meson_variables.specs.Variables.{one_of_names}
+use Rattle.meson_variables.proofs.Words.{◌≤◌, length, take, take_all, ◌∙◌, sym, ap, arith, if◌then◌else◌, None, bytes_eq, name_at, names_at, value_in}
+use Rattle.meson_variables.proofs.Words.{one_of_names}
 use Rattle.meson_variables.proofs.Anys.{any_more}
 use Rattle.meson_variables.proofs.Assignments.{forgotten}
 use Rattle.meson_variables.proofs.values.Values.forget_each.Goals as goal

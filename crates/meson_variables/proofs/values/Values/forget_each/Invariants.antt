@@ -1,8 +1,4 @@
-use Rattle.std.proofs.Common.{◌≡◌, ℕ, List, take}
-use Rattle.std.specs.Prelude.{if◌then◌else◌, None}
-use Rattle.meson_syntax.specs.View.{names_at}
-use Rattle.meson_variables.specs.CodeValues.{value_in}
-use Rattle.meson_variables.specs.Variables.{one_of_names}
+use Rattle.meson_variables.proofs.Words.{◌≡◌, ℕ, List, take, if◌then◌else◌, None, names_at, value_in, one_of_names}
 use Rattle.meson_variables.proofs.values.Values.forget_each.Given as goal
 
 abbrev pub invariant-loop-i : goal.invariant-loop-i

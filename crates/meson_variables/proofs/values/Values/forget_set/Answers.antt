@@ -1,9 +1,4 @@
-use Rattle.std.proofs.Common.{◌∙◌, sym, ap}
-use Rattle.std.specs.Prelude.{if◌then◌else◌, None}
-use Rattle.std.proofs.lemmas.Result.{on_ok_weaker}
-use Rattle.meson_calls.specs.Notes.{what_view}
-use Rattle.meson_variables.specs.Noted.{note_sets}
-use Rattle.meson_variables.specs.CodeValues.{value_in}
+use Rattle.meson_variables.proofs.Words.{◌∙◌, sym, ap, if◌then◌else◌, None, on_ok_weaker, what_view, value_in, note_sets}
 use Rattle.meson_variables.proofs.values.Values.forget_set.Goals as goal
 
 pub returns-in-Call : goal.returns-in-Call

@@ -1,13 +1,5 @@
-use Rattle.std.proofs.Common.{◌∙◌, sym, ap}
-use Rattle.std.specs.Prelude.{Some, if◌then◌else◌, bytes_eq, option_map}
-use Rattle.std.proofs.lemmas.Result.{on_ok_weaker}
-use Rattle.meson_syntax.specs.View.{text_at, expr_view}
-use Rattle.meson_calls.specs.Calls.{chosen}
-use Rattle.meson_calls.specs.Project.{placed, place_at}
-use Rattle.meson_calls.specs.Notes.{what_view}
-use Rattle.meson_variables.specs.Noted.{note_assigned}
-use Rattle.meson_variables.specs.CodeValues.{value_view, met_in}
-use Rattle.meson_variables.specs.inside.CodeValues.{merged, with_assigned}
+use Rattle.meson_variables.proofs.Words.{◌∙◌, sym, ap, Some, if◌then◌else◌, bytes_eq, option_map, on_ok_weaker, text_at, expr_view, chosen, what_view, placed}
+use Rattle.meson_variables.proofs.Words.{place_at, value_view, met_in, note_assigned, merged, with_assigned}
 use Rattle.meson_variables.proofs.Assignments.{met_by_name}
 use Rattle.meson_variables.proofs.values.Values.meet.Goals as goal
 

@@ -1,7 +1,5 @@
-use Rattle.std.proofs.Common.{ap}
-use Rattle.std.specs.Prelude.{bytes_eq}
+use Rattle.meson_variables.proofs.Words.{ap, bytes_eq, looked_up}
 use Rattle.std.specs.Map.{lookup}
-use Rattle.meson_variables.specs.CodeValues.{looked_up}
 use Rattle.meson_variables.proofs.values.Values.new.Goals as goal
 
 pub returns : goal.returns

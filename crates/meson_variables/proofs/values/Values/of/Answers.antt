@@ -1,6 +1,4 @@
-use Rattle.std.proofs.Common.{◌∙◌, sym, ap}
-use Rattle.std.specs.Option.{option_copied, option_flatten}
-use Rattle.meson_variables.specs.CodeValues.{looked_up}
+use Rattle.meson_variables.proofs.Words.{◌∙◌, sym, ap, option_copied, option_flatten, looked_up}
 use Rattle.meson_variables.proofs.values.Values.of.Goals as goal
 
 pub returns-in-Some : goal.returns-in-Some

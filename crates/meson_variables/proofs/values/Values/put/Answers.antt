@@ -1,8 +1,5 @@
-use Rattle.std.proofs.Common.{◌≡◌, ℕ, List, Bor, ◌∙◌, sym, subst}
-use Rattle.std.specs.Prelude.{true, bytes_eq, Option, Some, None}
-use Rattle.std.specs.HashMap.{HashMap, get_by}
-use Rattle.std.specs.Cmp.Lexicographic.{bytes_decides}
-use Rattle.std.proofs.lemmas.Map.Text.{hash_map_updates_str}
+use Rattle.meson_variables.proofs.Words.{◌≡◌, ℕ, List, Bor, ◌∙◌, sym, subst, true, bytes_eq, Option, Some, None, bytes_decides, HashMap, get_by}
+use Rattle.meson_variables.proofs.Words.{hash_map_updates_str}
 use Rattle.meson_variables.proofs.Assignments.{put_first, put_again}
 use Rattle.meson_variables.proofs.values.Values.put.Goals as goal
 

@@ -1,28 +1,18 @@
-use Rattle.std.proofs.Common.{◌≡◌, ℕ, suc, ◌+◌, ◌-◌, ◌<◌, ◌≤◌, List, [], ◌∷◌, ◌++◌, get_or, ◌∙◌, sym, ap, subst, arith}
-use Rattle.std.specs.Prelude.{true, ◌&&◌, if◌then◌else◌, max, Some, None, OnOk, option_map}
-use Rattle.std.proofs.lemmas.Result.{on_ok_weaker}
+use Rattle.meson_variables.proofs.Words.{◌≡◌, ℕ, suc, ◌+◌, ◌-◌, ◌<◌, ◌≤◌, List, [], ◌∷◌, ◌++◌, get_or, ◌∙◌, sym, ap, subst, arith, true, ◌&&◌, if◌then◌else◌}
+use Rattle.meson_variables.proofs.Words.{max, Some, None, OnOk, option_map, on_ok_weaker, expression_words, operands_words, argument_words, arguments_of}
+use Rattle.meson_variables.proofs.Words.{operands_of, text_at, expr_view, list_view, arg_view, args_view, operands_view, GoodArgs, child, place, one_of}
+use Rattle.meson_variables.proofs.Words.{AreGood, name_view, array_view, call_view, plain_view, good_listing, good_args, good_arg, good_operand, row_is}
+use Rattle.meson_variables.proofs.Words.{value_view, project_of, Stand, fixed, met, opaque, empty, within, element, operand_at, is_files, are_plus}
+use Rattle.meson_variables.proofs.Words.{is_list_operand, Gathered, all_marked, gathered, expanded, with_mark, stand_at, follow_of, expand_left, rank}
+use Rattle.meson_variables.proofs.Words.{operands_rank, listing_rank, argument_rank, arguments_rank, listing_left, argument_left, sum_left, row_left}
 use Rattle.meson_lex.specs.Kinds.{IsIdentifier}
 use Rattle.meson_syntax.specs.declared.operator.Bracket.TheVariants as bracket
-use Rattle.meson_syntax.specs.Tree.{arguments_of, operands_of}
-use Rattle.meson_syntax.specs.Grammar.{expression_words, operands_words, argument_words}
-use Rattle.meson_syntax.specs.View.{text_at, expr_view, list_view, arg_view, args_view, operands_view}
-use Rattle.meson_calls.specs.Project.{child, place}
-use Rattle.meson_calls.specs.Roles.{one_of}
-use Rattle.meson_calls.specs.Strings.{AreGood}
-use Rattle.meson_calls.specs.GoodLists.{GoodArgs}
-use Rattle.meson_variables.specs.Expansion.{Stand, fixed, met, opaque, empty, within, element, operand_at, is_files, are_plus, is_list_operand}
-use Rattle.meson_variables.specs.CodeVariables.{project_of}
-use Rattle.meson_variables.specs.inside.Noted.{rank, operands_rank, listing_rank, argument_rank, arguments_rank}
-use Rattle.meson_variables.specs.CodeValues.{value_view}
-use Rattle.meson_variables.specs.Tallies.{Gathered, all_marked, gathered, expanded, with_mark, stand_at, follow_of, expand_left}
-use Rattle.meson_variables.specs.inside.Tallies.{listing_left, argument_left, sum_left, row_left}
 use Rattle.meson_variables.proofs.Singles.{single_fine}
 use Rattle.meson_variables.proofs.Measures.{values_rank, lower_step, inner_step, variable_step}
 use Rattle.meson_calls.proofs.GoodParts.{good_left, good_right}
-use Rattle.meson_calls.proofs.Parted.{row_is}
-use Rattle.meson_calls.proofs.Nested.{name_view, array_view, call_view, plain_view, good_listing, good_args, good_arg, good_operand}
 use Rattle.meson_variables.proofs.Ranks.{args_rank, arg_rank, operand_rank}
-use Rattle.meson_variables.proofs.Gathers.{expanded_twice, arg_turn, listing_alike, rest_left, operand_turn, rest_ended, sum_alike, followed_value, first_of, second_of}
+use Rattle.meson_variables.proofs.Gathers.{expanded_twice, arg_turn, listing_alike, rest_left, operand_turn, rest_ended, sum_alike, followed_value, first_of}
+use Rattle.meson_variables.proofs.Gathers.{second_of}
 use Rattle.meson_variables.proofs.Vacant.{vacant_list, filled_list}
 use Rattle.meson_variables.proofs.variables.Variables.+expansion.Goals as goal
 

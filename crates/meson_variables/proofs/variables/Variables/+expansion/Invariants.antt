@@ -1,11 +1,6 @@
-use Rattle.std.proofs.Common.{◌≡◌, suc, ◌+◌, drop}
-use Rattle.std.specs.Prelude.{None, max}
-use Rattle.meson_syntax.specs.Tree.{arguments_of, operands_of}
-use Rattle.meson_syntax.specs.View.{expr_view, list_view, arg_view, args_view, operands_view}
-use Rattle.meson_variables.specs.CodeVariables.{project_of}
-use Rattle.meson_variables.specs.inside.Noted.{rank, operands_rank, listing_rank, argument_rank, arguments_rank}
-use Rattle.meson_variables.specs.Tallies.{gathered, expanded, stand_at}
-use Rattle.meson_variables.specs.inside.Tallies.{each_left, operands_left, sum_left}
+use Rattle.meson_variables.proofs.Words.{◌≡◌, suc, ◌+◌, drop, None, max, arguments_of, operands_of, expr_view, list_view, arg_view, args_view, operands_view}
+use Rattle.meson_variables.proofs.Words.{project_of, gathered, expanded, stand_at, rank, operands_rank, listing_rank, argument_rank, arguments_rank, each_left}
+use Rattle.meson_variables.proofs.Words.{operands_left, sum_left}
 use Rattle.meson_variables.proofs.Measures.{measure, values_rank}
 use Rattle.meson_variables.proofs.variables.Variables.+expansion.Given as goal
 

@@ -1,15 +1,6 @@
-use Rattle.std.proofs.Common.{◌≡◌, ℕ, zero, suc, ◌-◌, ◌<◌, List, ◌∙◌, refl, sym, ap, arith}
-use Rattle.std.specs.Prelude.{◌&&◌, option_map}
-use Rattle.std.proofs.lemmas.Result.{IfOk-weaker}
-use Rattle.meson_lex.specs.declared.kinds.Span.{Span}
-use Rattle.meson_syntax.specs.View.{expr_view}
-use Rattle.meson_variables.specs.Expansion.{is_operand_by, is_value_by, is_single_by, is_list_variable}
-use Rattle.meson_variables.specs.CodeVariables.{project_of}
-use Rattle.meson_calls.specs.Project.{Project}
-use Rattle.meson_variables.specs.CodeValues.{value_view}
-use Rattle.meson_variables.specs.Variables.{single}
-use Rattle.meson_calls.proofs.Nested.{array_view, call_view}
-use Rattle.meson_calls.proofs.Parted.{row_is}
+use Rattle.meson_variables.proofs.Words.{◌≡◌, ℕ, zero, suc, ◌-◌, ◌<◌, List, ◌∙◌, refl, sym, ap, arith, ◌&&◌, option_map, IfOk-weaker, Span, expr_view, Project}
+use Rattle.meson_variables.proofs.Words.{array_view, call_view, row_is, value_view, project_of, is_operand_by, is_value_by, is_single_by, is_list_variable}
+use Rattle.meson_variables.proofs.Words.{single}
 use Rattle.meson_variables.proofs.variables.Variables.+operands.Goals as goal
 
 -- ---- an operand

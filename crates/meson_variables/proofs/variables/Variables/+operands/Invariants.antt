@@ -1,4 +1,4 @@
-use Rattle.std.proofs.Common.{◌+◌, ◌*◌}
+use Rattle.meson_variables.proofs.Words.{◌+◌, ◌*◌}
 use Rattle.meson_variables.proofs.variables.Variables.+operands.Given as goal
 
 abbrev pub decreases-is_list_value : goal.decreases-is_list_value

@@ -1,16 +1,6 @@
-use Rattle.std.proofs.Common.{◌∙◌, sym, ap, subst}
-use Rattle.meson_syntax.specs.Grammar.{argument_words}
-use Rattle.meson_syntax.specs.View.{arg_view}
-use Rattle.meson_calls.specs.Project.{place}
-use Rattle.meson_calls.specs.Calls.{value_with_name}
-use Rattle.meson_variables.specs.Expansion.{fixed}
-use Rattle.meson_variables.specs.CodeVariables.{project_of}
-use Rattle.meson_calls.specs.NamedArguments.{kept_arg}
-use Rattle.meson_variables.specs.ExpandedArguments.{expansion_step}
-use Rattle.meson_calls.specs.Strings.{AreGood}
-use Rattle.meson_variables.specs.Tallies.{gathered, expanded}
+use Rattle.meson_variables.proofs.Words.{◌∙◌, sym, ap, subst, argument_words, arg_view, value_with_name, kept_arg, place, AreGood, good_arg, project_of}
+use Rattle.meson_variables.proofs.Words.{expansion_step, fixed, gathered, expanded}
 use Rattle.meson_variables.proofs.KeptTurns.{kept_turn}
-use Rattle.meson_calls.proofs.Nested.{good_arg}
 use Rattle.meson_variables.proofs.variables.Variables.expand_nameds.Goals as goal
 
 pub expand_named-requires-clause-good : goal.expand_named-requires-clause-good

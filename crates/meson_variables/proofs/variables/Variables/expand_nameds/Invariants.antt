@@ -1,11 +1,4 @@
-use Rattle.std.proofs.Common.{◌≡◌, drop}
-use Rattle.meson_calls.specs.Project.{place}
-use Rattle.meson_calls.specs.Calls.{value_with_name}
-use Rattle.meson_variables.specs.Expansion.{fixed}
-use Rattle.meson_variables.specs.CodeVariables.{project_of}
-use Rattle.meson_calls.specs.NamedArguments.{kept_args}
-use Rattle.meson_variables.specs.ExpandedArguments.{arguments_by}
-use Rattle.meson_variables.specs.Tallies.{gathered, expanded}
+use Rattle.meson_variables.proofs.Words.{◌≡◌, drop, value_with_name, kept_args, place, project_of, arguments_by, fixed, gathered, expanded}
 use Rattle.meson_variables.proofs.variables.Variables.expand_nameds.Given as goal
 
 abbrev pub invariant-loop-i : goal.invariant-loop-i

@@ -1,9 +1,5 @@
-use Rattle.std.proofs.Common.{◌∙◌, sym, ap}
-use Rattle.std.specs.Prelude.{◌&&◌}
-use Rattle.std.proofs.lemmas.Result.{IfOk-weaker}
-use Rattle.meson_syntax.specs.View.{expr_view}
+use Rattle.meson_variables.proofs.Words.{◌∙◌, sym, ap, ◌&&◌, IfOk-weaker, expr_view, project_of}
 use Rattle.meson_variables.specs.Expansion.{is_list_operand}
-use Rattle.meson_variables.specs.CodeVariables.{project_of}
 use Rattle.meson_variables.proofs.variables.Variables.is_sum.Goals as goal
 
 pub returns-then-are_plus : goal.returns-then-are_plus

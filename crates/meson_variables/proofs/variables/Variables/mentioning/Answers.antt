@@ -1,4 +1,4 @@
-use Rattle.meson_calls.proofs.GoodNotes.{project_good}
+use Rattle.meson_variables.proofs.Words.{project_good}
 use Rattle.meson_variables.proofs.variables.Variables.mentioning.Goals as goal
 
 pub returns-in_ok-values-in-None-clause-holds : goal.returns-in_ok-values-in-None-clause-holds

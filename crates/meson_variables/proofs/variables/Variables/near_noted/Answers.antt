@@ -1,9 +1,4 @@
-use Rattle.std.proofs.Common.{◌≡◌, ℕ, List, subst}
-use Rattle.std.specs.Prelude.{IfSome}
-use Rattle.meson_calls.specs.NotedProjects.{project_in}
-use Rattle.meson_variables.specs.CodeValues.{value_in}
-use Rattle.meson_variables.specs.Variables.{single}
-use Rattle.meson_calls.proofs.GoodNotes.{project_good}
+use Rattle.meson_variables.proofs.Words.{◌≡◌, ℕ, List, subst, IfSome, project_in, project_good, value_in, single}
 use Rattle.meson_variables.proofs.variables.Variables.near_noted.Goals as goal
 
 pub returns-in-Some-clause-holds : goal.returns-in-Some-clause-holds

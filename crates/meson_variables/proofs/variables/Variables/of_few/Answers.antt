@@ -1,7 +1,4 @@
-use Rattle.std.proofs.Common.{◌≡◌, sym, subst}
-use Rattle.std.specs.Prelude.{true}
-use Rattle.meson_calls.specs.Setters.{is_among}
-use Rattle.meson_calls.proofs.GoodNotes.{project_good}
+use Rattle.meson_variables.proofs.Words.{◌≡◌, sym, subst, true, is_among, project_good}
 use Rattle.meson_variables.proofs.variables.Variables.of_few.Goals as goal
 
 pub returns-then-is_empty-clause-holds : goal.returns-then-is_empty-clause-holds

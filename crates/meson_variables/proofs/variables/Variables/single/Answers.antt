@@ -1,4 +1,4 @@
-use Rattle.std.proofs.Common.{◌∙◌, sym}
+use Rattle.meson_variables.proofs.Words.{◌∙◌, sym}
 use Rattle.meson_variables.proofs.variables.Variables.single.Goals as goal
 
 pub returns-then-has : goal.returns-then-has
