@@ -1,13 +1,8 @@
 -- Arguments of the code and what they stand for.
-use Rattle.std.proofs.Common.{rules, ◌≡◌, ℕ, zero, suc, ◌<◌, ◌≤◌, List, [], ◌∷◌, length, get_or, Some, None, refl, arith}
-use Rattle.meson_lex.specs.declared.kinds.Span.{Span}
-use Rattle.meson_syntax.specs.declared.tree.Arg.{Arg}
+use Rattle.meson_calls.proofs.Words.{rules, ◌≡◌, ℕ, zero, suc, ◌<◌, ◌≤◌, List, [], ◌∷◌, length, get_or, Some, None, refl, arith, Span, nth, plain, named, pair}
+use Rattle.meson_calls.proofs.Words.{arg_view, args_view, expr_view, name_at, Arg, Expr}
 use Rattle.meson_syntax.specs.declared.tree.Arg.TheVariants as arg
 use Rattle.meson_syntax.specs.declared.tree.Arg.TheFolds.{the_lemmas}
-use Rattle.meson_syntax.specs.declared.tree.Expr.{Expr}
-use Rattle.meson_syntax.specs.Paths.{nth}
-use Rattle.meson_syntax.specs.Tree.{plain, named, pair}
-use Rattle.meson_syntax.specs.View.{arg_view, args_view, expr_view, name_at}
 
 pub plain_view : (source : List ℕ) (e : Expr) → arg_view source (arg.Plain e) ≡ plain (expr_view source e)
 plain_view source e = search (rules, the_lemmas)

@@ -1,29 +1,12 @@
 -- The setters of a file in which there is no loop are its assignments.
-use Rattle.std.proofs.Common.{◌≡◌, ℕ, ◌-◌, ◌≤◌, List, [], ◌∷◌, ◌++◌, length, length-append, take, Bool, true, false, Option, Some, None, option_map, refl, sym, ap, ap₂, ◌∙◌, subst, arith}
-use Rattle.std.specs.Prelude.{option_and_then, if◌then◌else◌}
-use Rattle.std.specs.Borrow.{Bor}
-use Rattle.std.specs.List.{cons_option, filter_map}
-use Rattle.std.proofs.Math.Seq.{take-append_seam}
-use Rattle.std.proofs.lemmas.List.Elements.{filter_map-append}
-use Rattle.meson_lex.specs.declared.kinds.Span.{Span}
-use Rattle.meson_syntax.specs.declared.operator.Assignment.{Assignment}
-use Rattle.meson_syntax.specs.declared.tree.Parsed.{Parsed}
-use Rattle.meson_syntax.specs.Children.{Any, a_statement, a_block}
-use Rattle.meson_syntax.specs.inside.Children.{expression_any}
-use Rattle.meson_syntax.specs.Paths.{block_of, expression_on_path}
-use Rattle.meson_syntax.specs.Reads.{IsSpanned}
-use Rattle.meson_syntax.specs.Tree.{Name, Expression, call, assign, iteration, File}
-use Rattle.meson_syntax.specs.Texts.{texts_of_expression, texts_of_name}
-use Rattle.meson_syntax.specs.View.{text_at, view}
-use Rattle.meson_syntax.proofs.PathNodes.{expression-reached}
-use Rattle.meson_calls.specs.declared.call.CallRef.{CallRef}
-use Rattle.meson_calls.specs.declared.kept.KeptAssignment.{KeptAssignment}
-use Rattle.meson_calls.specs.Notes.{Note, an_assignment, is_set}
-use Rattle.meson_calls.specs.Parts.{Part, parts_of_file}
+use Rattle.meson_calls.proofs.Words.{Bor, cons_option, filter_map, false, option_map, option_and_then, if◌then◌else◌, ◌≡◌, ℕ, ◌-◌, ◌≤◌, List, [], ◌∷◌, ◌++◌}
+use Rattle.meson_calls.proofs.Words.{length, length-append, take, Bool, true, Option, Some, None, refl, sym, ap, ap₂, ◌∙◌, subst, arith, take-append_seam}
+use Rattle.meson_calls.proofs.Words.{filter_map-append, Span, Any, a_statement, a_block, block_of, expression_on_path, IsSpanned, texts_of_expression}
+use Rattle.meson_calls.proofs.Words.{texts_of_name, Name, Expression, call, assign, iteration, text_at, view, Assignment, Parsed, expression_any}
+use Rattle.meson_calls.proofs.Words.{expression-reached, Note, an_assignment, is_set, Part, parts_of_file, Placed, child, place, placed, AreAssignments}
+use Rattle.meson_calls.proofs.Words.{assignment_at, assignments_in, has_loop, is_among, is_loop, notes_asked, CallRef, KeptAssignment, kept_note, without_last}
+use Rattle.meson_syntax.specs.Tree.{File}
 use Rattle.meson_calls.specs.Parts as part
-use Rattle.meson_calls.specs.Project.{Placed, child, place, placed}
-use Rattle.meson_calls.specs.Setters.{AreAssignments, assignment_at, assignments_in, has_loop, is_among, is_loop, notes_asked}
-use Rattle.meson_calls.specs.inside.Setters.{kept_note, without_last}
 use Rattle.meson_calls.proofs.ListNodes.{node_below}
 use Rattle.meson_calls.proofs.Reached.{At, Each, file_each}
 use Rattle.meson_calls.proofs.nodes.PartsBelow.{any}

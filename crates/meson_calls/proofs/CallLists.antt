@@ -1,15 +1,6 @@
 -- The arguments of a call that stands in trees, as the code has them at its place.
-use Rattle.std.proofs.Common.{◌≡◌, ◌<◌, List, length, get_or, Some, sym, ap, ◌∙◌, subst}
-use Rattle.std.specs.Prelude.{option_map, option_and_then}
-use Rattle.meson_lex.specs.declared.kinds.Span.{Span}
-use Rattle.meson_splice.specs.Files.{bytes_at}
-use Rattle.meson_syntax.specs.declared.tree.Parsed.{Parsed}
-use Rattle.meson_syntax.specs.Paths.{ListAt, list_at}
-use Rattle.meson_syntax.specs.View.{view}
-use Rattle.meson_calls.specs.declared.call.CallRef.{CallRef}
-use Rattle.meson_calls.specs.Loading.{named_trees, views}
-use Rattle.meson_calls.specs.Project.{Project, BuildFile, nth_file}
-use Rattle.meson_calls.specs.CallPlaces.{CallIn}
+use Rattle.meson_calls.proofs.Words.{option_map, option_and_then, ◌≡◌, ◌<◌, List, length, get_or, Some, sym, ap, ◌∙◌, subst, bytes_at, Span, ListAt, list_at}
+use Rattle.meson_calls.proofs.Words.{view, Parsed, CallIn, named_trees, views, Project, BuildFile, nth_file, CallRef}
 use Rattle.meson_calls.proofs.CallsAt.{some_within}
 use Rattle.meson_calls.proofs.Loads.{as_many}
 use Rattle.meson_calls.proofs.Standing.{nth_there}

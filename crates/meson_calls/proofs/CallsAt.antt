@@ -1,26 +1,11 @@
 -- The call at a place, and the strings in it.
-use Rattle.std.proofs.Common.{◌≡◌, ℕ, zero, suc, ◌<◌, List, [], ◌∷◌, ◌++◌, length, get_or, sym, subst, arith}
-use Rattle.std.specs.Prelude.{Some, None, option_map}
-use Rattle.meson_lex.specs.declared.kinds.Span.{Span}
-use Rattle.meson_splice.specs.declared.file_set.File.{File}
-use Rattle.meson_splice.specs.Files.{bytes_at}
+use Rattle.meson_calls.proofs.Words.{option_map, ◌≡◌, ℕ, zero, suc, ◌<◌, List, [], ◌∷◌, ◌++◌, length, get_or, sym, subst, arith, Some, None, bytes_at, File}
+use Rattle.meson_calls.proofs.Words.{Span, expression_words, file_words, Sort, of_expression, of_statement, of_block, Node, node_words, expression_of, reach}
+use Rattle.meson_calls.proofs.Words.{block_of, IsSpanned, Expression, call, Listing, erase, view, Parsed, file-words-erased, and-then-some, reach-fits, call_of}
+use Rattle.meson_calls.proofs.Words.{GoodListing, AreParsed, named_trees, views, BuildFile, nth_file, AreGood, CallRef}
 use Rattle.meson_syntax.specs.declared.operator.Bracket.TheVariants as bracket
-use Rattle.meson_syntax.specs.declared.tree.Parsed.{Parsed}
-use Rattle.meson_syntax.specs.Tree.{Expression, call, Listing, erase}
 use Rattle.meson_syntax.specs.Tree as tree
-use Rattle.meson_syntax.specs.Grammar.{expression_words, file_words}
-use Rattle.meson_syntax.specs.Paths.{Sort, of_expression, of_statement, of_block, Node, node_words, expression_of, reach, block_of}
 use Rattle.meson_syntax.specs.Paths as paths
-use Rattle.meson_syntax.specs.Reads.{IsSpanned}
-use Rattle.meson_syntax.specs.View.{view}
-use Rattle.meson_syntax.proofs.parsing.FileErased.{file-words-erased}
-use Rattle.meson_syntax.proofs.paths.Reaching.{and-then-some, reach-fits}
-use Rattle.meson_calls.specs.declared.call.CallRef.{CallRef}
-use Rattle.meson_calls.specs.Project.{BuildFile, nth_file}
-use Rattle.meson_calls.specs.Calls.{call_of}
-use Rattle.meson_calls.specs.GoodLists.{GoodListing}
-use Rattle.meson_calls.specs.Loading.{AreParsed, named_trees, views}
-use Rattle.meson_calls.specs.Strings.{AreGood}
 use Rattle.meson_calls.proofs.GoodParts.{good_left, good_right}
 use Rattle.meson_calls.proofs.GoodTexts.{text_good}
 use Rattle.meson_calls.proofs.Nested.{good_listing}

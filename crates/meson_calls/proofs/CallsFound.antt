@@ -1,23 +1,14 @@
 -- The call that an id names stands at its place, with its arguments in round brackets.
-use Rattle.std.proofs.Common.{◌≡◌, ℕ, List, [], ◌∷◌, map, Some, None, refl, ap, ◌∙◌, subst}
-use Rattle.std.specs.Prelude.{Bool, true, false, if◌then◌else◌, bytes_eq, Ok}
-use Rattle.meson_lex.specs.declared.kinds.Span.{Span}
-use Rattle.meson_splice.specs.Patch.{then_ok}
+use Rattle.meson_calls.proofs.Words.{false, if◌then◌else◌, bytes_eq, Ok, ◌≡◌, ℕ, List, [], ◌∷◌, map, Some, None, refl, ap, ◌∙◌, subst, Bool, true, then_ok}
+use Rattle.meson_calls.proofs.Words.{Span, ListIn, list_in, Name, Expression, call, Statement, assign, Every, CallThere, CallsStand, Call, call_of, part_call}
+use Rattle.meson_calls.proofs.Words.{all_chosen, calls, first_literal, is, only_one, any_project, with_name, set_to, part_set_to, value_of_assignment}
+use Rattle.meson_calls.proofs.Words.{assigned_values, or_else, named_or_assigned, found, project_ids, Part, parts, Project, Placed, placed, child}
+use Rattle.meson_calls.proofs.Words.{expression_at, has_role, with_role, role_calls, one_of, Role}
 use Rattle.meson_syntax.specs.declared.operator.Assignment.TheVariants as assignment
 use Rattle.meson_syntax.specs.declared.operator.Bracket.TheVariants as bracket
-use Rattle.meson_syntax.specs.Tree.{Name, Expression, call, Statement, assign}
-use Rattle.meson_syntax.specs.Paths.{ListIn, list_in}
-use Rattle.meson_syntax.proofs.paths.Every.{Every}
-use Rattle.meson_calls.specs.declared.call.Role.{Role}
 use Rattle.meson_calls.specs.declared.call.Role.TheVariants as role
-use Rattle.meson_calls.specs.Calls.{Call, call_of, part_call, all_chosen, calls, first_literal, is}
-use Rattle.meson_calls.specs.Parts.{Part, parts}
 use Rattle.meson_calls.specs.Parts as part
-use Rattle.meson_calls.specs.Finding.{only_one, any_project, the_call}
-use Rattle.meson_calls.specs.Project.{Project, Placed, placed, child, expression_at}
-use Rattle.meson_calls.specs.Roles.{has_role, with_role, role_calls, one_of}
-use Rattle.meson_calls.specs.Naming.{with_name, set_to, part_set_to, value_of_assignment, assigned_values, or_else, named_or_assigned, found, project_ids}
-use Rattle.meson_calls.specs.CallPlaces.{CallThere, CallsStand}
+use Rattle.meson_calls.specs.Finding.{the_call}
 use Rattle.meson_calls.proofs.CallsReached.{every_chosen, InProject, every_part}
 use Rattle.meson_calls.proofs.ExpressionsAt.{list_here, expression_stands, assigned_stands}
 

@@ -1,15 +1,6 @@
 -- The parts of all files of a project, each at its place, and what is chosen of them.
-use Rattle.std.proofs.Common.{◌≡◌, ℕ, suc, ◌+◌, List, [], ◌∷◌, Option, Some, None, refl, ◌∙◌, arith}
-use Rattle.std.specs.Prelude.{option_map}
-use Rattle.std.specs.List.{cons_option}
-use Rattle.meson_lex.specs.declared.kinds.Span.{Span}
-use Rattle.meson_syntax.specs.Children.{a_block}
-use Rattle.meson_syntax.specs.inside.Children.{node_at}
-use Rattle.meson_syntax.specs.Paths.{block_of}
-use Rattle.meson_syntax.proofs.paths.Every.{Every, every-append}
-use Rattle.meson_calls.specs.Calls.{all_chosen}
-use Rattle.meson_calls.specs.Parts.{Part, parts_from, parts_of_file}
-use Rattle.meson_calls.specs.Project.{Project, BuildFile, Placed, placed, nth_file}
+use Rattle.meson_calls.proofs.Words.{cons_option, option_map, ◌≡◌, ℕ, suc, ◌+◌, List, [], ◌∷◌, Option, Some, None, refl, ◌∙◌, arith, Span, a_block, block_of}
+use Rattle.meson_calls.proofs.Words.{node_at, Every, every-append, all_chosen, Part, parts_from, parts_of_file, Project, BuildFile, Placed, placed, nth_file}
 use Rattle.meson_calls.proofs.Reached.{Each, file_each}
 use Rattle.meson_calls.proofs.nodes.PartsBelow.{any}
 

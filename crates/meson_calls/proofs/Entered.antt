@@ -1,19 +1,13 @@
 -- The files that a file enters.
-use Rattle.std.proofs.Common.{◌≡◌, ℕ, ◌+◌, ◌<◌, ◌≤◌, List, [], ◌∷◌, ◌++◌, length, drop, get_or, refl, sym, ap, ◌∙◌, inl, inr}
-use Rattle.std.specs.Prelude.{Bool, true, false, Option, Some, None, option_map, option_and_then, if◌then◌else◌, ◌==◌, codes}
-use Rattle.std.specs.List.{cons_option, filter_map}
-use Rattle.std.proofs.lemmas.Bool.Decides.{eqb_tells}
-use Rattle.std.proofs.lemmas.List.{append_assoc, append-nil, append_cancel_right, at_drop_more, at_drop_all}
-use Rattle.meson_lex.specs.declared.kinds.Span.{Span}
-use Rattle.meson_syntax.specs.Tree.{File, evaluate, assign, selection, iteration, breaks, continues}
+use Rattle.meson_calls.proofs.Words.{cons_option, filter_map, false, option_map, option_and_then, if◌then◌else◌, ◌==◌, codes, ◌≡◌, ℕ, ◌+◌, ◌<◌, ◌≤◌, List, []}
+use Rattle.meson_calls.proofs.Words.{◌∷◌, ◌++◌, length, drop, get_or, refl, sym, ap, ◌∙◌, inl, inr, Bool, true, Option, Some, None, eqb_tells, append_assoc}
+use Rattle.meson_calls.proofs.Words.{append-nil, append_cancel_right, at_drop_more, at_drop_all, Span, evaluate, assign, selection, iteration, breaks}
+use Rattle.meson_calls.proofs.Words.{continues, Call, call_of, part_call, all_chosen, first_literal, calls_function, note_enters, entered_names, parts_after}
+use Rattle.meson_calls.proofs.Words.{folder_parts, folder_of, build_file, in_folder, is_plain_folder, file_in, IsFileName, a_call, note_of, noted, note_view}
+use Rattle.meson_calls.proofs.Words.{note_views, Part, parts_of_file, Placed, placed, entered, subdirs, meant_file}
+use Rattle.meson_syntax.specs.Tree.{File}
 use Rattle.meson_calls.specs.declared.note.Note as code
-use Rattle.meson_calls.specs.Project.{Placed, placed}
-use Rattle.meson_calls.specs.Parts.{Part, an_expression, a_statement, parts_of_file}
-use Rattle.meson_calls.specs.Calls.{Call, call_of, part_call, all_chosen, first_literal, calls_function}
-use Rattle.meson_calls.specs.Folders.{parts_after, folder_parts, folder_of, build_file, in_folder, is_plain_folder, file_in, IsFileName}
-use Rattle.meson_calls.specs.Notes.{a_call, note_of, noted, note_view, note_views}
-use Rattle.meson_calls.specs.ChosenNotes.{note_enters, entered_names}
-use Rattle.meson_calls.specs.Subdirs.{entered, subdirs, meant_file}
+use Rattle.meson_calls.specs.Parts.{an_expression, a_statement}
 use Rattle.meson_calls.proofs.SlashParts.{other_byte, slash}
 
 -- ---- the folder of a name

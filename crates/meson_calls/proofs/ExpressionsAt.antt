@@ -1,20 +1,9 @@
 -- The expression at a place of a project, and the list of an array, a dictionary or a call there.
-use Rattle.std.proofs.Common.{◌≡◌, ℕ, ◌+◌, [], ◌∷◌, ◌++◌, Some, ap, ◌∙◌, arith}
-use Rattle.std.specs.Prelude.{option_and_then}
-use Rattle.meson_lex.specs.declared.kinds.Span.{Span}
-use Rattle.meson_syntax.specs.declared.operator.Assignment.{Assignment}
-use Rattle.meson_syntax.specs.Tree.{Name, Expression, assign}
-use Rattle.meson_syntax.specs.Children.{an_expression, a_statement, a_block}
-use Rattle.meson_syntax.specs.inside.Children.{expression_parts, node_at, expression_any}
-use Rattle.meson_syntax.specs.Paths.{nth, ListIn, list_in, block_of}
+use Rattle.meson_calls.proofs.Words.{option_and_then, ◌≡◌, ℕ, ◌+◌, [], ◌∷◌, ◌++◌, Some, ap, ◌∙◌, arith, Span, an_expression, a_statement, a_block, nth, ListIn}
+use Rattle.meson_calls.proofs.Words.{list_in, block_of, Name, Expression, assign, Assignment, expression_parts, node_at, expression_any, expression-reached}
+use Rattle.meson_calls.proofs.Words.{and-then-some, ListThere, Part, Project, BuildFile, Placed, child, nth_file, expression_at, CallRef}
 use Rattle.meson_syntax.specs.Paths as paths
-use Rattle.meson_syntax.proofs.PathNodes.{expression-reached}
-use Rattle.meson_syntax.proofs.paths.Reaching.{and-then-some}
-use Rattle.meson_calls.specs.declared.call.CallRef.{CallRef}
-use Rattle.meson_calls.specs.Parts.{Part}
 use Rattle.meson_calls.specs.Parts as part
-use Rattle.meson_calls.specs.Project.{Project, BuildFile, Placed, child, nth_file, expression_at}
-use Rattle.meson_calls.specs.CallPlaces.{ListThere}
 use Rattle.meson_calls.proofs.CallsReached.{InProject}
 use Rattle.meson_calls.proofs.ListNodes.{list_of, node_below, value_below}
 use Rattle.meson_calls.proofs.nodes.PartsBelow.{any}

@@ -1,10 +1,6 @@
 -- Names of build files.
-use Rattle.std.proofs.Common.{◌≡◌, ℕ, List, sym, ap, ◌∙◌, inl, inr}
-use Rattle.std.specs.Prelude.{Bool, false, IsTrue, codes, bytes_eq}
-use Rattle.std.proofs.lemmas.Bool.Decides.{not_from_Decides}
-use Rattle.std.proofs.lemmas.Slice.Eq.{bytes_eq-Decides}
-use Rattle.std.proofs.lemmas.List.{append_cancel_right}
-use Rattle.meson_calls.specs.Folders.{build_file, in_folder, is_plain_folder, IsFileName}
+use Rattle.meson_calls.proofs.Words.{false, IsTrue, codes, bytes_eq, ◌≡◌, ℕ, List, sym, ap, ◌∙◌, inl, inr, Bool, not_from_Decides, append_cancel_right}
+use Rattle.meson_calls.proofs.Words.{bytes_eq-Decides, build_file, in_folder, is_plain_folder, IsFileName}
 
 -- a name that ends in a slash and `meson.build`
 module _ (name folder : List ℕ) (b : Bool) (is : name ≡ in_folder folder) (plain : b ≡ is_plain_folder folder) where

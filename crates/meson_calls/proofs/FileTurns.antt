@@ -1,16 +1,7 @@
 -- The parts of files, one after another.
-use Rattle.std.proofs.Common.{◌≡◌, ℕ, ◌+◌, ◌<◌, ◌≤◌, List, [], ◌∷◌, ◌++◌, length, drop, get_or, sym, ap, ◌∙◌}
-use Rattle.std.proofs.lemmas.List.{at_drop_more, at_drop_all}
-use Rattle.std.proofs.lemmas.List.Sums.{fold-append}
-use Rattle.meson_lex.specs.declared.kinds.Span.{Span}
-use Rattle.meson_splice.specs.declared.file_set.File.{File}
-use Rattle.meson_splice.specs.Files.{bytes_at}
-use Rattle.meson_syntax.specs.declared.tree.Parsed.{Parsed}
-use Rattle.meson_syntax.specs.View.{view}
-use Rattle.meson_calls.specs.Project.{Placed}
-use Rattle.meson_calls.specs.Parts.{Part, parts_from, parts_of_file}
-use Rattle.meson_calls.specs.Loading.{named_trees, views}
-use Rattle.meson_calls.specs.Walks.{KeptParts, with_part, with_parts}
+use Rattle.meson_calls.proofs.Words.{◌≡◌, ℕ, ◌+◌, ◌<◌, ◌≤◌, List, [], ◌∷◌, ◌++◌, length, drop, get_or, sym, ap, ◌∙◌, at_drop_more, at_drop_all, fold-append}
+use Rattle.meson_calls.proofs.Words.{bytes_at, File, Span, view, Parsed, named_trees, views, Part, parts_from, parts_of_file, Placed, KeptParts, with_part}
+use Rattle.meson_calls.proofs.Words.{with_parts}
 use Rattle.meson_calls.proofs.Loads.{nth_bytes}
 
 -- the parts of files with trees, of which the first has the number n

@@ -1,16 +1,9 @@
 -- The first argument without a name, one argument after another.
-use Rattle.std.proofs.Common.{rules, ◌≡◌, ℕ, ◌+◌, ◌<◌, ◌≤◌, List, ◌∷◌, length, drop, get_or, refl, sym, ap, ◌∙◌}
-use Rattle.std.specs.Prelude.{Option, Some, None, option_map, is_some, MatchOption}
-use Rattle.std.specs.List.{filter_map, cons_option}
-use Rattle.std.proofs.lemmas.List.{at_drop_more, at_drop_all}
-use Rattle.meson_lex.specs.declared.kinds.Span.{Span}
-use Rattle.meson_syntax.specs.declared.tree.Arg.{Arg}
+use Rattle.meson_calls.proofs.Words.{filter_map, cons_option, option_map, is_some, MatchOption, rules, ◌≡◌, ℕ, ◌+◌, ◌<◌, ◌≤◌, List, ◌∷◌, length, drop, get_or}
+use Rattle.meson_calls.proofs.Words.{refl, sym, ap, ◌∙◌, Option, Some, None, at_drop_more, at_drop_all, Span, Expression, listing, arguments_of, arg_view}
+use Rattle.meson_calls.proofs.Words.{args_view, list_view, Arg, numbered, kept_number, value_without_name, first_of, first_argument, call_with}
 use Rattle.meson_syntax.specs.declared.tree.Arg.TheFolds.{the_lemmas}
 use Rattle.meson_syntax.specs.declared.tree.List as rust
-use Rattle.meson_syntax.specs.Tree.{Expression, listing, arguments_of}
-use Rattle.meson_syntax.specs.View.{arg_view, args_view, list_view}
-use Rattle.meson_calls.specs.Calls.{numbered, kept_number, value_without_name, first_of, first_argument}
-use Rattle.meson_calls.specs.ChosenNotes.{call_with}
 
 module _ (source : List ℕ) where
   -- of arguments of which the first has the number n

@@ -1,11 +1,6 @@
 -- The first argument of a name: it is there, and its value is the first of that name.
-use Rattle.std.proofs.Common.{◌≡◌, ℕ, ◌+◌, ◌<◌, List, length, drop, get_or, refl, ap, ◌∙◌}
-use Rattle.std.specs.Prelude.{true, Option, Some, None, is_some, option_map}
-use Rattle.std.specs.List.{cons_option}
-use Rattle.meson_syntax.specs.declared.tree.Arg.{Arg}
-use Rattle.meson_syntax.specs.View.{arg_view}
-use Rattle.meson_calls.specs.Calls.{value_with_name}
-use Rattle.meson_calls.specs.NamedArguments.{kept_args, IsFirstNamed}
+use Rattle.meson_calls.proofs.Words.{cons_option, is_some, option_map, ◌≡◌, ℕ, ◌+◌, ◌<◌, List, length, drop, get_or, refl, ap, ◌∙◌, true, Option, Some, None}
+use Rattle.meson_calls.proofs.Words.{arg_view, Arg, value_with_name, kept_args, IsFirstNamed}
 use Rattle.meson_calls.proofs.ArgumentViews.{nth_there}
 use Rattle.meson_calls.proofs.KeptArguments.{kept_here}
 

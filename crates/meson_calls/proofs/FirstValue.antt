@@ -1,19 +1,9 @@
 -- The first element of a list of arguments that has a name: its value is the code's.
-use Rattle.std.proofs.Common.{◌≡◌, ℕ, ◌<◌, List, length, get_or, sym, ap, ◌∙◌, subst}
-use Rattle.std.specs.Prelude.{Bool, true, false, Some, None, if◌then◌else◌, bytes_eq}
-use Rattle.meson_lex.specs.declared.kinds.Span.{Span}
-use Rattle.meson_syntax.specs.declared.tree.Arg.{Arg}
+use Rattle.meson_calls.proofs.Words.{false, if◌then◌else◌, bytes_eq, ◌≡◌, ℕ, ◌<◌, List, length, get_or, sym, ap, ◌∙◌, subst, Bool, true, Some, None, Span}
+use Rattle.meson_calls.proofs.Words.{argument_words, expression_words, Name, Expression, plain, named, arg_view, expr_view, name_at, Arg, Expr, some-injective}
+use Rattle.meson_calls.proofs.Words.{value_with_name, GoodArgs, IsFirstNamed, AreGood}
 use Rattle.meson_syntax.specs.declared.tree.Arg.TheVariants as arg
-use Rattle.meson_syntax.specs.declared.tree.Expr.{Expr}
-use Rattle.meson_syntax.specs.Tree.{Name, Expression, plain, named}
-use Rattle.meson_syntax.specs.View.{arg_view, expr_view, name_at}
-use Rattle.meson_syntax.proofs.parsing.Steps.{some-injective}
-use Rattle.meson_calls.specs.Calls.{value_with_name}
 use Rattle.meson_calls.proofs.ArgumentViews.{nth_there, named_view, pair_view, plain_view}
-use Rattle.meson_syntax.specs.Grammar.{argument_words, expression_words}
-use Rattle.meson_calls.specs.GoodLists.{GoodArgs}
-use Rattle.meson_calls.specs.NamedArguments.{IsFirstNamed}
-use Rattle.meson_calls.specs.Strings.{AreGood}
 use Rattle.meson_calls.proofs.Nested.{good_arg}
 
 of_named : (key : List ℕ) (s : Span) (x : Name Span) (e v : Expression Span) → value_with_name key (named s x e) ≡ Some v → v ≡ e

@@ -1,18 +1,11 @@
 -- Strings among the arguments of a call.
-use Rattle.std.proofs.Common.{◌≡◌, ℕ, ◌+◌, List, ◌++◌, subst}
-use Rattle.std.specs.Prelude.{Bool, Option, Some, None, option_map}
-use Rattle.std.specs.List.{filter_map}
-use Rattle.meson_lex.specs.Kinds.{IsString}
+use Rattle.meson_calls.proofs.Words.{filter_map, option_map, ◌≡◌, ℕ, ◌+◌, List, ◌++◌, subst, Bool, Option, Some, None, IsString, mark, comma_words}
+use Rattle.meson_calls.proofs.Words.{expression_words, argument_words, arguments_words, listing_words, string_kind, Expression, Listing, listing, plain, named}
+use Rattle.meson_calls.proofs.Words.{pair, Arguments, no_arguments, argument, StringKind, numbered, kept_number, value_without_name, first_of, first_argument}
+use Rattle.meson_calls.proofs.Words.{call_with, IsGood, AreGood}
 use Rattle.meson_lex.specs.declared.kinds.Kind.TheVariants as k
 use Rattle.meson_syntax.specs.declared.operator.Bracket.TheVariants as bracket
-use Rattle.meson_syntax.specs.declared.operator.StringKind.{StringKind}
 use Rattle.meson_syntax.specs.declared.operator.StringKind.TheVariants as quotes
-use Rattle.meson_syntax.specs.Operators.{string_kind}
-use Rattle.meson_syntax.specs.Tree.{Expression, Listing, listing, plain, named, pair, Arguments, no_arguments, argument}
-use Rattle.meson_syntax.specs.Grammar.{mark, comma_words, expression_words, argument_words, arguments_words, listing_words}
-use Rattle.meson_calls.specs.Calls.{numbered, kept_number, value_without_name, first_of, first_argument}
-use Rattle.meson_calls.specs.ChosenNotes.{call_with}
-use Rattle.meson_calls.specs.Strings.{IsGood, AreGood}
 use Rattle.meson_calls.proofs.GoodParts.{good_left, good_right}
 
 pub string_good : (q : StringKind) (x : List ℕ) → IsGood (string_kind q) x → IsString (string_kind q) x

@@ -1,24 +1,13 @@
 -- Notes of trees whose strings are of their kinds.
-use Rattle.std.proofs.Common.{rules, ◌≡◌, ℕ, zero, suc, ◌+◌, ◌<◌, List, [], ◌∷◌, ◌++◌, length, get_or, arith, sym, subst}
-use Rattle.std.specs.Prelude.{option_map}
-use Rattle.std.specs.List.{cons_option}
-use Rattle.meson_lex.specs.declared.kinds.Span.{Span}
-use Rattle.meson_splice.specs.declared.file_set.File.{File}
-use Rattle.meson_syntax.specs.declared.tree.Parsed.{Parsed}
+use Rattle.meson_calls.proofs.Words.{cons_option, option_map, rules, ◌≡◌, ℕ, zero, suc, ◌+◌, ◌<◌, List, [], ◌∷◌, ◌++◌, length, get_or, arith, sym, subst, File}
+use Rattle.meson_calls.proofs.Words.{Span, IsSpanned, call, assign, iteration, erase, name_at, expr_view, list_view, view, Parsed, file-words-erased, AreParsed}
+use Rattle.meson_calls.proofs.Words.{named_trees, views, Note, note_of, noted, notes, note_view, note_views, Part, parts_from, parts_of_file, Placed, placed}
+use Rattle.meson_calls.proofs.Words.{AreGood, PartsGood, NotesGood, note_words, part_words, CallRef}
 use Rattle.meson_syntax.specs.declared.tree.Expr.TheVariants as expr
 use Rattle.meson_syntax.specs.declared.tree.List as rust
 use Rattle.meson_syntax.specs.declared.tree.Arg.TheFolds.{the_lemmas}
-use Rattle.meson_syntax.specs.Tree.{call, assign, iteration, erase}
-use Rattle.meson_syntax.specs.View.{name_at, expr_view, list_view, view}
-use Rattle.meson_syntax.specs.Reads.{IsSpanned}
-use Rattle.meson_syntax.proofs.parsing.FileErased.{file-words-erased}
 use Rattle.meson_calls.specs.declared.note.Note as code
-use Rattle.meson_calls.specs.declared.call.CallRef.{CallRef}
-use Rattle.meson_calls.specs.Project.{Placed, placed}
-use Rattle.meson_calls.specs.Parts.{Part, an_expression, a_statement, parts_from, parts_of_file}
-use Rattle.meson_calls.specs.Loading.{AreParsed, named_trees, views}
-use Rattle.meson_calls.specs.Notes.{Note, note_of, noted, notes, note_view, note_views}
-use Rattle.meson_calls.specs.Strings.{AreGood, PartsGood, NotesGood, note_words, part_words}
+use Rattle.meson_calls.specs.Parts.{an_expression, a_statement}
 use Rattle.meson_calls.proofs.GoodParts.{file_good}
 use Rattle.meson_calls.proofs.GoodTexts.{text_good}
 

@@ -1,17 +1,8 @@
 -- Where the strings of a tree are of their kinds, so are those of all its parts.
-use Rattle.std.proofs.Common.{◌≡◌, ℕ, List, [], ◌∷◌, ◌++◌, Some, subst}
-use Rattle.meson_lex.specs.Significant.{Word}
-use Rattle.meson_syntax.specs.Tree.{File, file}
-use Rattle.meson_syntax.specs.Children.{Any, a_block}
-use Rattle.meson_syntax.specs.inside.Children.{child_nodes}
-use Rattle.meson_syntax.specs.Paths.{nth}
-use Rattle.meson_syntax.specs.Grammar.{file_words}
-use Rattle.meson_syntax.proofs.paths.Every.{Every}
-use Rattle.meson_calls.specs.declared.call.CallRef.{CallRef}
-use Rattle.meson_calls.specs.Project.{Placed, place}
-use Rattle.meson_calls.specs.Parts.{Part, parts_of_file}
+use Rattle.meson_calls.proofs.Words.{◌≡◌, ℕ, List, [], ◌∷◌, ◌++◌, Some, subst, Word, Any, a_block, file_words, nth, file, child_nodes, Every, Part}
+use Rattle.meson_calls.proofs.Words.{parts_of_file, Placed, place, AreGood, PartsGood, part_words, CallRef}
+use Rattle.meson_syntax.specs.Tree.{File}
 use Rattle.meson_calls.specs.Parts as part
-use Rattle.meson_calls.specs.Strings.{AreGood, PartsGood, part_words}
 use Rattle.meson_calls.proofs.nodes.ChildWords.{child_words, words_of}
 use Rattle.meson_calls.proofs.nodes.EachPart.{each_part}
 use Rattle.meson_calls.proofs.nodes.PartsBelow.{any, parts_of}

@@ -1,15 +1,8 @@
 -- The strings and names of a tree that a text reads as are of their kinds, since they are items of the text.
-use Rattle.std.proofs.Common.{ℕ, List, [], ◌∷◌, ◌++◌, subst}
-use Rattle.std.specs.Prelude.{Bool, true, false}
-use Rattle.meson_lex.specs.declared.kinds.Kind.{Kind}
-use Rattle.meson_lex.specs.declared.kinds.Kind.TheVariants.{Identifier, PlainString, MultilineString, FormatString, FormatMultilineString}
-use Rattle.meson_lex.specs.Items.{Lexeme, AreItems}
-use Rattle.meson_lex.specs.Kinds.{OfKind}
-use Rattle.meson_lex.specs.Significant.{Word, kept, Role, Gap, Ends, Opens, Closes, Other, role, State, start, step, after, emit, emit_by, emitted, only_if, ends_line, closing, new_line}
-use Rattle.meson_syntax.specs.Tree.{Plain}
-use Rattle.meson_syntax.specs.Grammar.{file_words}
-use Rattle.meson_syntax.specs.Reads.{Spells}
-use Rattle.meson_calls.specs.Strings.{IsGood, AreGood}
+use Rattle.meson_calls.proofs.Words.{false, ℕ, List, [], ◌∷◌, ◌++◌, subst, Bool, true, Lexeme, AreItems, OfKind, Word, kept, Gap, Ends, Opens, Closes, Other}
+use Rattle.meson_calls.proofs.Words.{role, State, start, step, after, emit, emit_by, emitted, only_if, ends_line, closing, new_line, Kind, Identifier}
+use Rattle.meson_calls.proofs.Words.{PlainString, MultilineString, FormatString, FormatMultilineString, file_words, Spells, Plain, IsGood, AreGood}
+use Rattle.meson_lex.specs.Significant.{Role}
 
 both : (xs ys : List Word) → AreGood xs → AreGood ys → AreGood (xs ++ ys)
 both [] ys a b = b

@@ -1,13 +1,8 @@
 -- An identifier has ASCII characters alone, and so has the name of a keyword argument: they are texts.
-use Rattle.std.proofs.Common.{◌≡◌, ℕ, ◌<◌, true, List, [], ◌∷◌, arith}
-use Rattle.std.specs.List.{list_all}
-use Rattle.std.specs.Str.{IsAscii, IsUtf8}
-use Rattle.std.proofs.lemmas.Bool.{and_parts}
-use Rattle.std.proofs.lemmas.Bool.Decides.{nat_tests}
-use Rattle.std.proofs.lemmas.Str.{IsUtf8-from_ascii}
+use Rattle.meson_calls.proofs.Words.{list_all, IsAscii, IsUtf8, ◌≡◌, ℕ, ◌<◌, true, List, [], ◌∷◌, arith, and_parts, nat_tests, IsUtf8-from_ascii, IsIdentifier}
+use Rattle.meson_calls.proofs.Words.{IsWord}
 use Rattle.std.proofs.lemmas.Str.Ascii.{IsAscii-nil, IsAscii-cons}
 use Rattle.meson_lex.specs.Bytes.{is_word_byte, is_word_start}
-use Rattle.meson_lex.specs.Kinds.{IsIdentifier, IsWord}
 
 start_low : (b : ℕ) → is_word_start b ≡ true → b < 128
 start_low b is = grind (arith, nat_tests)

@@ -1,13 +1,6 @@
 -- Arguments that a test keeps, one after another.
-use Rattle.std.proofs.Common.{◌≡◌, ℕ, ◌+◌, ◌<◌, ◌≤◌, List, [], length, drop, get_or, refl, ap, ◌∙◌}
-use Rattle.std.specs.Prelude.{true, false, Option, Some, None, is_some, option_map}
-use Rattle.std.specs.List.{cons_option}
-use Rattle.std.proofs.lemmas.List.{at_drop_more, at_drop_all}
-use Rattle.meson_lex.specs.declared.kinds.Span.{Span}
-use Rattle.meson_syntax.specs.declared.tree.Arg.{Arg}
-use Rattle.meson_syntax.specs.Tree.{Argument}
-use Rattle.meson_syntax.specs.View.{arg_view}
-use Rattle.meson_calls.specs.NamedArguments.{rest, kept_args, kept_arg, number_behind}
+use Rattle.meson_calls.proofs.Words.{cons_option, false, is_some, option_map, ◌≡◌, ℕ, ◌+◌, ◌<◌, ◌≤◌, List, [], length, drop, get_or, refl, ap, ◌∙◌, true}
+use Rattle.meson_calls.proofs.Words.{Option, Some, None, at_drop_more, at_drop_all, Span, Argument, arg_view, Arg, rest, kept_args, kept_arg, number_behind}
 
 module _ {Y : Type 0} (source : List ℕ) (choose : Argument Span → Option Y) where
   pub kept_here : (args : List Arg) (i : ℕ) (d : Arg) → i < length args →

@@ -1,9 +1,5 @@
 -- The arguments of a name, of a call and of the code's list.
-use Rattle.std.proofs.Common.{◌≡◌, ℕ, List, ap}
-use Rattle.meson_syntax.specs.View.{list_view}
-use Rattle.meson_calls.specs.Calls.{keyword, value_with_name}
-use Rattle.meson_calls.specs.ChosenNotes.{call_with}
-use Rattle.meson_calls.specs.NamedArguments.{kept_args}
+use Rattle.meson_calls.proofs.Words.{◌≡◌, ℕ, List, ap, list_view, keyword, value_with_name, call_with, kept_args}
 use Rattle.meson_calls.proofs.Listed.{list_is}
 use Rattle.meson_syntax.specs.declared.tree.List as rust
 

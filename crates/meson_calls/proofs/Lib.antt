@@ -1,3 +1,4 @@
+mod Words
 pub mod nodes
 pub mod IdentifierTexts
 pub mod SlashParts

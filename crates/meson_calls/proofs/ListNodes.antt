@@ -1,18 +1,12 @@
 -- What a list holds by its bracket; the array, dictionary or call whose list a path names, and the nodes below it.
-use Rattle.std.proofs.Common.{◌≡◌, ℕ, zero, suc, Bool, true, false, List, [], ◌∷◌, ◌++◌, Option, Some, None, refl, sym, ap, ◌∙◌}
-use Rattle.std.specs.Prelude.{option_map, option_and_then}
-use Rattle.meson_lex.specs.Significant.{Word}
-use Rattle.meson_syntax.specs.declared.operator.Bracket.{Bracket}
+use Rattle.meson_calls.proofs.Words.{false, option_map, option_and_then, ◌≡◌, ℕ, zero, suc, Bool, true, List, [], ◌∷◌, ◌++◌, Option, Some, None, refl, sym, ap}
+use Rattle.meson_calls.proofs.Words.{◌∙◌, Word, Any, an_expression, a_statement, a_block, LevelArguments, holds_values, holds_pairs, Sort, of_expression}
+use Rattle.meson_calls.proofs.Words.{of_statement, of_block, Node, Hole, nth, reach, block_of, expression_of, expression_on_path, ListIn, list_in, ListAt}
+use Rattle.meson_calls.proofs.Words.{list_within, list_of_node, list_at, Expression, plain, named, pair, is_named, Arguments, no_arguments, argument}
+use Rattle.meson_calls.proofs.Words.{argument_list, Block, Bracket, expression_parts, expression_any, child_nodes, node_at, expression-reached, some-injective}
+use Rattle.meson_calls.proofs.Words.{map-some, and-then-some}
 use Rattle.meson_syntax.specs.declared.operator.Bracket.TheVariants as bracket
-use Rattle.meson_syntax.specs.Operators.{holds_values, holds_pairs}
-use Rattle.meson_syntax.specs.Tree.{Expression, plain, named, pair, is_named, Arguments, no_arguments, argument, argument_list, Block, File}
-use Rattle.meson_syntax.specs.Grammar.{LevelArguments}
-use Rattle.meson_syntax.specs.Children.{Any, an_expression, a_statement, a_block}
-use Rattle.meson_syntax.specs.inside.Children.{expression_parts, expression_any, child_nodes, node_at}
-use Rattle.meson_syntax.specs.Paths.{Sort, of_expression, of_statement, of_block, Node, Hole, nth, reach, block_of, expression_of, expression_on_path, ListIn, list_in, ListAt, list_within, list_of_node, list_at}
-use Rattle.meson_syntax.proofs.PathNodes.{expression-reached}
-use Rattle.meson_syntax.proofs.parsing.Steps.{some-injective}
-use Rattle.meson_syntax.proofs.paths.Reaching.{map-some, and-then-some}
+use Rattle.meson_syntax.specs.Tree.{File}
 
 -- ---- what a list holds
 

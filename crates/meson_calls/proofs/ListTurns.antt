@@ -1,14 +1,8 @@
 -- The parts of arguments, operands and tails over a source, and how many children they count.
-use Rattle.std.proofs.Common.{ℕ, List}
-use Rattle.meson_lex.specs.declared.kinds.Span.{Span}
-use Rattle.meson_syntax.specs.declared.tree.Arg.{Arg}
-use Rattle.meson_syntax.specs.declared.tree.Operand.{Operand}
+use Rattle.meson_calls.proofs.Words.{ℕ, List, Span, arguments_of, operands_of, tails_of, arg_view, args_view, operand_view, operands_view, tail_view}
+use Rattle.meson_calls.proofs.Words.{tails_view, Arg, Operand, Part, parts_of_expression, parts_of_argument, parts_of_arguments, parts_of_operands}
+use Rattle.meson_calls.proofs.Words.{parts_of_tail, parts_of_tails, argument_child_count, arguments_child_count, tail_child_count, Placed, child, CallRef}
 use Rattle.meson_syntax.specs.declared.tree.Tail as rust_tail
-use Rattle.meson_syntax.specs.Tree.{arguments_of, operands_of, tails_of}
-use Rattle.meson_syntax.specs.View.{arg_view, args_view, operand_view, operands_view, tail_view, tails_view}
-use Rattle.meson_calls.specs.declared.call.CallRef.{CallRef}
-use Rattle.meson_calls.specs.Project.{Placed, child}
-use Rattle.meson_calls.specs.Parts.{Part, parts_of_expression, parts_of_argument, parts_of_arguments, parts_of_operands, parts_of_tail, parts_of_tails, argument_child_count, arguments_child_count, tail_child_count}
 
 module _ (source : List ℕ) where
   abbrev pub args_size : Arg → ℕ

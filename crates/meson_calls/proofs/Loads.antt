@@ -1,17 +1,10 @@
 -- Files that were looked at one after another.
-use Rattle.std.proofs.Common.{◌≡◌, ℕ, zero, suc, ◌+◌, ◌<◌, List, [], ◌∷◌, ◌++◌, length, get_or, take, refl, sym, ap, ◌∙◌, subst, arith}
-use Rattle.std.specs.Prelude.{All}
-use Rattle.std.proofs.Math.Seq.{take-suc}
-use Rattle.std.proofs.lemmas.List.Elements.{All-append, All-cons, All-nil}
-use Rattle.meson_splice.specs.declared.file_set.File.{File}
-use Rattle.meson_splice.specs.Files.{bytes_at}
-use Rattle.meson_syntax.specs.declared.tree.Parsed.{Parsed}
+use Rattle.meson_calls.proofs.Words.{All, ◌≡◌, ℕ, zero, suc, ◌+◌, ◌<◌, List, [], ◌∷◌, ◌++◌, length, get_or, take, refl, sym, ap, ◌∙◌, subst, arith, take-suc}
+use Rattle.meson_calls.proofs.Words.{All-append, All-cons, All-nil, bytes_at, File, IsSpanned, MayNotRead, view, Parsed, name_of_file, AreParsed, HasTree}
+use Rattle.meson_calls.proofs.Words.{IsFirstUnread}
 use Rattle.meson_syntax.specs.declared.fault.ParseFault.{ParseFault}
-use Rattle.meson_syntax.specs.Reads.{IsSpanned, MayNotRead}
-use Rattle.meson_syntax.specs.View.{view}
 use Rattle.meson_calls.specs.declared.load_fault.LoadFault.{LoadFault}
 use Rattle.meson_calls.specs.declared.load_fault.LoadFault.TheVariants.{TooManyFiles, BadFileName, Parse, OutOfMemory}
-use Rattle.meson_calls.specs.Loading.{name_of_file, AreParsed, HasTree, IsFirstUnread}
 use Rattle.meson_calls.specs.inside.Loads.{TellsFault, MayNotParse}
 
 pub take_more : {X : Type 0} (xs : List X) (i : ℕ) (d : X) → i < length xs → take (i + 1) xs ≡ take i xs ++ get_or xs i d ∷ []

@@ -1,21 +1,12 @@
 -- Elements of lists and operands of rows: their strings, and what the code's nodes stand for.
-use Rattle.std.proofs.Common.{rules, ◌≡◌, ℕ, zero, suc, ◌<◌, List, [], ◌∷◌, ◌++◌, length, get_or, subst, arith}
-use Rattle.std.specs.Prelude.{Bool}
-use Rattle.meson_lex.specs.declared.kinds.Span.{Span}
-use Rattle.meson_syntax.specs.declared.operator.Bracket.{Bracket}
-use Rattle.meson_syntax.specs.Operators.{closes}
-use Rattle.meson_syntax.specs.declared.tree.Arg.{Arg}
+use Rattle.meson_calls.proofs.Words.{rules, ◌≡◌, ℕ, zero, suc, ◌<◌, List, [], ◌∷◌, ◌++◌, length, get_or, subst, arith, Bool, Span, mark, operator_words}
+use Rattle.meson_calls.proofs.Words.{expression_words, operands_words, argument_words, arguments_words, comma_words, listing_words, closes, identifier, array}
+use Rattle.meson_calls.proofs.Words.{call, Listing, listing, plain, Arguments, no_arguments, argument, operands_of, name_at, text_at, expr_view, list_view}
+use Rattle.meson_calls.proofs.Words.{arg_view, operand_view, operands_view, Bracket, Arg, Expr, Operand, GoodArguments, GoodListing, GoodArgs, AreGood}
 use Rattle.meson_syntax.specs.declared.tree.Arg.TheVariants as arg
 use Rattle.meson_syntax.specs.declared.tree.Arg.TheFolds.{the_lemmas}
-use Rattle.meson_syntax.specs.declared.tree.Expr.{Expr}
 use Rattle.meson_syntax.specs.declared.tree.Expr.TheVariants as expr
-use Rattle.meson_syntax.specs.declared.tree.Operand.{Operand}
 use Rattle.meson_syntax.specs.declared.tree.List as rust
-use Rattle.meson_syntax.specs.Tree.{identifier, array, call, Listing, listing, plain, Arguments, no_arguments, argument, operands_of}
-use Rattle.meson_syntax.specs.Grammar.{mark, operator_words, expression_words, operands_words, argument_words, arguments_words, comma_words, listing_words}
-use Rattle.meson_syntax.specs.View.{name_at, text_at, expr_view, list_view, arg_view, operand_view, operands_view}
-use Rattle.meson_calls.specs.Strings.{AreGood}
-use Rattle.meson_calls.specs.GoodLists.{GoodArguments, GoodListing, GoodArgs}
 use Rattle.meson_calls.proofs.GoodParts.{good_left, good_right}
 use Rattle.meson_calls.proofs.Listed.{list_is}
 use Rattle.meson_calls.proofs.Parted.{operand_value}

@@ -1,20 +1,10 @@
 -- A file in whose bytes the word stands nowhere enters no file.
-use Rattle.std.specs.Prelude.{if◌then◌else◌}
-use Rattle.std.proofs.Common.{◌≡◌, ℕ, List, [], ◌∷◌, ◌++◌, Bool, false, codes, Option, Some, None, is_some, option_map, refl, sym, ap, ◌∙◌, subst}
-use Rattle.std.specs.List.{cons_option, filter_map}
-use Rattle.memchr.specs.Find.{FindsNeedle}
-use Rattle.meson_lex.specs.declared.kinds.Span.{Span}
-use Rattle.meson_syntax.specs.Reads.{IsSpanned}
-use Rattle.meson_syntax.specs.Texts.{texts_of_listing}
-use Rattle.meson_syntax.specs.Tree.{call, File}
-use Rattle.meson_syntax.specs.View.{text_at}
-use Rattle.meson_syntax.proofs.parsing.Steps.{some-injective}
-use Rattle.meson_syntax.proofs.paths.Every.{every-append}
-use Rattle.meson_calls.specs.Calls.{Call, all_chosen, part_call}
-use Rattle.meson_calls.specs.Parts.{Part, an_expression, parts_of_file}
-use Rattle.meson_calls.specs.Project.{Placed, placed}
-use Rattle.meson_calls.specs.Spelling.{HasNone}
-use Rattle.meson_calls.specs.Subdirs.{HasNoSubdir, entered, subdirs, meant_file}
+use Rattle.meson_calls.proofs.Words.{cons_option, filter_map, if◌then◌else◌, false, codes, is_some, option_map, ◌≡◌, ℕ, List, [], ◌∷◌, ◌++◌, Bool, Option, Some}
+use Rattle.meson_calls.proofs.Words.{None, refl, sym, ap, ◌∙◌, subst, FindsNeedle, Span, IsSpanned, texts_of_listing, call, text_at, some-injective}
+use Rattle.meson_calls.proofs.Words.{every-append, Call, all_chosen, part_call, Part, parts_of_file, Placed, placed, HasNone, HasNoSubdir, entered, subdirs}
+use Rattle.meson_calls.proofs.Words.{meant_file}
+use Rattle.meson_syntax.specs.Tree.{File}
+use Rattle.meson_calls.specs.Parts.{an_expression}
 use Rattle.meson_calls.proofs.Spelled.{found_or_none, differs}
 use Rattle.meson_calls.proofs.StandingParts.{PartsStand, texts_of_part, parts_stand}
 

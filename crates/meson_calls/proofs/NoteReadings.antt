@@ -1,21 +1,8 @@
 -- Readings of notes: those of files in which none of some words stands may be missing, where these tell nothing.
-use Rattle.std.proofs.Common.{◌≡◌, ℕ, ◌+◌, List, [], ◌∷◌, ◌++◌, Bool, false, Option, None, refl, sym, ap, ◌∙◌}
-use Rattle.std.specs.Prelude.{◌||◌, map, filter, if◌then◌else◌}
-use Rattle.std.specs.List.{cons_option, filter_map, list_any}
-use Rattle.std.proofs.lemmas.List.{map-append}
-use Rattle.std.proofs.lemmas.List.Elements.{filter-append, filter_map-append}
-use Rattle.std.proofs.lemmas.List.Folds.{list_any-append}
-use Rattle.meson_lex.specs.declared.kinds.Span.{Span}
-use Rattle.meson_splice.specs.declared.file_set.File.{File}
-use Rattle.meson_syntax.specs.declared.tree.Parsed.{Parsed}
-use Rattle.meson_syntax.specs.Reads.{IsSpanned}
-use Rattle.meson_syntax.specs.View.{view}
-use Rattle.meson_calls.specs.Calls.{chosen}
-use Rattle.meson_calls.specs.Loading.{AreParsed, named_trees, views}
-use Rattle.meson_calls.specs.Notes.{Note, note_of, noted}
-use Rattle.meson_calls.specs.Parts.{Part, parts_of_file, parts_from}
-use Rattle.meson_calls.specs.Project.{Placed}
-use Rattle.meson_calls.specs.Spelling.{HasNoneOf, AreNotesOf, whole, passed, AreNotesWith}
+use Rattle.meson_calls.proofs.Words.{cons_option, filter_map, list_any, false, ◌||◌, filter, if◌then◌else◌, ◌≡◌, ℕ, ◌+◌, List, [], ◌∷◌, ◌++◌, Bool, Option}
+use Rattle.meson_calls.proofs.Words.{None, refl, sym, ap, ◌∙◌, map, map-append, filter-append, filter_map-append, list_any-append, File, Span, IsSpanned, view}
+use Rattle.meson_calls.proofs.Words.{Parsed, chosen, AreParsed, named_trees, views, Note, note_of, noted, Part, parts_of_file, parts_from, Placed, HasNoneOf}
+use Rattle.meson_calls.proofs.Words.{AreNotesOf, whole, passed, AreNotesWith}
 use Rattle.meson_calls.proofs.StandingNotes.{NoteStands, NotesStand, notes_stand}
 
 abbrev pub Notes : Type 0

@@ -1,16 +1,7 @@
 -- Notes of files, one after another.
-use Rattle.std.proofs.Common.{◌≡◌, ℕ, ◌+◌, ◌<◌, ◌≤◌, List, [], ◌∷◌, ◌++◌, length, drop, get_or, Bool, true, false, refl, sym, ap, ◌∙◌, subst}
-use Rattle.std.specs.Prelude.{if◌then◌else◌}
-use Rattle.std.proofs.lemmas.List.{append_assoc, append-nil, at_drop_more, at_drop_all}
-use Rattle.meson_lex.specs.declared.kinds.Span.{Span}
-use Rattle.meson_splice.specs.declared.file_set.File.{File}
-use Rattle.meson_splice.specs.Files.{bytes_at}
-use Rattle.meson_syntax.specs.declared.tree.Parsed.{Parsed}
-use Rattle.meson_syntax.specs.View.{view}
-use Rattle.meson_calls.specs.Notes.{Note, noted}
-use Rattle.meson_calls.specs.Parts.{parts_of_file}
-use Rattle.meson_calls.specs.Project.{Placed}
-use Rattle.meson_calls.specs.Spelling.{AreNotesOf, AreNotesWith, HasNoneOf, passed, whole}
+use Rattle.meson_calls.proofs.Words.{false, if◌then◌else◌, ◌≡◌, ℕ, ◌+◌, ◌<◌, ◌≤◌, List, [], ◌∷◌, ◌++◌, length, drop, get_or, Bool, true, refl, sym, ap, ◌∙◌}
+use Rattle.meson_calls.proofs.Words.{subst, append_assoc, append-nil, at_drop_more, at_drop_all, bytes_at, File, Span, view, Parsed, Note, noted, parts_of_file}
+use Rattle.meson_calls.proofs.Words.{Placed, AreNotesOf, AreNotesWith, HasNoneOf, passed, whole}
 use Rattle.meson_calls.proofs.Loads.{nth_bytes}
 
 -- notes so far that notes of the files from i on complete

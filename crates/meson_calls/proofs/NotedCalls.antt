@@ -1,20 +1,10 @@
 -- A project with its notes: these are good, and the call that an id names in them is that of the project, and stands in its trees.
-use Rattle.std.proofs.Common.{◌≡◌, ℕ, ◌<◌, List, length, sym, ◌∙◌, arith}
-use Rattle.std.specs.Prelude.{Ok, Err}
-use Rattle.meson_lex.specs.declared.kinds.Span.{Span}
-use Rattle.meson_calls.specs.declared.call.CallRef.{CallRef}
-use Rattle.meson_calls.specs.declared.call.Role.{Role}
+use Rattle.meson_calls.proofs.Words.{Ok, Err, ◌≡◌, ℕ, ◌<◌, List, length, sym, ◌∙◌, arith, Span, CallIn, Call, note_views, Placed, sought_words, NotesGood}
+use Rattle.meson_calls.proofs.Words.{CallRef, Role, Refusal}
 use Rattle.meson_calls.specs.declared.noted.Noted.{Noted}
-use Rattle.meson_calls.specs.declared.refusal.Refusal.{Refusal}
-use Rattle.meson_calls.specs.CallPlaces.{CallIn}
-use Rattle.meson_calls.specs.Calls.{Call}
 use Rattle.meson_calls.specs.Finding.{the_call}
 use Rattle.meson_calls.specs.NotedProjects.{IsNotedFor, project_in}
-use Rattle.meson_calls.specs.Notes.{note_views}
 use Rattle.meson_calls.specs.OnePlace.{the_place}
-use Rattle.meson_calls.specs.Project.{Placed}
-use Rattle.meson_calls.specs.Spelling.{sought_words}
-use Rattle.meson_calls.specs.Strings.{NotesGood}
 use Rattle.meson_calls.proofs.CallLists.{inside}
 use Rattle.meson_calls.proofs.CallsFound.{calls_stand}
 use Rattle.meson_calls.proofs.GoodNotes.{project_good}

@@ -1,24 +1,10 @@
 -- What is read off notes without the files in which none of some words stands is what is read off all notes.
-use Rattle.std.proofs.Common.{◌≡◌, ℕ, ◌+◌, List, [], ◌∷◌, ◌++◌, codes, sym, ap, ap₂, subst}
-use Rattle.std.specs.Prelude.{if◌then◌else◌}
-use Rattle.std.proofs.lemmas.List.Elements.{All-head, All-tail}
-use Rattle.meson_splice.specs.Patch.{then_ok}
-use Rattle.meson_splice.specs.declared.file_set.File.{File}
-use Rattle.meson_syntax.specs.declared.tree.Parsed.{Parsed}
-use Rattle.meson_syntax.specs.View.{view}
-use Rattle.meson_calls.specs.declared.call.Role.{Role}
+use Rattle.meson_calls.proofs.Words.{codes, if◌then◌else◌, ◌≡◌, ℕ, ◌+◌, List, [], ◌∷◌, ◌++◌, sym, ap, ap₂, subst, All-head, All-tail, then_ok, File, view}
+use Rattle.meson_calls.proofs.Words.{Parsed, assigned_places, found_places, note_has_name, note_has_role, note_sets_call, places_that, places_with_role}
+use Rattle.meson_calls.proofs.Words.{only_one, AreParsed, named_trees, views, or_else, project_ids, noted, notes, any_place, parts_of_file, child, one_of}
+use Rattle.meson_calls.proofs.Words.{HasNone, HasNoneOf, AreNotesOf, whole, passed, AreNotesWith, sought_words, NotesGood, Role}
 use Rattle.meson_calls.specs.declared.call.Role.TheVariants as role
-use Rattle.meson_calls.specs.Finding.{only_one}
-use Rattle.meson_calls.specs.Loading.{AreParsed, named_trees, views}
-use Rattle.meson_calls.specs.Notes.{noted, notes}
-use Rattle.meson_calls.specs.OnePlace.{any_place, the_place}
-use Rattle.meson_calls.specs.Parts.{parts_of_file}
-use Rattle.meson_calls.specs.ChosenNotes.{assigned_places, found_places, note_has_name, note_has_role, note_sets_call, places_that, places_with_role}
-use Rattle.meson_calls.specs.Project.{child}
-use Rattle.meson_calls.specs.Roles.{one_of}
-use Rattle.meson_calls.specs.Naming.{or_else, project_ids}
-use Rattle.meson_calls.specs.Spelling.{HasNone, HasNoneOf, AreNotesOf, whole, passed, AreNotesWith, sought_words}
-use Rattle.meson_calls.specs.Strings.{NotesGood}
+use Rattle.meson_calls.specs.OnePlace.{the_place}
 use Rattle.meson_calls.proofs.NoteReadings.{Notes, notes_from, notes_after, same_read, picked_gathers, none_picked}
 use Rattle.meson_calls.proofs.NothingRead.{names_nothing, no_project, value_unnamed}
 

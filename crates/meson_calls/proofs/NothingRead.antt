@@ -1,15 +1,8 @@
 -- A note whose words stand in bytes tells nothing of a word that stands nowhere in them.
-use Rattle.std.proofs.Common.{◌≡◌, ℕ, List, [], ◌∷◌, Bool, true, false, codes, Option, Some, None, refl, ap, ◌∙◌}
-use Rattle.std.specs.Prelude.{◌&&◌}
-use Rattle.meson_lex.specs.declared.kinds.Span.{Span}
-use Rattle.meson_syntax.specs.Operators.{string_kind}
-use Rattle.meson_calls.specs.declared.call.Role.{Role}
+use Rattle.meson_calls.proofs.Words.{false, codes, ◌&&◌, ◌≡◌, ℕ, List, [], ◌∷◌, Bool, true, Option, Some, None, refl, ap, ◌∙◌, Span, string_kind, call_of}
+use Rattle.meson_calls.proofs.Words.{first_literal, is, is_role_call, note_has_name, note_has_role, note_sets_call, Note, a_call, an_assignment, a_loop}
+use Rattle.meson_calls.proofs.Words.{has_role, HasNone, Role}
 use Rattle.meson_calls.specs.declared.call.Role.TheVariants as role
-use Rattle.meson_calls.specs.Calls.{call_of, first_literal, is}
-use Rattle.meson_calls.specs.Notes.{Note, a_call, an_assignment, a_loop}
-use Rattle.meson_calls.specs.ChosenNotes.{is_role_call, note_has_name, note_has_role, note_sets_call}
-use Rattle.meson_calls.specs.Roles.{has_role}
-use Rattle.meson_calls.specs.Spelling.{HasNone}
 use Rattle.meson_calls.proofs.Spelled.{IsPart, differs, differs_back}
 use Rattle.meson_calls.proofs.SpelledLiterals.{literal_part}
 use Rattle.meson_calls.proofs.StandingNotes.{NoteStands}

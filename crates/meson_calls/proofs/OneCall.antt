@@ -1,21 +1,10 @@
 -- The one call that an id names, by its place.
-use Rattle.std.proofs.Common.{◌≡◌, ℕ, List, [], ◌∷◌, length, refl, sym, ap, ◌∙◌}
-use Rattle.std.specs.Prelude.{false, ◌==◌, Result, Ok, Err, IfOk}
-use Rattle.meson_lex.specs.declared.kinds.Span.{Span}
-use Rattle.meson_splice.specs.Patch.{then_ok}
-use Rattle.meson_calls.specs.declared.call.CallRef.{CallRef}
-use Rattle.meson_calls.specs.declared.call.Role.{Role}
+use Rattle.meson_calls.proofs.Words.{false, ◌==◌, Result, Ok, Err, IfOk, ◌≡◌, ℕ, List, [], ◌∷◌, length, refl, sym, ap, ◌∙◌, then_ok, Span, Call, found_places}
+use Rattle.meson_calls.proofs.Words.{only_one, any_project, found, notes, any_place, Project, Placed, role_calls, places, CallRef, Role, Refusal}
 use Rattle.meson_calls.specs.declared.call.Role.TheVariants as role
-use Rattle.meson_calls.specs.Calls.{Call}
-use Rattle.meson_calls.specs.Notes.{notes}
-use Rattle.meson_calls.specs.ChosenNotes.{found_places}
-use Rattle.meson_calls.specs.Finding.{only_one, any_project, the_call}
-use Rattle.meson_calls.specs.Project.{Project, Placed}
-use Rattle.meson_calls.specs.OnePlace.{any_place, the_place}
-use Rattle.meson_calls.specs.Naming.{found}
-use Rattle.meson_calls.specs.Roles.{role_calls, places}
+use Rattle.meson_calls.specs.Finding.{the_call}
+use Rattle.meson_calls.specs.OnePlace.{the_place}
 use Rattle.meson_calls.proofs.Picked.{role_places, found_notes}
-use Rattle.meson_calls.specs.declared.refusal.Refusal.{Refusal}
 use Rattle.meson_calls.specs.Refusals.{RefusedAs}
 
 -- a result that is known as a whole

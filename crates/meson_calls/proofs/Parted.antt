@@ -1,14 +1,10 @@
 -- The parts of an expression over a source, and those within it.
-use Rattle.std.proofs.Common.{rules, ◌≡◌, ℕ, List, sym, ap, ◌∙◌}
-use Rattle.meson_lex.specs.declared.kinds.Span.{Span}
+use Rattle.meson_calls.proofs.Words.{rules, ◌≡◌, ℕ, List, sym, ap, ◌∙◌, Span, row, postfix, conditional, pair, operands_of, tails_of, expr_view, arg_view}
+use Rattle.meson_calls.proofs.Words.{operand_view, operands_view, tails_view, Expr, Operand}
 use Rattle.meson_syntax.specs.declared.tree.Arg.TheVariants as arg
 use Rattle.meson_syntax.specs.declared.tree.Arg.TheFolds.{the_lemmas}
-use Rattle.meson_syntax.specs.declared.tree.Expr.{Expr}
 use Rattle.meson_syntax.specs.declared.tree.Expr.TheVariants as e
-use Rattle.meson_syntax.specs.declared.tree.Operand.{Operand}
 use Rattle.meson_syntax.specs.declared.tree.Tail as rust_tail
-use Rattle.meson_syntax.specs.Tree.{row, postfix, conditional, pair, operands_of, tails_of}
-use Rattle.meson_syntax.specs.View.{expr_view, arg_view, operand_view, operands_view, tails_view}
 
 module _ (source : List ℕ) where
   pub row_view : (s : Span) (first : Expr) (rest : List Operand) → expr_view source (e.Row s first rest) ≡ row s (expr_view source first) (operands_of (operands_view source rest))

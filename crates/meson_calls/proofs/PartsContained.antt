@@ -1,23 +1,13 @@
 -- A node that a path names is among the parts of a project.
-use Rattle.std.proofs.Common.{◌≡◌, ℕ, zero, suc, ◌+◌, List, [], ◌∷◌, ◌++◌, append_assoc, append-nil, length, Some, refl, sym, ap, ap₂, ◌∙◌, subst, arith}
-use Rattle.std.specs.Prelude.{◌<◌, slice_index_or}
-use Rattle.std.specs.List.{Contains}
-use Rattle.std.proofs.lemmas.List.Elements.{Contains-append_left, Contains-append_right}
-use Rattle.meson_lex.specs.declared.kinds.Span.{Span}
-use Rattle.meson_syntax.specs.Tree.{Expression, Block, File, file}
-use Rattle.meson_syntax.specs.Children.{Any, an_expression, a_statement, a_block}
-use Rattle.meson_syntax.specs.inside.Children.{expression_any, child_nodes, node_at}
-use Rattle.meson_syntax.specs.Paths.{nth, block_of}
-use Rattle.meson_calls.specs.declared.call.CallRef.{CallRef}
-use Rattle.meson_calls.specs.Project.{BuildFile, Placed, Project, child, expression_at, nth_file, place, placed}
-use Rattle.meson_calls.specs.Parts.{Part, parts_of_file, parts_from}
+use Rattle.meson_calls.proofs.Words.{Contains, slice_index_or, ◌≡◌, ℕ, zero, suc, ◌+◌, List, [], ◌∷◌, ◌++◌, length, Some, refl, sym, ap, ap₂, ◌∙◌, subst, arith}
+use Rattle.meson_calls.proofs.Words.{◌<◌, Contains-append_left, Contains-append_right, Span, Any, an_expression, a_statement, a_block, nth, block_of}
+use Rattle.meson_calls.proofs.Words.{Expression, Block, file, expression_any, child_nodes, node_at, expression-reached, some-injective, Every, and-then-some}
+use Rattle.meson_calls.proofs.Words.{PartsAreAll, Part, parts_of_file, parts_from, BuildFile, Placed, Project, child, expression_at, nth_file, place, placed}
+use Rattle.meson_calls.proofs.Words.{CallRef}
+use Rattle.std.proofs.Common.{append_assoc, append-nil}
+use Rattle.meson_syntax.specs.Tree.{File}
 use Rattle.meson_calls.specs.Parts as part
 use Rattle.meson_syntax.specs.Paths as paths
-use Rattle.meson_syntax.proofs.PathNodes.{expression-reached}
-use Rattle.meson_syntax.proofs.parsing.Steps.{some-injective}
-use Rattle.meson_syntax.proofs.paths.Every.{Every}
-use Rattle.meson_syntax.proofs.paths.Reaching.{and-then-some}
-use Rattle.meson_calls.specs.AllParts.{PartsAreAll}
 use Rattle.meson_calls.proofs.CallsReached.{InProject, every_part}
 use Rattle.meson_calls.proofs.ExpressionsAt.{expression_stands}
 use Rattle.meson_calls.proofs.nodes.Induction.{Each, by_children}

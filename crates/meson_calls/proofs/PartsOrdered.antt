@@ -1,25 +1,19 @@
 -- The parts of a project stand in order, and so does what is chosen among them.
-use Rattle.std.specs.Prelude.{⊤}
-use Rattle.std.proofs.Common.{◌≡◌, ℕ, zero, suc, ◌+◌, ◌<◌, ◌≤◌, List, [], ◌∷◌, ◌++◌, append_assoc, append-nil, length, map, Bool, true, false, if◌then◌else◌, Option, Some, None, option_map, Ordering, Less, Equal, Greater, nat_cmp, refl, sym, subst, ap, ap₂, ◌∙◌, arith}
+use Rattle.meson_calls.proofs.Words.{AllByRecursion, cons_option, ⊤, false, if◌then◌else◌, option_map, ◌≡◌, ℕ, zero, suc, ◌+◌, ◌<◌, ◌≤◌, List, [], ◌∷◌, ◌++◌}
+use Rattle.meson_calls.proofs.Words.{length, map, Bool, true, Option, Some, None, Ordering, Less, Equal, Greater, nat_cmp, refl, sym, subst, ap, ap₂, ◌∙◌}
+use Rattle.meson_calls.proofs.Words.{arith, Span, Any, file, child_nodes, PlacesRise, PartsInOrder, address, all_chosen, call_of, calls, part_call}
+use Rattle.meson_calls.proofs.Words.{assigned_values, found, named_or_assigned, or_else, part_set_to, project_ids, value_of_assignment, with_name, Part}
+use Rattle.meson_calls.proofs.Words.{parts_of_block, parts_of_file, parts_from, parts, Placed, Project, child, place, placed, one_of, places, role_calls}
+use Rattle.meson_calls.proofs.Words.{with_role, CallRef, Role}
+use Rattle.std.proofs.Common.{append_assoc, append-nil}
 use Rattle.std.specs.Cmp.{nat_cmp_is}
 use Rattle.std.specs.Cmp.Lexicographic.{slice_cmp}
-use Rattle.std.specs.List.{AllByRecursion, cons_option}
 use Rattle.std.specs.List.Sorted.{IsStrictlySortedBy}
 use Rattle.std.specs.Ordering.{ordering_then}
-use Rattle.meson_lex.specs.declared.kinds.Span.{Span}
-use Rattle.meson_syntax.specs.Tree.{File, file}
-use Rattle.meson_syntax.specs.Children.{Any}
+use Rattle.meson_syntax.specs.Tree.{File}
 use Rattle.meson_syntax.specs.Children as syntax
-use Rattle.meson_syntax.specs.inside.Children.{child_nodes}
-use Rattle.meson_calls.specs.declared.call.CallRef.{CallRef}
-use Rattle.meson_calls.specs.declared.call.Role.{Role}
 use Rattle.meson_calls.specs.declared.call.Role.TheVariants as role
-use Rattle.meson_calls.specs.AllParts.{PlacesRise, PartsInOrder, address}
-use Rattle.meson_calls.specs.Calls.{all_chosen, call_of, calls, part_call}
-use Rattle.meson_calls.specs.Parts.{Part, an_expression, a_statement, parts_of_block, parts_of_file, parts_from, parts}
-use Rattle.meson_calls.specs.Project.{Placed, Project, child, place, placed}
-use Rattle.meson_calls.specs.Naming.{assigned_values, found, named_or_assigned, or_else, part_set_to, project_ids, value_of_assignment, with_name}
-use Rattle.meson_calls.specs.Roles.{one_of, places, role_calls, with_role}
+use Rattle.meson_calls.specs.Parts.{an_expression, a_statement}
 use Rattle.meson_calls.proofs.nodes.Induction as nodes
 use Rattle.meson_calls.proofs.nodes.Induction.{by_children}
 use Rattle.meson_calls.proofs.nodes.PartsBelow as nodes_below

@@ -1,22 +1,15 @@
 -- Places of notes that pass a test, one note after another; and those of a role.
-use Rattle.std.proofs.Common.{◌≡◌, ℕ, ◌+◌, ◌<◌, List, [], ◌∷◌, ◌++◌, length, drop, get_or, map, refl, sym, ap, ◌∙◌}
-use Rattle.std.specs.Prelude.{Bool, true, false, ◌&&◌, bytes_eq, if◌then◌else◌, Option, Some, None, option_map, filter}
-use Rattle.std.specs.List.{cons_option}
-use Rattle.std.proofs.lemmas.List.{append_assoc, at_drop_more}
-use Rattle.meson_lex.specs.declared.kinds.Span.{Span}
-use Rattle.meson_syntax.specs.Tree.{Name, Expression, Statement, evaluate, assign, selection, iteration, breaks, continues}
+use Rattle.meson_calls.proofs.Words.{cons_option, false, ◌&&◌, bytes_eq, if◌then◌else◌, option_map, filter, ◌≡◌, ℕ, ◌+◌, ◌<◌, List, [], ◌∷◌, ◌++◌, length, drop}
+use Rattle.meson_calls.proofs.Words.{get_or, map, refl, sym, ap, ◌∙◌, Bool, true, Option, Some, None, append_assoc, at_drop_more, Span, Name, Expression}
+use Rattle.meson_calls.proofs.Words.{Statement, evaluate, assign, selection, iteration, breaks, continues, Call, call_of, part_call, all_chosen, first_literal}
+use Rattle.meson_calls.proofs.Words.{is, note_has_name, note_sets_call, is_role_call, assigned_places, named_places, found_places, places_that}
+use Rattle.meson_calls.proofs.Words.{places_with_role, with_name, part_set_to, value_of_assignment, assigned_values, named_or_assigned, or_else, found}
+use Rattle.meson_calls.proofs.Words.{project_ids, Note, a_call, an_assignment, a_loop, note_of, noted, notes, note_view, note_views, Part, parts, Project}
+use Rattle.meson_calls.proofs.Words.{Placed, placed, child, has_role, with_role, role_calls, places, one_of, CallRef, Role}
 use Rattle.meson_syntax.specs.declared.operator.Assignment.TheVariants as assignment
-use Rattle.meson_calls.specs.declared.call.CallRef.{CallRef}
-use Rattle.meson_calls.specs.declared.call.Role.{Role}
 use Rattle.meson_calls.specs.declared.call.Role.TheVariants as role
 use Rattle.meson_calls.specs.declared.note.Note as code
-use Rattle.meson_calls.specs.Project.{Project, Placed, placed, child}
-use Rattle.meson_calls.specs.Parts.{Part, an_expression, a_statement, parts}
-use Rattle.meson_calls.specs.Calls.{Call, call_of, part_call, all_chosen, first_literal, is}
-use Rattle.meson_calls.specs.Roles.{has_role, with_role, role_calls, places, one_of}
-use Rattle.meson_calls.specs.Naming.{with_name, part_set_to, value_of_assignment, assigned_values, named_or_assigned, or_else, found, project_ids}
-use Rattle.meson_calls.specs.Notes.{Note, a_call, an_assignment, a_loop, note_of, noted, notes, note_view, note_views}
-use Rattle.meson_calls.specs.ChosenNotes.{note_has_name, note_sets_call, is_role_call, assigned_places, named_places, found_places, places_that, places_with_role}
+use Rattle.meson_calls.specs.Parts.{an_expression, a_statement}
 
 module _ (test : Note Span → Bool) where
   pick : Bool → CallRef → List CallRef → List CallRef

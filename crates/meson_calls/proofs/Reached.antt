@@ -1,14 +1,7 @@
 -- The place of a part of a project names it.
-use Rattle.std.proofs.Common.{◌≡◌, ℕ, List, [], Some, refl, ◌∙◌}
-use Rattle.meson_lex.specs.declared.kinds.Span.{Span}
-use Rattle.meson_syntax.specs.Tree.{File, file}
-use Rattle.meson_syntax.specs.Children.{Any, a_block}
-use Rattle.meson_syntax.specs.inside.Children.{child_nodes, node_at}
-use Rattle.meson_syntax.specs.Paths.{nth, block_of}
-use Rattle.meson_syntax.proofs.paths.Every.{Every}
-use Rattle.meson_calls.specs.declared.call.CallRef.{CallRef}
-use Rattle.meson_calls.specs.Project.{Placed, child, place}
-use Rattle.meson_calls.specs.Parts.{Part, parts_of_file}
+use Rattle.meson_calls.proofs.Words.{◌≡◌, ℕ, List, [], Some, refl, ◌∙◌, Span, Any, a_block, nth, block_of, file, child_nodes, node_at, Every, Part}
+use Rattle.meson_calls.proofs.Words.{parts_of_file, Placed, child, place, CallRef}
+use Rattle.meson_syntax.specs.Tree.{File}
 use Rattle.meson_calls.proofs.ListNodes.{node_below}
 use Rattle.meson_calls.proofs.nodes.EachPart.{each_part}
 use Rattle.meson_calls.proofs.nodes.PartsBelow.{any}

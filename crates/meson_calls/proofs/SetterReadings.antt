@@ -1,17 +1,7 @@
 -- What is read off notes of setters alone is what is read off all notes, where the others tell nothing.
-use Rattle.std.proofs.Common.{◌≡◌, ℕ, ◌+◌, List, [], ◌∷◌, ◌++◌, Bool, true, false, refl, sym, ap, ap₂, ◌∙◌, subst}
-use Rattle.std.specs.Prelude.{◌||◌, if◌then◌else◌}
-use Rattle.std.specs.Borrow.{Bor}
-use Rattle.meson_lex.specs.declared.kinds.Span.{Span}
-use Rattle.meson_splice.specs.declared.file_set.File.{File}
-use Rattle.meson_syntax.specs.declared.tree.Parsed.{Parsed}
-use Rattle.meson_syntax.specs.View.{view}
-use Rattle.meson_calls.specs.Loading.{named_trees, views}
-use Rattle.meson_calls.specs.Notes.{Note, noted, notes}
-use Rattle.meson_calls.specs.Parts.{parts_of_file}
-use Rattle.meson_calls.specs.Project.{Placed}
-use Rattle.meson_calls.specs.Setters.{AreSetters, NoCallSets, any_sets_by_call, is_setter, notes_asked, sets_by_call, setters_in}
-use Rattle.meson_calls.specs.Strings.{NotesGood}
+use Rattle.meson_calls.proofs.Words.{Bor, false, ◌||◌, if◌then◌else◌, ◌≡◌, ℕ, ◌+◌, List, [], ◌∷◌, ◌++◌, Bool, true, refl, sym, ap, ap₂, ◌∙◌, subst, File, Span}
+use Rattle.meson_calls.proofs.Words.{view, Parsed, named_trees, views, Note, noted, notes, parts_of_file, Placed, AreSetters, NoCallSets, any_sets_by_call}
+use Rattle.meson_calls.proofs.Words.{is_setter, notes_asked, sets_by_call, setters_in, NotesGood}
 use Rattle.meson_calls.proofs.NoteReadings.{Gathers, Notes, notes_after, notes_from}
 use Rattle.meson_calls.proofs.NotesWith.{good_join, good_left, good_right}
 

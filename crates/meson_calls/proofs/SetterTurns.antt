@@ -1,14 +1,7 @@
 -- Notes of setters in files, one file after another.
-use Rattle.std.proofs.Common.{◌≡◌, ℕ, ◌+◌, ◌<◌, ◌≤◌, List, [], ◌∷◌, ◌++◌, length, drop, get_or, Bool, false, refl, sym, ap, ◌∙◌, subst}
-use Rattle.std.specs.Borrow.{Bor}
-use Rattle.std.proofs.lemmas.List.{append_assoc, append-nil, at_drop_more, at_drop_all}
-use Rattle.meson_lex.specs.declared.kinds.Span.{Span}
-use Rattle.meson_splice.specs.declared.file_set.File.{File}
-use Rattle.meson_splice.specs.Files.{bytes_at}
-use Rattle.meson_syntax.specs.declared.tree.Parsed.{Parsed}
-use Rattle.meson_calls.specs.Notes.{Note}
-use Rattle.meson_calls.specs.Project.{Placed}
-use Rattle.meson_calls.specs.Setters.{AreSetters, BeginWithSetters, NoCallSets, notes_asked}
+use Rattle.meson_calls.proofs.Words.{Bor, false, ◌≡◌, ℕ, ◌+◌, ◌<◌, ◌≤◌, List, [], ◌∷◌, ◌++◌, length, drop, get_or, Bool, refl, sym, ap, ◌∙◌, subst}
+use Rattle.meson_calls.proofs.Words.{append_assoc, append-nil, at_drop_more, at_drop_all, bytes_at, File, Span, Parsed, Note, Placed, AreSetters}
+use Rattle.meson_calls.proofs.Words.{BeginWithSetters, NoCallSets, notes_asked}
 use Rattle.meson_calls.proofs.Loads.{nth_bytes}
 
 -- notes so far that notes of the files from i on complete

@@ -1,17 +1,8 @@
 -- What keeps nothing of an expression alone keeps nothing of what stands in one, which holds no statement.
-use Rattle.std.proofs.Common.{◌≡◌, ℕ, List, [], ◌∷◌, ◌++◌, refl, ap, ◌∙◌}
-use Rattle.std.specs.Borrow.{Bor}
-use Rattle.std.proofs.lemmas.List.Elements.{filter-append, filter_map-append}
-use Rattle.meson_lex.specs.declared.kinds.Span.{Span}
-use Rattle.meson_syntax.specs.Tree.{Expression}
-use Rattle.meson_syntax.proofs.paths.Every.{Every}
-use Rattle.meson_calls.specs.declared.call.CallRef.{CallRef}
-use Rattle.meson_calls.specs.Calls.{chosen}
-use Rattle.meson_calls.specs.Notes.{Note, note_of, noted}
-use Rattle.meson_calls.specs.Parts.{Part, an_expression, a_statement, parts_of_expression}
-use Rattle.meson_calls.specs.Project.{Placed, placed}
-use Rattle.meson_calls.specs.Setters.{is_setter, setters_in}
-use Rattle.meson_calls.specs.Walks.{KeptParts, with_part, with_parts}
+use Rattle.meson_calls.proofs.Words.{Bor, ◌≡◌, ℕ, List, [], ◌∷◌, ◌++◌, refl, ap, ◌∙◌, filter-append, filter_map-append, Span, Expression, Every, chosen, Note}
+use Rattle.meson_calls.proofs.Words.{note_of, noted, Part, parts_of_expression, Placed, placed, is_setter, setters_in, KeptParts, with_part, with_parts}
+use Rattle.meson_calls.proofs.Words.{CallRef}
+use Rattle.meson_calls.specs.Parts.{an_expression, a_statement}
 use Rattle.meson_calls.proofs.nodes.EachPart.{expressions_within}
 use Rattle.meson_calls.proofs.nodes.PartsBelow.{any}
 use Rattle.meson_calls.proofs.nodes.Sorts.{IsExpression}

@@ -1,22 +1,9 @@
 -- What is kept of files: whether a call in them sets variables, and else their assignments.
-use Rattle.std.proofs.Common.{◌≡◌, ℕ, ◌+◌, ◌<◌, ◌≤◌, List, [], ◌∷◌, length, get_or, refl, sym, ap, ◌∙◌, subst, inl, inr, arith}
-use Rattle.std.specs.Prelude.{false, ◌||◌, bytes_eq, codes, set, Option, Some, None, IsTrue, MatchOption, ⊤}
-use Rattle.std.specs.Borrow.{Bor}
-use Rattle.std.proofs.lemmas.Bool.{cases_eq}
-use Rattle.std.proofs.lemmas.List.{get_or_default, get_or-set_same, get_or-set_other, length-set}
-use Rattle.meson_lex.specs.declared.kinds.Span.{Span}
-use Rattle.meson_splice.specs.declared.file_set.File.{File}
-use Rattle.meson_splice.specs.Files.{bytes_at}
-use Rattle.meson_syntax.specs.declared.tree.Parsed.{Parsed}
-use Rattle.meson_syntax.specs.Reads.{IsSpanned}
-use Rattle.meson_syntax.specs.View.{view}
+use Rattle.meson_calls.proofs.Words.{Bor, false, ◌||◌, bytes_eq, codes, set, IsTrue, MatchOption, ⊤, ◌≡◌, ℕ, ◌+◌, ◌<◌, ◌≤◌, List, [], ◌∷◌, length, get_or, refl}
+use Rattle.meson_calls.proofs.Words.{sym, ap, ◌∙◌, subst, inl, inr, arith, Option, Some, None, cases_eq, get_or_default, get_or-set_same, get_or-set_other}
+use Rattle.meson_calls.proofs.Words.{length-set, bytes_at, File, Span, IsSpanned, view, Parsed, Note, a_call, an_assignment, a_loop, noted, parts_of_file}
+use Rattle.meson_calls.proofs.Words.{Placed, AreKept, IsKept, NoCallSets, any_sets_by_call, is_known, sets_by_call, HasNoneOf, setter_words, Unknown}
 use Rattle.meson_calls.specs.declared.kept.Kept.{Kept}
-use Rattle.meson_calls.specs.declared.kept.Kept.TheVariants.{Unknown}
-use Rattle.meson_calls.specs.Notes.{Note, a_call, an_assignment, a_loop, noted}
-use Rattle.meson_calls.specs.Parts.{parts_of_file}
-use Rattle.meson_calls.specs.Project.{Placed}
-use Rattle.meson_calls.specs.Setters.{AreKept, IsKept, NoCallSets, any_sets_by_call, is_known, sets_by_call}
-use Rattle.meson_calls.specs.Spelling.{HasNoneOf, setter_words}
 use Rattle.meson_calls.proofs.NotesWith.{first_word, further_words}
 use Rattle.meson_calls.proofs.Spelled.{differs}
 use Rattle.meson_calls.proofs.StandingNotes.{NoteStands, NotesStand, notes_stand}

@@ -1,10 +1,6 @@
 -- The parts of a name, byte after byte.
-use Rattle.std.proofs.Common.{◌≡◌, ℕ, suc, ◌+◌, ◌-◌, ◌<◌, ◌≤◌, List, [], ◌∷◌, ◌++◌, length, get_or, take, drop, sym, ap, ◌∙◌, arith, length-drop}
-use Rattle.std.proofs.Math.Seq.{take-suc}
-use Rattle.std.proofs.lemmas.Bool.Decides.{nat_tests}
-use Rattle.std.proofs.lemmas.List.{at_drop_more, get_or-drop}
-use Rattle.std.specs.Prelude.{slice_range}
-use Rattle.meson_calls.specs.Folders.{parts_after}
+use Rattle.meson_calls.proofs.Words.{slice_range, ◌≡◌, ℕ, suc, ◌+◌, ◌-◌, ◌<◌, ◌≤◌, List, [], ◌∷◌, ◌++◌, length, get_or, take, drop, sym, ap, ◌∙◌, arith}
+use Rattle.meson_calls.proofs.Words.{length-drop, take-suc, nat_tests, at_drop_more, get_or-drop, parts_after}
 
 pub other_byte : (read cs : List ℕ) (c : ℕ) → (c ≡ 47 → ⊥) → parts_after read (c ∷ cs) ≡ parts_after (read ++ c ∷ []) cs
 other_byte read cs c other = grind (arith, nat_tests)

@@ -1,10 +1,8 @@
 -- Words that stand nowhere in bytes: a search tells it, and a text that stands there is another one.
-use Rattle.std.proofs.Common.{◌≡◌, ℕ, ◌-◌, ◌<◌, min, List, [], ◌∷◌, length, drop, get_or, slice_range, length-take, length-drop, get_or-take, get_or-drop, Bool, true, false, bytes_eq, Option, Some, None, is_some, true≢false, refl, sym, ap, ◌∙◌, arith}
-use Rattle.std.proofs.lemmas.Slice.Eq.{bytes_eq-Decides}
-use Rattle.memchr.specs.Find.{FindsNeedle, OccursAt}
-use Rattle.meson_lex.specs.declared.kinds.Span.{Span}
-use Rattle.meson_syntax.specs.View.{text_at}
-use Rattle.meson_calls.specs.Spelling.{HasNone}
+use Rattle.meson_calls.proofs.Words.{slice_range, false, bytes_eq, is_some, ◌≡◌, ℕ, ◌-◌, ◌<◌, min, List, [], ◌∷◌, length, drop, get_or, length-take}
+use Rattle.meson_calls.proofs.Words.{length-drop, get_or-take, Bool, true, Option, Some, None, true≢false, refl, sym, ap, ◌∙◌, arith, bytes_eq-Decides}
+use Rattle.meson_calls.proofs.Words.{FindsNeedle, OccursAt, Span, text_at, HasNone}
+use Rattle.std.proofs.Common.{get_or-drop}
 
 -- ---- a word that stands somewhere is found
 

@@ -1,17 +1,10 @@
 -- Where no backslash stands in bytes, the text of each literal that stands in them stands in them too.
-use Rattle.std.proofs.Common.{◌≡◌, ℕ, ◌+◌, ◌-◌, ◌*◌, eqb, List, [], ◌∷◌, ◌++◌, length, take, drop, Bool, true, false, Some, None, option_map, IsUtf8, encode_utf8, encode_utf8_all, sym, refl, ap, ◌∙◌, subst, arith, append_assoc, take-append-drop, lit<}
-use Rattle.std.specs.Prelude.{if◌then◌else◌}
-use Rattle.std.specs.Str.{chars, is_utf8, NonePass}
-use Rattle.std.proofs.lemmas.Bool.{cond-false, false_from_ne_true, eqb-true}
-use Rattle.std.proofs.lemmas.List.{take_at, drop_at}
-use Rattle.std.proofs.lemmas.Str.{encodes-append, encodes-chars, encode_ascii, IsUtf8-from_is_utf8}
-use Rattle.meson_lex.specs.declared.kinds.Kind.{Kind}
-use Rattle.meson_lex.specs.declared.kinds.Kind.TheVariants.{PlainString, MultilineString}
-use Rattle.meson_lex.specs.declared.kinds.Span.{Span}
-use Rattle.meson_lex.specs.Literals.{between, unescaped, value, value_of_characters}
-use Rattle.meson_syntax.specs.View.{text_at}
-use Rattle.meson_syntax.proofs.parsing.Steps.{some-injective}
-use Rattle.meson_calls.specs.Spelling.{HasNone}
+use Rattle.meson_calls.proofs.Words.{false, option_map, if◌then◌else◌, chars, is_utf8, NonePass, ◌≡◌, ℕ, ◌+◌, ◌-◌, ◌*◌, eqb, List, [], ◌∷◌, ◌++◌, length, take}
+use Rattle.meson_calls.proofs.Words.{drop, Bool, true, Some, None, encode_utf8, encode_utf8_all, sym, refl, ap, ◌∙◌, subst, arith, take-append-drop, lit<}
+use Rattle.meson_calls.proofs.Words.{cond-false, false_from_ne_true, eqb-true, take_at, drop_at, encodes-append, encodes-chars, encode_ascii}
+use Rattle.meson_calls.proofs.Words.{IsUtf8-from_is_utf8, between, unescaped, value, value_of_characters, Kind, PlainString, MultilineString, Span, text_at}
+use Rattle.meson_calls.proofs.Words.{some-injective, HasNone}
+use Rattle.std.proofs.Common.{IsUtf8, append_assoc}
 use Rattle.meson_calls.proofs.Spelled.{IsPart, absent}
 
 -- ---- a list that stands in another

@@ -1,20 +1,9 @@
 -- The file and the call at a place.
-use Rattle.std.proofs.Common.{◌≡◌, ℕ, zero, suc, ◌<◌, ◌≤◌, List, [], ◌∷◌, length, get_or, refl, sym, ap, ◌∙◌, arith}
-use Rattle.std.specs.Prelude.{false, Option, Some, None, option_and_then}
-use Rattle.meson_lex.specs.declared.kinds.Span.{Span}
-use Rattle.meson_splice.specs.declared.file_set.File.{File}
-use Rattle.meson_splice.specs.Files.{bytes_at}
-use Rattle.meson_syntax.specs.declared.tree.Parsed.{Parsed}
-use Rattle.meson_syntax.specs.Tree.{Expression}
+use Rattle.meson_calls.proofs.Words.{false, option_and_then, ◌≡◌, ℕ, zero, suc, ◌<◌, ◌≤◌, List, [], ◌∷◌, length, get_or, refl, sym, ap, ◌∙◌, arith, Option}
+use Rattle.meson_calls.proofs.Words.{Some, None, bytes_at, File, Span, Expression, view, Parsed, Call, call_of, is_role_call, name_of_file, named_trees, views}
+use Rattle.meson_calls.proofs.Words.{Project, nth_file, has_role, is_target_call, is_target, CallRef}
 use Rattle.meson_syntax.specs.Paths as paths
-use Rattle.meson_syntax.specs.View.{view}
-use Rattle.meson_calls.specs.declared.call.CallRef.{CallRef}
 use Rattle.meson_calls.specs.declared.call.Role.TheVariants as role
-use Rattle.meson_calls.specs.Project.{Project, nth_file}
-use Rattle.meson_calls.specs.Calls.{Call, call_of}
-use Rattle.meson_calls.specs.Roles.{has_role, is_target_call, is_target}
-use Rattle.meson_calls.specs.ChosenNotes.{is_role_call}
-use Rattle.meson_calls.specs.Loading.{name_of_file, named_trees, views}
 
 pub nth_there : (files : List File) (trees : List Parsed) (i : ℕ) (d : Parsed) → length trees ≡ length files → i < length trees →
     nth_file (named_trees files (views files trees)) i ≡ Some (record { name = name_of_file i files; tree = view (bytes_at i files) (get_or trees i d) })

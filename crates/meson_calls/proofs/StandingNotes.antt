@@ -1,22 +1,11 @@
 -- The words of a tree's notes stand in the bytes that the tree spans: functions, variables, names of loops, and the strings of first arguments.
-use Rattle.std.proofs.Common.{◌≡◌, ℕ, ◌+◌, List, [], ◌∷◌, Option, Some, None, option_map, refl, sym, ap, ◌∙◌, subst}
-use Rattle.std.specs.Prelude.{map, option_and_then}
-use Rattle.std.specs.List.{cons_option}
-use Rattle.meson_lex.specs.Literals.{value}
-use Rattle.meson_lex.specs.declared.kinds.Span.{Span}
-use Rattle.meson_syntax.specs.declared.operator.StringKind.{StringKind}
-use Rattle.meson_syntax.specs.Operators.{string_kind}
-use Rattle.meson_syntax.specs.Reads.{IsSpanned}
-use Rattle.meson_syntax.specs.Texts.{texts_of_name, texts_of_expression, texts_of_listing, texts_of_arguments}
-use Rattle.meson_syntax.specs.Tree.{Name, Expression, string, call, Listing, listing, plain, named, pair, Arguments, no_arguments, argument, assign, iteration, File}
-use Rattle.meson_syntax.specs.View.{text_at}
-use Rattle.meson_syntax.proofs.paths.Every.{Every}
-use Rattle.meson_calls.specs.declared.call.CallRef.{CallRef}
-use Rattle.meson_calls.specs.Calls.{Call, literal_of, first_literal}
-use Rattle.meson_calls.specs.Notes.{Note, a_call, an_assignment, a_loop, note_of, noted}
-use Rattle.meson_calls.specs.Parts.{Part, an_expression, a_statement, parts_of_file}
-use Rattle.meson_calls.specs.ChosenNotes.{call_with}
-use Rattle.meson_calls.specs.Project.{Placed, placed}
+use Rattle.meson_calls.proofs.Words.{cons_option, option_map, option_and_then, ◌≡◌, ℕ, ◌+◌, List, [], ◌∷◌, Option, Some, None, refl, sym, ap, ◌∙◌, subst, map}
+use Rattle.meson_calls.proofs.Words.{value, Span, string_kind, IsSpanned, texts_of_name, texts_of_expression, texts_of_listing, texts_of_arguments, Name}
+use Rattle.meson_calls.proofs.Words.{Expression, string, call, Listing, listing, plain, named, pair, Arguments, no_arguments, argument, assign, iteration}
+use Rattle.meson_calls.proofs.Words.{text_at, StringKind, Every, Call, literal_of, first_literal, call_with, Note, a_call, an_assignment, a_loop, note_of}
+use Rattle.meson_calls.proofs.Words.{noted, Part, parts_of_file, Placed, placed, CallRef}
+use Rattle.meson_syntax.specs.Tree.{File}
+use Rattle.meson_calls.specs.Parts.{an_expression, a_statement}
 use Rattle.meson_calls.proofs.GoodLiterals.{first_from}
 use Rattle.meson_calls.proofs.Spelled.{IsPart}
 use Rattle.meson_calls.proofs.StandingParts.{PartsStand, texts_of_part, parts_stand}

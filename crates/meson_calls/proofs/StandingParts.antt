@@ -1,14 +1,17 @@
 -- The parts of a tree that spans bytes have the texts that stand in them.
-use Rattle.std.proofs.Common.{◌≡◌, ℕ, ◌+◌, List, [], refl, subst}
-use Rattle.meson_lex.specs.declared.kinds.Span.{Span}
-use Rattle.meson_syntax.specs.Reads.{IsSpanned, of_files}
-use Rattle.meson_syntax.specs.Texts.{texts_of, texts_of_expression, texts_of_operands, texts_of_tail, texts_of_tails, texts_of_listing, texts_of_argument, texts_of_arguments, texts_of_statement, texts_of_branches, texts_of_otherwise, texts_of_statements, texts_of_block}
-use Rattle.meson_syntax.specs.Tree.{Expression, identifier, boolean, integer, string, paren, array, dictionary, call, unary, row, postfix, conditional, Operands, no_operands, operand, Tail, method, index, Tails, no_tails, tail, Listing, listing, Argument, plain, named, pair, Arguments, no_arguments, argument, Statement, evaluate, assign, selection, iteration, breaks, continues, Branches, no_branches, branch, Otherwise, nothing_else, otherwise, Statements, no_statements, statement, Block, block, File, file}
+use Rattle.meson_calls.proofs.Words.{◌≡◌, ℕ, ◌+◌, List, [], refl, subst, Span, IsSpanned, of_files, texts_of, texts_of_expression, texts_of_operands}
+use Rattle.meson_calls.proofs.Words.{texts_of_tail, texts_of_tails, texts_of_listing, texts_of_argument, texts_of_arguments, texts_of_statement}
+use Rattle.meson_calls.proofs.Words.{texts_of_branches, texts_of_otherwise, texts_of_statements, texts_of_block, Expression, identifier, boolean, integer}
+use Rattle.meson_calls.proofs.Words.{string, paren, array, dictionary, call, unary, row, postfix, conditional, Operands, no_operands, operand, Tail, method}
+use Rattle.meson_calls.proofs.Words.{index, Tails, no_tails, tail, Listing, listing, Argument, plain, named, pair, Arguments, no_arguments, argument, Statement}
+use Rattle.meson_calls.proofs.Words.{evaluate, assign, selection, iteration, breaks, continues, Branches, no_branches, branch, Otherwise, nothing_else}
+use Rattle.meson_calls.proofs.Words.{otherwise, Statements, no_statements, statement, Block, block, file, Every, every-append, Part, parts_of_expression}
+use Rattle.meson_calls.proofs.Words.{parts_of_operands, parts_of_tail, parts_of_tails, parts_of_listing, parts_of_argument, parts_of_arguments}
+use Rattle.meson_calls.proofs.Words.{parts_of_statement, parts_of_branches, parts_of_otherwise, parts_of_statements, parts_of_block, parts_of_file}
+use Rattle.meson_calls.proofs.Words.{argument_child_count, tail_child_count, branches_child_count, Placed, child, place, CallRef}
+use Rattle.meson_syntax.specs.Tree.{File}
 use Rattle.meson_syntax.proofs.texts.Spanned.{spanned-texts}
-use Rattle.meson_syntax.proofs.paths.Every.{Every, every-append}
-use Rattle.meson_calls.specs.declared.call.CallRef.{CallRef}
-use Rattle.meson_calls.specs.Parts.{Part, an_expression, a_statement, parts_of_expression, parts_of_operands, parts_of_tail, parts_of_tails, parts_of_listing, parts_of_argument, parts_of_arguments, parts_of_statement, parts_of_branches, parts_of_otherwise, parts_of_statements, parts_of_block, parts_of_file, argument_child_count, tail_child_count, branches_child_count}
-use Rattle.meson_calls.specs.Project.{Placed, child, place}
+use Rattle.meson_calls.specs.Parts.{an_expression, a_statement}
 
 module _ (bytes : List ℕ) where
   -- a part with its texts read off the bytes

@@ -1,19 +1,11 @@
 -- The parts of a statement over a source; statements and branches.
-use Rattle.std.proofs.Common.{rules, ◌≡◌, ℕ, ◌*◌, List, [], ◌∷◌, length, refl, arith}
-use Rattle.std.specs.Prelude.{Option, Some, None}
-use Rattle.meson_lex.specs.declared.kinds.Span.{Span}
-use Rattle.meson_syntax.specs.declared.tree.Expr.{Expr}
+use Rattle.meson_calls.proofs.Words.{rules, ◌≡◌, ℕ, ◌*◌, List, [], ◌∷◌, length, refl, arith, Option, Some, None, Span, selection, iteration, branches_of}
+use Rattle.meson_calls.proofs.Words.{statements_of, names_at, expr_view, stmt_view, stmts_view, block_view, branch_view, branches_view, Branch, Expr, Stmt}
+use Rattle.meson_calls.proofs.Words.{Part, parts_of_statement, parts_of_statements, parts_of_branches, branches_child_count, Placed, child, CallRef, else_view}
+use Rattle.meson_calls.proofs.Words.{parts_of_branch}
 use Rattle.meson_syntax.specs.declared.tree.Block as rust_block
-use Rattle.meson_syntax.specs.declared.tree.Branch.{Branch}
-use Rattle.meson_syntax.specs.declared.tree.Stmt.{Stmt}
 use Rattle.meson_syntax.specs.declared.tree.Stmt.TheVariants as stmt
 use Rattle.meson_syntax.specs.declared.tree.Stmt.TheFolds.{the_lemmas}
-use Rattle.meson_syntax.specs.Tree.{selection, iteration, branches_of, statements_of}
-use Rattle.meson_syntax.specs.View.{names_at, expr_view, stmt_view, stmts_view, block_view, branch_view, branches_view}
-use Rattle.meson_calls.specs.declared.call.CallRef.{CallRef}
-use Rattle.meson_calls.specs.Project.{Placed, child}
-use Rattle.meson_calls.specs.Parts.{Part, parts_of_statement, parts_of_statements, parts_of_branches, branches_child_count}
-use Rattle.meson_calls.specs.inside.Walks.{else_view, parts_of_branch}
 
 module _ (source : List ℕ) where
   pub if_view : (s : Span) (bs : List Branch) (o : Option rust_block.Block) → stmt_view source (stmt.If s bs o) ≡ selection s (branches_of (branches_view source bs)) (else_view source o)

@@ -1,10 +1,6 @@
 -- The file that a `subdir` means, among files with names of build files.
-use Rattle.std.proofs.Common.{◌≡◌, ℕ, zero, suc, ◌<◌, List, [], ◌∷◌, length, get_or, refl, ap, ◌∙◌, arith}
-use Rattle.std.specs.Prelude.{Option, Some, None, option_and_then}
-use Rattle.meson_splice.specs.declared.file_set.File.{File}
-use Rattle.meson_syntax.specs.Paths.{nth}
-use Rattle.meson_calls.specs.Folders.{file_in}
-use Rattle.meson_calls.specs.FileNames.{meant_in}
+use Rattle.meson_calls.proofs.Words.{option_and_then, ◌≡◌, ℕ, zero, suc, ◌<◌, List, [], ◌∷◌, length, get_or, refl, ap, ◌∙◌, arith, Option, Some, None, File}
+use Rattle.meson_calls.proofs.Words.{nth, meant_in, file_in}
 
 nth_there : (files : List File) (i : ℕ) (d : File) → i < length files → nth files i ≡ Some (get_or files i d)
 nth_there [] i d within = absurd (omega arith)

@@ -1,12 +1,9 @@
 -- Notes that are taken one after another, their paths one behind another.
-use Rattle.std.proofs.Common.{◌≡◌, ℕ, zero, suc, ◌<◌, ◌+◌, ◌-◌, ◌≤◌, List, [], ◌∷◌, ◌++◌, length, take, drop, map, refl, sym, ap, ap₂, ◌∙◌, arith}
-use Rattle.std.specs.Prelude.{slice_range}
-use Rattle.std.proofs.lemmas.List.{append-nil, drop-append-le, take-append-le, length-append, length-drop, map-append}
+use Rattle.meson_calls.proofs.Words.{slice_range, ◌≡◌, ℕ, zero, suc, ◌<◌, ◌+◌, ◌-◌, ◌≤◌, List, [], ◌∷◌, ◌++◌, length, take, drop, map, refl, sym, ap, ap₂, ◌∙◌}
+use Rattle.meson_calls.proofs.Words.{arith, append-nil, drop-append-le, take-append-le, map-append, ranged_view, what_view, place, placed, Ranged}
+use Rattle.std.proofs.lemmas.List.{length-append, length-drop}
 use Rattle.meson_syntax.proofs.Slices.{slice_range-part}
-use Rattle.meson_calls.specs.declared.note.Ranged.{Ranged}
-use Rattle.meson_calls.specs.Project.{place, placed}
 use Rattle.meson_calls.specs.Ranges.{IsInside, AreInside}
-use Rattle.meson_calls.specs.Notes.{ranged_view, what_view}
 
 -- further steps change no range
 range_stays : (steps more : List ℕ) (from to : ℕ) → from ≤ to → to ≤ length steps → slice_range (steps ++ more) from to ≡ slice_range steps from to

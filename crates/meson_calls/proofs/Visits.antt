@@ -1,20 +1,12 @@
 -- Parts that are visited one after another.
-use Rattle.std.specs.Prelude.{Bool, true, false, ◌||◌, if◌then◌else◌}
-use Rattle.std.proofs.Common.{◌≡◌, ℕ, ◌+◌, ◌<◌, ◌≤◌, List, [], ◌∷◌, ◌++◌, length, drop, get_or, Option, Some, refl, sym, ap, ap₂, ◌∙◌, arith}
-use Rattle.std.specs.Borrow.{Bor}
-use Rattle.std.proofs.lemmas.List.{append_assoc, append-nil, at_drop_more, at_drop_all}
-use Rattle.std.proofs.lemmas.List.Elements.{filter_map-append}
-use Rattle.std.proofs.lemmas.List.Sums.{fold-append}
-use Rattle.meson_lex.specs.declared.kinds.Span.{Span}
-use Rattle.meson_syntax.specs.Tree.{Expression, call}
-use Rattle.meson_calls.specs.declared.kept.KeptAssignment.{KeptAssignment}
-use Rattle.meson_calls.specs.Parts.{Part, an_expression, parts_of_expression}
-use Rattle.meson_calls.specs.Project.{Placed, placed}
-use Rattle.meson_calls.specs.declared.call.CallRef.{CallRef}
-use Rattle.meson_calls.specs.Calls.{chosen}
-use Rattle.meson_calls.specs.Notes.{Note, note_of, noted}
-use Rattle.meson_calls.specs.Walks.{KeptParts, notes_kept, setters_kept, assignments_kept, reads_kept, kept_so_far, with_part, with_parts, notes_of_kept, reads_of_kept, read_at, read_in}
-use Rattle.meson_calls.specs.Setters.{AreAssignments, any_sets_by_call, assignment_at, assignments_in, has_loop, is_loop}
+use Rattle.meson_calls.proofs.Words.{Bor, false, ◌||◌, if◌then◌else◌, Bool, true, ◌≡◌, ℕ, ◌+◌, ◌<◌, ◌≤◌, List, [], ◌∷◌, ◌++◌, length, drop, get_or, Option}
+use Rattle.meson_calls.proofs.Words.{Some, refl, sym, ap, ap₂, ◌∙◌, arith, append_assoc, append-nil, at_drop_more, at_drop_all, filter_map-append, fold-append}
+use Rattle.meson_calls.proofs.Words.{Span, Expression, call, chosen, Note, note_of, noted, Part, parts_of_expression, Placed, placed, AreAssignments}
+use Rattle.meson_calls.proofs.Words.{any_sets_by_call, assignment_at, assignments_in, has_loop, is_loop, KeptParts, notes_kept, setters_kept, assignments_kept}
+use Rattle.meson_calls.proofs.Words.{reads_kept, kept_so_far, with_part, with_parts, notes_of_kept, reads_of_kept, read_at, read_in, CallRef, KeptAssignment}
+use Rattle.meson_calls.specs.Parts.{an_expression}
+use Rattle.meson_calls.specs.Walks.{list_opened, lists_kept, lists_of_kept, lists_opened}
+use Rattle.meson_calls.specs.declared.keeper.Opened.{Opened}
 use Rattle.meson_calls.proofs.SettersApart.{setters_append, setters_of, stays_within}
 
 pub two_parts : (before middle after : KeptParts) (a b : List (Placed (Part Span))) → middle ≡ with_parts before a → after ≡ with_parts middle b → after ≡ with_parts before (a ++ b)
@@ -64,6 +56,12 @@ reads_come x cs [] = ap (reads_kept x) (sym (append-nil cs))
 reads_come x cs (q ∷ ps) =
     reads_come x (cs ++ read_in x (q ∷ [])) ps
     ∙ ap (reads_kept x) (append_assoc cs (read_in x (q ∷ [])) (read_in x ps) ∙ ap (λ l. cs ++ l) (sym (filter_map-append (read_at x) (q ∷ []) ps)))
+
+lists_come : (ls : List Opened) (ps : List (Placed (Part Span))) → with_parts (lists_kept ls) ps ≡ lists_kept (ls ++ lists_opened ps)
+lists_come ls [] = ap lists_kept (sym (append-nil ls))
+lists_come ls (q ∷ ps) =
+    lists_come (ls ++ lists_opened (q ∷ [])) ps
+    ∙ ap lists_kept (append_assoc ls (lists_opened (q ∷ [])) (lists_opened ps) ∙ ap (λ l. ls ++ l) (sym (filter_map-append list_opened (q ∷ []) ps)))
 
 setters_come : (names : List (Bor (List ℕ))) (ns : List (Placed (Note Span))) (ps : List (Placed (Part Span))) → with_parts (setters_kept names ns) ps ≡ setters_kept names (ns ++ setters_of names ps)
 setters_come names ns [] = ap (setters_kept names) (sym (append-nil ns))
@@ -123,3 +121,6 @@ more_noted ns found kept ps is comes = is ∙ ap notes_of_kept (comes ∙ notes_
 
 pub all_read : (x : List ℕ) (found : Option (List CallRef)) (kept : KeptParts) (ps : List (Placed (Part Span))) → found ≡ reads_of_kept kept → kept ≡ with_parts (reads_kept x []) ps → found ≡ Some (read_in x ps)
 all_read x found kept ps is comes = is ∙ ap reads_of_kept (comes ∙ reads_come x [] ps)
+
+pub all_opened : (found : Option (List Opened)) (kept : KeptParts) (ps : List (Placed (Part Span))) → found ≡ lists_of_kept kept → kept ≡ with_parts (lists_kept []) ps → found ≡ Some (lists_opened ps)
+all_opened found kept ps is comes = is ∙ ap lists_of_kept (comes ∙ lists_come [] ps)

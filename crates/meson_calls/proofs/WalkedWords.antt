@@ -1,35 +1,25 @@
 -- The words of what the walk goes through: those of a part are no more than those of the whole.
-use Rattle.std.proofs.Common.{rules, ◌≡◌, ℕ, zero, suc, ◌+◌, ◌<◌, ◌≤◌, ◌^◌, false, List, [], ◌∷◌, ◌++◌, length, drop, get_or, Option, ap, ◌∙◌, arith, length-append}
-use Rattle.std.proofs.lemmas.List.{at_drop_more}
+use Rattle.meson_calls.proofs.Words.{false, rules, ◌≡◌, ℕ, zero, suc, ◌+◌, ◌<◌, ◌≤◌, ◌^◌, List, [], ◌∷◌, ◌++◌, length, drop, get_or, Option, ap, ◌∙◌, arith}
+use Rattle.meson_calls.proofs.Words.{length-append, at_drop_more, new_line, Span, mark, names_words, otherwise_words, operator_words, expression_words}
+use Rattle.meson_calls.proofs.Words.{operands_words, tail_words, tails_words, listing_words, argument_words, arguments_words, comma_words, statement_words}
+use Rattle.meson_calls.proofs.Words.{branches_words, statements_words, block_words, IsSpanned, paren, array, dictionary, unary, method, listing, evaluate}
+use Rattle.meson_calls.proofs.Words.{assign, block, arguments_of, operands_of, tails_of, branches_of, statements_of, view, block_view, name_at, names_at}
+use Rattle.meson_calls.proofs.Words.{expr_view, arg_view, args_view, tail_view, tails_view, list_view, operand_view, operands_view, stmt_view, stmts_view}
+use Rattle.meson_calls.proofs.Words.{branch_view, branches_view, Assignment, Bracket, Arg, Branch, Expr, Operand, Parsed, Stmt, else_view}
 use Rattle.meson_lex.specs.declared.kinds.Kind.TheVariants as k
-use Rattle.meson_lex.specs.declared.kinds.Span.{Span}
-use Rattle.meson_lex.specs.Significant.{new_line}
-use Rattle.meson_syntax.specs.declared.operator.Bracket.{Bracket}
 use Rattle.meson_syntax.specs.declared.operator.Bracket.TheVariants as bracket
 use Rattle.meson_syntax.specs.declared.operator.UnaryOperator.{UnaryOperator}
-use Rattle.meson_syntax.specs.declared.operator.Assignment.{Assignment}
-use Rattle.meson_syntax.specs.declared.tree.Arg.{Arg}
 use Rattle.meson_syntax.specs.declared.tree.Arg.TheVariants as arg
 use Rattle.meson_syntax.specs.declared.tree.Arg.TheFolds.{the_lemmas}
 use Rattle.meson_syntax.specs.declared.tree.Block as rust_block
-use Rattle.meson_syntax.specs.declared.tree.Branch.{Branch}
-use Rattle.meson_syntax.specs.declared.tree.Expr.{Expr}
 use Rattle.meson_syntax.specs.declared.tree.Expr.TheVariants as expr
 use Rattle.meson_syntax.specs.declared.tree.List as rust
-use Rattle.meson_syntax.specs.declared.tree.Operand.{Operand}
-use Rattle.meson_syntax.specs.declared.tree.Parsed.{Parsed}
-use Rattle.meson_syntax.specs.declared.tree.Stmt.{Stmt}
 use Rattle.meson_syntax.specs.declared.tree.Stmt.TheFolds as stmts
 use Rattle.meson_syntax.specs.declared.tree.Stmt.TheVariants as stmt
 use Rattle.meson_syntax.specs.declared.tree.Tail as rust_tail
 use Rattle.meson_syntax.specs.declared.tree.Tail.TheVariants as tail
-use Rattle.meson_syntax.specs.Tree.{paren, array, dictionary, unary, method, listing, evaluate, assign, block, arguments_of, operands_of, tails_of, branches_of, statements_of}
-use Rattle.meson_syntax.specs.Grammar.{mark, names_words, otherwise_words, operator_words, expression_words, operands_words, tail_words, tails_words, listing_words, argument_words, arguments_words, comma_words, statement_words, branches_words, statements_words, block_words}
-use Rattle.meson_syntax.specs.Reads.{IsSpanned}
-use Rattle.meson_syntax.specs.View.{view, block_view, name_at, names_at, expr_view, arg_view, args_view, tail_view, tails_view, list_view, operand_view, operands_view, stmt_view, stmts_view, branch_view, branches_view}
 use Rattle.meson_calls.proofs.GoodNotes.{call_view}
 use Rattle.meson_calls.proofs.ListTurns.{args_size, tail_size}
-use Rattle.meson_calls.specs.inside.Walks.{else_view}
 use Rattle.meson_calls.proofs.StatementParts.{if_view, foreach_view}
 use Rattle.meson_calls.proofs.Parted.{row_view, postfix_view, conditional_view, pair_view, operand_value}
 use Rattle.meson_calls.proofs.WordCounts.{expression_some, argument_some, argument_enough, tail_enough, listing_holds, any_word, file_few}

@@ -1,21 +1,15 @@
 -- How many words trees have: an expression one or more, what counts children at least as many, and a text that reads as a tree no more than its bytes and one.
-use Rattle.std.proofs.Common.{◌≡◌, ℕ, ◌<◌, ◌≤◌, ◌^◌, Bool, true, false, List, [], ◌∷◌, ◌++◌, length, ap, ◌∙◌, arith, length-append}
-use Rattle.meson_lex.specs.declared.kinds.Kind.{Kind}
+use Rattle.meson_calls.proofs.Words.{false, ◌≡◌, ℕ, ◌<◌, ◌≤◌, ◌^◌, Bool, true, List, [], ◌∷◌, ◌++◌, length, ap, ◌∙◌, arith, length-append, Lexeme, joined}
+use Rattle.meson_calls.proofs.Words.{AreItems, OfKind, Word, kept, Gap, Ends, Opens, Closes, Other, role, State, start, step, after, emit, emit_by, emitted}
+use Rattle.meson_calls.proofs.Words.{only_if, ends_line, closing, new_line, Kind, mark, comma_words, expression_words, operands_words, tail_words, tails_words}
+use Rattle.meson_calls.proofs.Words.{listing_words, argument_words, arguments_words, branches_words, file_words, closes, IsSpanned, Expression, identifier}
+use Rattle.meson_calls.proofs.Words.{boolean, integer, string, paren, array, dictionary, call, unary, row, postfix, conditional, Tail, method, index, Listing}
+use Rattle.meson_calls.proofs.Words.{listing, Argument, plain, named, pair, Arguments, no_arguments, argument, Branches, no_branches, branch, view, Bracket}
+use Rattle.meson_calls.proofs.Words.{Parsed, file-words-erased, argument_child_count, arguments_child_count, tail_child_count}
 use Rattle.meson_lex.specs.declared.kinds.Kind.TheVariants as k
-use Rattle.meson_lex.specs.Items.{Lexeme, joined, AreItems}
-use Rattle.meson_lex.specs.Kinds.{OfKind}
-use Rattle.meson_lex.specs.Significant.{Word, kept, Role, Gap, Ends, Opens, Closes, Other, role, State, start, step, after, emit, emit_by, emitted, only_if, ends_line, closing, new_line}
+use Rattle.meson_lex.specs.Significant.{Role}
 use Rattle.meson_lex.proofs.ScanItems.{no_empty}
-use Rattle.meson_syntax.specs.declared.operator.Bracket.{Bracket}
 use Rattle.meson_syntax.specs.declared.operator.Bracket.TheVariants as bracket
-use Rattle.meson_syntax.specs.declared.tree.Parsed.{Parsed}
-use Rattle.meson_syntax.specs.Operators.{closes}
-use Rattle.meson_syntax.specs.Tree.{Expression, identifier, boolean, integer, string, paren, array, dictionary, call, unary, row, postfix, conditional, Tail, method, index, Listing, listing, Argument, plain, named, pair, Arguments, no_arguments, argument, Branches, no_branches, branch}
-use Rattle.meson_syntax.specs.Grammar.{mark, comma_words, expression_words, operands_words, tail_words, tails_words, listing_words, argument_words, arguments_words, branches_words, file_words}
-use Rattle.meson_syntax.specs.Reads.{IsSpanned}
-use Rattle.meson_syntax.specs.View.{view}
-use Rattle.meson_syntax.proofs.parsing.FileErased.{file-words-erased}
-use Rattle.meson_calls.specs.Parts.{argument_child_count, arguments_child_count, tail_child_count}
 
 -- ---- expressions, and what counts children
 

@@ -18,6 +18,13 @@ pub struct Assignments {
     pub found: Vec<KeptAssignment>,
 }
 
+/// An array or a dictionary: the offset of its opening bracket, in bytes of its file, and its place.
+#[derive(Drop)]
+pub struct Opened {
+    pub at: usize,
+    pub place: CallRef,
+}
+
 /// What a walk keeps of the parts that it visits.
 #[derive(Drop)]
 pub enum Keeper<'n, 't> {
@@ -29,4 +36,6 @@ pub enum Keeper<'n, 't> {
     Assignments(Assignments),
     /// The places of the identifiers that are this variable.
     Reads { name: &'t [u8], found: Vec<CallRef> },
+    /// The arrays and dictionaries.
+    Lists(Vec<Opened>),
 }

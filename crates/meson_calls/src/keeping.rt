@@ -7,10 +7,10 @@ ghost use Rattle.meson_calls.specs.Notes.{note_of, noted, taken_view, what_view,
 ghost use Rattle.meson_calls.specs.Parts.{parts_of_expression};
 ghost use Rattle.meson_calls.specs.ChosenNotes.{Source};
 ghost use Rattle.meson_calls.specs.Setters.{assignments_in, is_loop, is_setter, setters_in};
-ghost use Rattle.meson_calls.specs.Walks.{KeepsParts, keeper_view, kept_so_far, notes_of_kept, part_at, part_reads, part_view, read_in, reads_of_kept};
+ghost use Rattle.meson_calls.specs.Walks.{KeepsParts, bracket_of, keeper_view, kept_so_far, lists_of_kept, lists_opened, notes_of_kept, part_at, part_reads, part_view, read_in, reads_of_kept};
 
 use crate::call::{BorrowedPlace, CallRef};
-use crate::keeper::{Assignments, Keeper, Setters};
+use crate::keeper::{Assignments, Keeper, Opened, Setters};
 use crate::kept::KeptAssignment;
 use crate::note::What;
 use crate::part::{Part, Walk};
@@ -114,6 +114,7 @@ impl<'n, 't> Keeper<'n, 't> {
             Keeper::Setters(_) => true,
             Keeper::Assignments(_) => true,
             Keeper::Reads { name: _, found: _ } => false,
+            Keeper::Lists(_) => false,
         }
     }
 
@@ -129,6 +130,7 @@ impl<'n, 't> Keeper<'n, 't> {
             }
             Keeper::Assignments(_) => None,
             Keeper::Reads { name: _, found: _ } => None,
+            Keeper::Lists(_) => None,
         }
     }
 
@@ -141,6 +143,20 @@ impl<'n, 't> Keeper<'n, 't> {
             Keeper::Setters(_) => None,
             Keeper::Assignments(_) => None,
             Keeper::Reads { name: _, found } => Some(found),
+            Keeper::Lists(_) => None,
+        }
+    }
+
+    /// The arrays and dictionaries, if these are kept.
+    pub fn lists(self) -> Option<Vec<Opened>>
+        ensures { option_map (λ found. found.items) result ≡ lists_of_kept (keeper_view self.entry) }
+    {
+        match self {
+            Keeper::Notes(_) => None,
+            Keeper::Setters(_) => None,
+            Keeper::Assignments(_) => None,
+            Keeper::Reads { name: _, found: _ } => None,
+            Keeper::Lists(found) => Some(found),
         }
     }
 }
@@ -166,6 +182,20 @@ impl<'t> Part<'t> {
                 _ => false,
             },
             Part::Statement(_) => false,
+        }
+    }
+
+    /// The offset of the opening bracket, if it is an array or a dictionary.
+    fn bracket(self) -> Option<usize>
+        ensures { (source : Source) → result ≡ bracket_of (part_view source self.entry) }
+    {
+        match self {
+            Part::Expression(expr) => match expr {
+                Expr::Array(list) => Some(list.span.from),
+                Expr::Dictionary(list) => Some(list.span.from),
+                _ => None,
+            },
+            Part::Statement(_) => None,
         }
     }
 }
@@ -261,6 +291,22 @@ impl<'t> Walk<'t> {
         Ok(())
     }
 
+    /// Keeps the part at the path, if it is an array or a dictionary.
+    fn keep_list(
+        &self,
+        path: &[usize],
+        part: Part<'t>,
+        found: &mut Vec<Opened>,
+    ) -> Result<(), AllocError>
+        ensures { OnOk result (found.new.items ≡ found.old.items ++ lists_opened (part_at self.now path.now part.entry ∷ [])) }
+    {
+        if let Some(at) = part.bracket() {
+            let place = place_of(self.alloc, self.file, path)?;
+            found.push(Opened { at, place })?;
+        }
+        Ok(())
+    }
+
     /// Keeps what is to be kept of the part at the path.
     pub fn visit(
         &self,
@@ -275,6 +321,7 @@ impl<'t> Walk<'t> {
             Keeper::Setters(setters) => self.keep_setter(path, part, setters),
             Keeper::Assignments(assignments) => self.keep_assignment(path, part, assignments),
             Keeper::Reads { name, found } => self.keep_read(path, part, name, found),
+            Keeper::Lists(found) => self.keep_list(path, part, found),
         }
     }
 }

@@ -13,6 +13,7 @@ pub mod keeping;
 pub mod kept;
 pub mod keys;
 pub mod laws;
+pub mod lists;
 pub mod literals;
 pub mod load_fault;
 pub mod loading;

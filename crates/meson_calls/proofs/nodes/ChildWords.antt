@@ -1,13 +1,8 @@
 -- The words of a child stand among those of its node.
-use Rattle.std.specs.Prelude.{option_and_then}
-use Rattle.std.proofs.Common.{◌≡◌, ℕ, [], ◌∷◌, List, ◌++◌, Some, refl, sym, ap, ◌∙◌}
-use Rattle.meson_lex.specs.Significant.{Word}
-use Rattle.meson_syntax.specs.Children.{Any, an_expression, a_statement, a_block}
-use Rattle.meson_syntax.specs.Grammar.{block_words, expression_words, statement_words}
-use Rattle.meson_syntax.specs.inside.Children.{any_of, child_nodes, node_at}
-use Rattle.meson_syntax.specs.Paths.{Sort, of_expression, of_statement, of_block, Node, node_words, nth, reach}
-use Rattle.meson_syntax.proofs.PathNodes.{inside_of, reached}
-use Rattle.meson_syntax.proofs.paths.Reaching.{map-some, reach-fits}
+use Rattle.meson_calls.proofs.Words.{option_and_then, ◌≡◌, ℕ, [], ◌∷◌, List, ◌++◌, Some, refl, sym, ap, ◌∙◌, Word, Any, an_expression, a_statement, a_block}
+use Rattle.meson_calls.proofs.Words.{block_words, expression_words, statement_words, Sort, of_expression, of_statement, of_block, Node, node_words, nth, reach}
+use Rattle.meson_calls.proofs.Words.{any_of, child_nodes, node_at, reached, map-some, reach-fits}
+use Rattle.meson_syntax.proofs.PathNodes.{inside_of}
 
 abbrev pub words_of : {S : Type 0} → Any S → List Word
 words_of (an_expression e) = expression_words e

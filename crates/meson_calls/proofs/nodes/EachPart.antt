@@ -1,14 +1,7 @@
 -- What a node passes to its children, and what follows of it for a part, holds of all parts of a node.
-use Rattle.std.proofs.Common.{◌≡◌, ℕ, suc, ◌+◌, List, [], ◌∷◌, Some, refl, subst, sym, arith}
-use Rattle.meson_syntax.specs.Children.{Any, an_expression, a_statement, a_block}
-use Rattle.meson_syntax.specs.inside.Children.{child_nodes}
-use Rattle.meson_syntax.specs.Paths.{nth}
-use Rattle.meson_syntax.specs.Tree.{Expression}
-use Rattle.meson_syntax.proofs.paths.Every.{Every, every-append, every-nth}
-use Rattle.meson_calls.specs.declared.call.CallRef.{CallRef}
-use Rattle.meson_calls.specs.Parts.{Part, parts_of_expression}
+use Rattle.meson_calls.proofs.Words.{◌≡◌, ℕ, suc, ◌+◌, List, [], ◌∷◌, Some, refl, subst, sym, arith, Any, an_expression, a_statement, a_block, nth, Expression}
+use Rattle.meson_calls.proofs.Words.{child_nodes, Every, every-append, every-nth, Part, parts_of_expression, Placed, child, placed, CallRef}
 use Rattle.meson_calls.specs.Parts as part
-use Rattle.meson_calls.specs.Project.{Placed, child, placed}
 use Rattle.meson_calls.proofs.nodes.Induction.{Each, by_children}
 use Rattle.meson_calls.proofs.nodes.PartsBelow.{any, itself, parts_are, parts_below, parts_of}
 use Rattle.meson_calls.proofs.nodes.Sorts.{IsExpression, within_expression}

@@ -1,9 +1,10 @@
 -- The children of a node without its spans are its own without theirs.
-use Rattle.std.proofs.Common.{◌≡◌, [], ◌∷◌, ◌++◌, map, refl, sym, ap, ap₂, ◌∙◌}
-use Rattle.std.proofs.lemmas.List.{map-append}
-use Rattle.meson_syntax.specs.Children.{Any, an_expression, a_statement, a_block, arguments_parts, branches_parts}
-use Rattle.meson_syntax.specs.inside.Children.{child_nodes, operands_parts, statements_parts, tails_parts}
-use Rattle.meson_syntax.specs.Tree.{Nowhere, array, dictionary, call, row, postfix, Operands, no_operands, operand, method, index, Tails, no_tails, tail, listing, plain, named, pair, Arguments, no_arguments, argument, selection, Branches, no_branches, branch, nothing_else, otherwise, Statements, no_statements, statement, block, erase_arguments, erase_block, erase_branches, erase_expression, erase_operands, erase_statement, erase_statements, erase_tails}
+use Rattle.meson_calls.proofs.Words.{◌≡◌, [], ◌∷◌, ◌++◌, map, refl, sym, ap, ap₂, ◌∙◌, map-append, Any, an_expression, a_statement, a_block, arguments_parts}
+use Rattle.meson_calls.proofs.Words.{branches_parts, Nowhere, array, dictionary, call, row, postfix, Operands, no_operands, operand, method, index, Tails}
+use Rattle.meson_calls.proofs.Words.{no_tails, tail, listing, plain, named, pair, Arguments, no_arguments, argument, selection, Branches, no_branches, branch}
+use Rattle.meson_calls.proofs.Words.{nothing_else, otherwise, Statements, no_statements, statement, block, erase_arguments, erase_block, erase_branches}
+use Rattle.meson_calls.proofs.Words.{erase_expression, erase_operands, erase_statement, erase_statements, erase_tails, child_nodes, operands_parts}
+use Rattle.meson_calls.proofs.Words.{statements_parts, tails_parts}
 
 module _ {S : Type 0} where
   abbrev pub erase_any : Any S → Any Nowhere

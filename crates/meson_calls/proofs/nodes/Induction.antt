@@ -1,11 +1,10 @@
 -- What holds of a node where it holds of its children holds of every node.
-use Rattle.std.specs.Prelude.{⊤}
-use Rattle.std.proofs.Common.{◌≡◌, ℕ, zero, suc, ◌+◌, List, [], ◌∷◌, ◌++◌, length, Some, refl, subst, arith}
-use Rattle.meson_syntax.specs.Children.{Any, an_expression, a_statement, a_block, arguments_parts, branches_parts, listing_parts, tail_parts}
-use Rattle.meson_syntax.specs.inside.Children.{child_nodes, operands_parts, otherwise_parts, statements_parts, tails_parts}
-use Rattle.meson_syntax.specs.Paths.{nth}
-use Rattle.meson_syntax.specs.Tree.{Expression, paren, array, dictionary, call, unary, row, postfix, conditional, Operands, no_operands, operand, Tail, method, index, Tails, no_tails, tail, Listing, listing, plain, named, pair, Arguments, no_arguments, argument, Statement, evaluate, assign, selection, iteration, Branches, no_branches, branch, Otherwise, nothing_else, otherwise, Statements, no_statements, statement, Block, block}
-use Rattle.meson_syntax.proofs.parsing.Steps.{some-injective}
+use Rattle.meson_calls.proofs.Words.{⊤, ◌≡◌, ℕ, zero, suc, ◌+◌, List, [], ◌∷◌, ◌++◌, length, Some, refl, subst, arith, Any, an_expression, a_statement, a_block}
+use Rattle.meson_calls.proofs.Words.{arguments_parts, branches_parts, listing_parts, tail_parts, nth, Expression, paren, array, dictionary, call, unary, row}
+use Rattle.meson_calls.proofs.Words.{postfix, conditional, Operands, no_operands, operand, Tail, method, index, Tails, no_tails, tail, Listing, listing, plain}
+use Rattle.meson_calls.proofs.Words.{named, pair, Arguments, no_arguments, argument, Statement, evaluate, assign, selection, iteration, Branches, no_branches}
+use Rattle.meson_calls.proofs.Words.{branch, Otherwise, nothing_else, otherwise, Statements, no_statements, statement, Block, block, child_nodes}
+use Rattle.meson_calls.proofs.Words.{operands_parts, otherwise_parts, statements_parts, tails_parts, some-injective}
 
 -- `child c n` is where the n-th child of what is at `c` is.
 module _ {S C : Type 0} (child : C → ℕ → C) (P : C → Any S → Type 0) where

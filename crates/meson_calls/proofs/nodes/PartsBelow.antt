@@ -1,12 +1,15 @@
 -- The parts of a node are itself, if it is one, and those of its children.
-use Rattle.std.proofs.Common.{◌≡◌, ℕ, ◌+◌, List, [], ◌∷◌, ◌++◌, append_assoc, append-nil, length, length-append, refl, sym, ap, ap₂, ◌∙◌, arith}
-use Rattle.meson_syntax.specs.Tree.{Expression, paren, array, dictionary, call, unary, row, postfix, conditional, Operands, no_operands, operand, Tail, method, index, Tails, no_tails, tail, Listing, listing, Argument, plain, named, pair, Arguments, no_arguments, argument, Statement, evaluate, assign, selection, iteration, Branches, no_branches, branch, Otherwise, nothing_else, otherwise, Statements, no_statements, statement, block}
-use Rattle.meson_syntax.specs.Children.{Any, an_expression, a_statement, a_block, argument_parts, arguments_parts, branches_parts, listing_parts, tail_parts}
-use Rattle.meson_syntax.specs.inside.Children.{child_nodes, expression_parts, operands_parts, otherwise_parts, statement_parts, statements_parts, tails_parts}
-use Rattle.meson_calls.specs.declared.call.CallRef.{CallRef}
-use Rattle.meson_calls.specs.Parts.{Part, argument_child_count, arguments_child_count, branches_child_count, parts_of_arguments, parts_of_block, parts_of_branches, parts_of_expression, parts_of_listing, parts_of_operands, parts_of_otherwise, parts_of_statement, parts_of_statements, parts_of_tail, parts_of_tails, tail_child_count}
+use Rattle.meson_calls.proofs.Words.{◌≡◌, ℕ, ◌+◌, List, [], ◌∷◌, ◌++◌, length, length-append, refl, sym, ap, ap₂, ◌∙◌, arith, Any, an_expression, a_statement}
+use Rattle.meson_calls.proofs.Words.{a_block, argument_parts, arguments_parts, branches_parts, listing_parts, tail_parts, Expression, paren, array, dictionary}
+use Rattle.meson_calls.proofs.Words.{call, unary, row, postfix, conditional, Operands, no_operands, operand, Tail, method, index, Tails, no_tails, tail}
+use Rattle.meson_calls.proofs.Words.{Listing, listing, Argument, plain, named, pair, Arguments, no_arguments, argument, Statement, evaluate, assign, selection}
+use Rattle.meson_calls.proofs.Words.{iteration, Branches, no_branches, branch, Otherwise, nothing_else, otherwise, Statements, no_statements, statement, block}
+use Rattle.meson_calls.proofs.Words.{child_nodes, expression_parts, operands_parts, otherwise_parts, statement_parts, statements_parts, tails_parts, Part}
+use Rattle.meson_calls.proofs.Words.{argument_child_count, arguments_child_count, branches_child_count, parts_of_arguments, parts_of_block, parts_of_branches}
+use Rattle.meson_calls.proofs.Words.{parts_of_expression, parts_of_listing, parts_of_operands, parts_of_otherwise, parts_of_statement, parts_of_statements}
+use Rattle.meson_calls.proofs.Words.{parts_of_tail, parts_of_tails, tail_child_count, Placed, child, placed, CallRef}
+use Rattle.std.proofs.Common.{append_assoc, append-nil}
 use Rattle.meson_calls.specs.Parts as part
-use Rattle.meson_calls.specs.Project.{Placed, child, placed}
 
 abbrev pub any : {S : Type 0} → Part S → Any S
 any (part.an_expression e) = an_expression e

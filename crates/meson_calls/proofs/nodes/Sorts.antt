@@ -1,10 +1,9 @@
 -- What stands in what: in an expression expressions, in a statement expressions and blocks, and in a block statements.
-use Rattle.std.specs.Prelude.{⊤}
-use Rattle.std.proofs.Common.{[], ◌∷◌}
-use Rattle.meson_syntax.specs.Tree.{paren, array, dictionary, call, unary, row, postfix, conditional, Operands, no_operands, operand, method, index, Tails, no_tails, tail, listing, plain, named, pair, Arguments, no_arguments, argument, evaluate, assign, selection, iteration, Branches, no_branches, branch, nothing_else, otherwise, Statements, no_statements, statement, block}
-use Rattle.meson_syntax.specs.Children.{Any, an_expression, a_statement, a_block, arguments_parts, branches_parts}
-use Rattle.meson_syntax.specs.inside.Children.{child_nodes, operands_parts, statements_parts, tails_parts}
-use Rattle.meson_syntax.proofs.paths.Every.{Every, every-append}
+use Rattle.meson_calls.proofs.Words.{⊤, [], ◌∷◌, Any, an_expression, a_statement, a_block, arguments_parts, branches_parts, paren, array, dictionary, call}
+use Rattle.meson_calls.proofs.Words.{unary, row, postfix, conditional, Operands, no_operands, operand, method, index, Tails, no_tails, tail, listing, plain}
+use Rattle.meson_calls.proofs.Words.{named, pair, Arguments, no_arguments, argument, evaluate, assign, selection, iteration, Branches, no_branches, branch}
+use Rattle.meson_calls.proofs.Words.{nothing_else, otherwise, Statements, no_statements, statement, block, child_nodes, operands_parts, statements_parts}
+use Rattle.meson_calls.proofs.Words.{tails_parts, Every, every-append}
 
 module _ {S : Type 0} where
   abbrev pub IsExpression : Any S → Type 0

@@ -5,7 +5,7 @@ use Rattle.meson_syntax.specs.declared.tree.Block as rust_block
 use Rattle.meson_syntax.specs.Tree.{Expression, Statement, Block, Otherwise, nothing_else, otherwise}
 use Rattle.meson_syntax.specs.View.{block_view}
 use Rattle.meson_calls.specs.declared.call.CallRef.{CallRef}
-use Rattle.meson_calls.specs.Project.{Placed, place, child}
+use Rattle.meson_calls.specs.Project.{Placed, child}
 use Rattle.meson_calls.specs.Parts.{Part, parts_of_expression, parts_of_statement, parts_of_block}
 
 -- the parts within an expression or a statement at a place

@@ -1,8 +1,4 @@
-use Rattle.std.proofs.Common.{length, ◌∙◌, sym, ap, ◌≤◌, arith}
-use Rattle.std.specs.Prelude.{is_some}
-use Rattle.meson_syntax.specs.View.{arg_view}
-use Rattle.meson_calls.specs.Calls.{value_without_name}
-use Rattle.meson_calls.specs.NamedArguments.{rest, number_behind}
+use Rattle.meson_calls.proofs.Words.{is_some, length, ◌∙◌, sym, ap, ◌≤◌, arith, arg_view, value_without_name, rest, number_behind}
 use Rattle.meson_calls.proofs.KeptArguments.{rest_found, rest_passed, number_found, kept_none}
 use Rattle.meson_calls.proofs.arguments.behind_first.Goals as goal
 

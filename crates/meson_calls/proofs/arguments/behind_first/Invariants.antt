@@ -1,6 +1,4 @@
-use Rattle.std.proofs.Common.{◌≡◌, ℕ, List, drop}
-use Rattle.meson_calls.specs.Calls.{value_without_name}
-use Rattle.meson_calls.specs.NamedArguments.{kept_args}
+use Rattle.meson_calls.proofs.Words.{◌≡◌, ℕ, List, drop, value_without_name, kept_args}
 use Rattle.meson_calls.proofs.arguments.behind_first.Given as goal
 
 abbrev pub invariant-loop-i : goal.invariant-loop-i

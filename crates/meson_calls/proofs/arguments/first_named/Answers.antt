@@ -1,7 +1,4 @@
-use Rattle.std.proofs.Common.{◌∙◌, sym, ap}
-use Rattle.std.specs.Prelude.{is_some}
-use Rattle.meson_syntax.specs.View.{arg_view}
-use Rattle.meson_calls.specs.Calls.{value_with_name}
+use Rattle.meson_calls.proofs.Words.{is_some, ◌∙◌, sym, ap, arg_view, value_with_name}
 use Rattle.meson_calls.proofs.KeptArguments.{rest_passed, kept_none}
 use Rattle.meson_calls.proofs.FirstNamed.{first_is}
 use Rattle.meson_calls.proofs.arguments.first_named.Goals as goal

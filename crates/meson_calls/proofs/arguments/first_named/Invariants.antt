@@ -1,6 +1,4 @@
-use Rattle.std.proofs.Common.{◌≡◌, drop}
-use Rattle.meson_calls.specs.Calls.{value_with_name}
-use Rattle.meson_calls.specs.NamedArguments.{kept_args}
+use Rattle.meson_calls.proofs.Words.{◌≡◌, drop, value_with_name, kept_args}
 use Rattle.meson_calls.proofs.arguments.first_named.Given as goal
 
 abbrev pub invariant-loop-i : goal.invariant-loop-i

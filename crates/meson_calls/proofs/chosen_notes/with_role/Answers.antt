@@ -1,7 +1,4 @@
-use Rattle.std.proofs.Common.{◌++◌, ◌∷◌, [], ◌∙◌, sym, ap, drop}
-use Rattle.meson_calls.specs.Notes.{note_view, note_views}
-use Rattle.meson_calls.specs.ChosenNotes.{note_has_role, places_with_role}
-use Rattle.meson_calls.specs.Project.{place_at}
+use Rattle.meson_calls.proofs.Words.{◌++◌, ◌∷◌, [], ◌∙◌, sym, ap, drop, note_has_role, places_with_role, note_view, note_views, place_at}
 use Rattle.meson_calls.proofs.Picked.{skipped, picked}
 use Rattle.meson_calls.proofs.chosen_notes.with_role.Goals as goal
 use Rattle.meson_calls.proofs.chosen_notes.with_role.Goals.{then-note_has_role+in_ok-place+in_ok-push, else-note_has_role}

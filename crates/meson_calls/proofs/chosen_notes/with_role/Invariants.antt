@@ -1,6 +1,4 @@
-use Rattle.std.proofs.Common.{◌≡◌, ◌++◌, drop}
-use Rattle.meson_calls.specs.Notes.{note_views}
-use Rattle.meson_calls.specs.ChosenNotes.{places_with_role}
+use Rattle.meson_calls.proofs.Words.{◌≡◌, ◌++◌, drop, places_with_role, note_views}
 use Rattle.meson_calls.proofs.chosen_notes.with_role.Given as goal
 
 abbrev pub invariant-loop-i : goal.invariant-loop-i

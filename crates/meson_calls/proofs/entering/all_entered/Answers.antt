@@ -1,9 +1,5 @@
-use Rattle.std.proofs.Common.{◌++◌, ◌∷◌, [], ◌∙◌, sym, ap, subst, drop, map}
-use Rattle.std.specs.Prelude.{option_map, string_bytes}
-use Rattle.std.proofs.lemmas.List.{map-append}
-use Rattle.meson_calls.specs.Notes.{note_view, note_views}
-use Rattle.meson_calls.specs.ChosenNotes.{note_enters, entered_names}
-use Rattle.meson_calls.specs.Strings.{AreGood, note_words}
+use Rattle.meson_calls.proofs.Words.{option_map, string_bytes, ◌++◌, ◌∷◌, [], ◌∙◌, sym, ap, subst, drop, map, map-append, note_enters, entered_names, note_view}
+use Rattle.meson_calls.proofs.Words.{note_views, AreGood, note_words}
 use Rattle.meson_calls.proofs.Entered.{enters_one, enters_none, enters_ended}
 use Rattle.meson_calls.proofs.GoodNotes.{good_at}
 use Rattle.meson_calls.proofs.entering.all_entered.Goals as goal

@@ -1,7 +1,4 @@
-use Rattle.std.proofs.Common.{◌≡◌, ◌++◌, drop, map}
-use Rattle.std.specs.Prelude.{string_bytes}
-use Rattle.meson_calls.specs.Notes.{note_views}
-use Rattle.meson_calls.specs.ChosenNotes.{entered_names}
+use Rattle.meson_calls.proofs.Words.{string_bytes, ◌≡◌, ◌++◌, drop, map, entered_names, note_views}
 use Rattle.meson_calls.proofs.entering.all_entered.Given as goal
 
 abbrev pub invariant-loop-i : goal.invariant-loop-i

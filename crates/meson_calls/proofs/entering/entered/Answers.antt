@@ -1,9 +1,5 @@
-use Rattle.std.proofs.Common.{◌∙◌, sym, ap}
-use Rattle.std.specs.Prelude.{Some, None, option_map, string_bytes, bytes_eq, codes}
-use Rattle.meson_syntax.specs.View.{text_at, list_view}
-use Rattle.meson_calls.specs.Folders.{file_in}
-use Rattle.meson_calls.specs.Notes.{what_view}
-use Rattle.meson_calls.specs.ChosenNotes.{call_with, note_enters}
+use Rattle.meson_calls.proofs.Words.{option_map, string_bytes, bytes_eq, codes, ◌∙◌, sym, ap, Some, None, text_at, list_view, call_with, note_enters, file_in}
+use Rattle.meson_calls.proofs.Words.{what_view}
 use Rattle.meson_calls.proofs.Entered.{enters_call}
 use Rattle.meson_calls.proofs.entering.entered.Goals as goal
 

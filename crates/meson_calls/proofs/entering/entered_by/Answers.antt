@@ -1,8 +1,4 @@
-use Rattle.std.proofs.Common.{rules, ◌≡◌, ◌∙◌, false, map, string_bytes, sym, ap, subst}
-use Rattle.meson_syntax.specs.View.{view}
-use Rattle.meson_calls.specs.Notes.{note_views}
-use Rattle.meson_calls.specs.ChosenNotes.{entered_names}
-use Rattle.meson_calls.specs.Strings.{NotesGood}
+use Rattle.meson_calls.proofs.Words.{false, string_bytes, rules, ◌≡◌, ◌∙◌, map, sym, ap, subst, view, entered_names, note_views, NotesGood}
 use Rattle.meson_calls.proofs.Entered.{entered_subdirs}
 use Rattle.meson_calls.proofs.GoodNotes.{tree_good}
 use Rattle.meson_calls.proofs.NoSubdirs.{no_subdirs}

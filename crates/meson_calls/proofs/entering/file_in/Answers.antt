@@ -1,7 +1,4 @@
-use Rattle.std.proofs.Common.{◌++◌, ◌∙◌, sym, ap}
-use Rattle.std.specs.Prelude.{Some, codes}
-use Rattle.std.proofs.lemmas.List.{append_assoc}
-use Rattle.meson_calls.specs.Folders.{folder_of, is_plain_folder}
+use Rattle.meson_calls.proofs.Words.{codes, ◌++◌, ◌∙◌, sym, ap, Some, append_assoc, folder_of, is_plain_folder}
 use Rattle.meson_calls.proofs.Entered.{plain_file}
 use Rattle.meson_calls.proofs.entering.file_in.Goals as goal
 

@@ -1,5 +1,4 @@
-use Rattle.std.proofs.Common.{◌++◌, ◌∙◌, sym, ap}
-use Rattle.meson_calls.specs.Folders.{build_file}
+use Rattle.meson_calls.proofs.Words.{◌++◌, ◌∙◌, sym, ap, build_file}
 use Rattle.meson_calls.proofs.Entered.{folder_before, ends_so}
 use Rattle.meson_calls.proofs.entering.folder_of.Goals as goal
 

@@ -1,4 +1,4 @@
-use Rattle.meson_syntax.specs.View.{view}
+use Rattle.meson_calls.proofs.Words.{view}
 use Rattle.meson_calls.proofs.entering.subdirs.Goals as goal
 
 pub returns-clause-all : goal.returns-clause-all

@@ -1,10 +1,5 @@
-use Rattle.std.proofs.Common.{◌<◌, [], ◌∙◌, refl, sym, ap, length, arith, subst}
-use Rattle.std.specs.Prelude.{Some, option_map, string_bytes}
-use Rattle.std.proofs.lemmas.List.Elements.{All-get_or}
-use Rattle.meson_splice.specs.declared.file_set.File.{File}
-use Rattle.meson_calls.specs.Folders.{IsFileName, file_in}
-use Rattle.meson_calls.specs.Loading.{HasFileName}
-use Rattle.meson_calls.specs.FileNames.{is_file, is_entered}
+use Rattle.meson_calls.proofs.Words.{option_map, string_bytes, ◌<◌, [], ◌∙◌, refl, sym, ap, length, arith, subst, Some, All-get_or, File, is_file, is_entered}
+use Rattle.meson_calls.proofs.Words.{IsFileName, file_in, HasFileName}
 use Rattle.meson_calls.proofs.SubdirNames.{meant_at}
 use Rattle.meson_calls.proofs.file_names.enters.Goals as goal
 

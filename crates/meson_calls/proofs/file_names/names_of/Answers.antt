@@ -1,8 +1,6 @@
-use Rattle.std.proofs.Common.{◌≡◌, ◌<◌, ◌≤◌, [], length, take, take_all, refl, sym, ap, ◌∙◌, arith}
-use Rattle.std.specs.Prelude.{Bool, true, false, cond, ◌||◌, bytes_eq}
-use Rattle.std.proofs.lemmas.List.Folds.{list_any_more}
-use Rattle.meson_splice.specs.declared.file_set.File.{File}
-use Rattle.meson_calls.specs.FileNames.{is_file}
+use Rattle.meson_calls.proofs.Words.{false, cond, ◌||◌, bytes_eq, ◌≡◌, ◌<◌, ◌≤◌, [], length, take, refl, sym, ap, ◌∙◌, arith, Bool, true, list_any_more, File}
+use Rattle.meson_calls.proofs.Words.{is_file}
+use Rattle.std.proofs.Common.{take_all}
 use Rattle.meson_calls.proofs.file_names.names_of.Goals as goal
 
 nobody : File

@@ -1,7 +1,5 @@
-use Rattle.std.proofs.Common.{◌≡◌, ℕ, List, take}
-use Rattle.std.specs.Prelude.{bytes_eq}
+use Rattle.meson_calls.proofs.Words.{bytes_eq, ◌≡◌, ℕ, List, take, is_file}
 use Rattle.std.specs.HashSet.{contains_by}
-use Rattle.meson_calls.specs.FileNames.{is_file}
 use Rattle.meson_calls.proofs.file_names.names_of.Given as goal
 
 abbrev pub invariant-loop-i : goal.invariant-loop-i

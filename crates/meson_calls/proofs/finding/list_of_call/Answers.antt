@@ -1,11 +1,5 @@
 -- A call that stands in trees has its list there.
-use Rattle.std.proofs.Common.{◌≡◌, ◌≤◌, length, ap, ◌∙◌, arith}
-use Rattle.std.specs.Prelude.{option_map, None, Some}
-use Rattle.meson_lex.specs.declared.kinds.Span.{Span}
-use Rattle.meson_splice.specs.Files.{bytes_at}
-use Rattle.meson_syntax.specs.Paths.{ListAt, list_at}
-use Rattle.meson_syntax.specs.View.{view}
-use Rattle.meson_syntax.proofs.parsing.Steps.{some-injective}
+use Rattle.meson_calls.proofs.Words.{option_map, ◌≡◌, ◌≤◌, length, ap, ◌∙◌, arith, None, Some, bytes_at, Span, ListAt, list_at, view, some-injective}
 use Rattle.meson_calls.proofs.CallLists.{inside, list_is}
 use Rattle.meson_calls.proofs.finding.list_of_call.Goals as goal
 

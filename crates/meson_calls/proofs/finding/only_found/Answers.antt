@@ -1,7 +1,4 @@
-use Rattle.std.proofs.Common.{◌∙◌, ap}
-use Rattle.meson_calls.specs.Notes.{note_views}
-use Rattle.meson_calls.specs.ChosenNotes.{found_places}
-use Rattle.meson_calls.specs.Finding.{only_one}
+use Rattle.meson_calls.proofs.Words.{◌∙◌, ap, found_places, only_one, note_views}
 use Rattle.meson_calls.proofs.OneCall.{refused_as, done_as}
 use Rattle.meson_calls.proofs.finding.only_found.Goals as goal
 

@@ -1,8 +1,4 @@
-use Rattle.std.proofs.Common.{◌≡◌, ap, ◌∙◌, subst, length}
-use Rattle.std.specs.Prelude.{false, ◌==◌}
-use Rattle.meson_calls.specs.Notes.{note_views}
-use Rattle.meson_calls.specs.ChosenNotes.{found_places}
-use Rattle.meson_calls.specs.Finding.{only_one}
+use Rattle.meson_calls.proofs.Words.{false, ◌==◌, ◌≡◌, ap, ◌∙◌, subst, length, found_places, only_one, note_views}
 use Rattle.meson_calls.specs.OnePlace.{the_place}
 use Rattle.meson_calls.specs.declared.call.Role.TheVariants as role
 use Rattle.meson_calls.proofs.OneCall.{behind_project, if_refused}

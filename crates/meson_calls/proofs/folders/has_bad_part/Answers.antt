@@ -1,4 +1,4 @@
-use Rattle.std.proofs.Common.{arith}
+use Rattle.meson_calls.proofs.Words.{arith}
 use Rattle.std.proofs.lemmas.Grind.{common_steps}
 use Rattle.meson_calls.proofs.SlashParts.{past_other, past_slash}
 use Rattle.meson_calls.proofs.folders.has_bad_part.Goals as goal

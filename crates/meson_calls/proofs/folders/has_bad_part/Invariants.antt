@@ -1,7 +1,4 @@
-use Rattle.std.proofs.Common.{◌≡◌, ◌≤◌, drop}
-use Rattle.std.specs.Prelude.{slice_range}
-use Rattle.std.specs.List.{list_any}
-use Rattle.meson_calls.specs.Folders.{goes_nowhere, parts_after, slash_parts}
+use Rattle.meson_calls.proofs.Words.{list_any, slice_range, ◌≡◌, ◌≤◌, drop, goes_nowhere, parts_after, slash_parts}
 use Rattle.meson_calls.proofs.folders.has_bad_part.Given as goal
 
 abbrev pub invariant-loop-i : goal.invariant-loop-i

@@ -1,7 +1,4 @@
-use Rattle.std.proofs.Common.{◌++◌, sym, ap, ◌∙◌}
-use Rattle.std.specs.Prelude.{Some, bytes_eq}
-use Rattle.std.proofs.lemmas.Bool.Decides.{Decides-eqb}
-use Rattle.std.proofs.lemmas.Slice.Eq.{strip_suffix_is}
+use Rattle.meson_calls.proofs.Words.{bytes_eq, ◌++◌, sym, ap, ◌∙◌, Some, Decides-eqb, strip_suffix_is}
 use Rattle.meson_calls.proofs.FileNames.{file_name-folder}
 use Rattle.meson_calls.proofs.folders.is_file_name.Goals as goal
 

@@ -1,8 +1,4 @@
-use Rattle.std.proofs.Common.{◌+◌, ◌∙◌, drop, sym, ap}
-use Rattle.std.specs.Prelude.{◌||◌}
-use Rattle.std.proofs.lemmas.List.{at_drop_more}
-use Rattle.meson_calls.specs.Notes.{note_view, note_views}
-use Rattle.meson_calls.specs.Setters.{any_sets_by_call, sets_by_call}
+use Rattle.meson_calls.proofs.Words.{◌||◌, ◌+◌, ◌∙◌, drop, sym, ap, at_drop_more, note_view, note_views, any_sets_by_call, sets_by_call}
 use Rattle.meson_calls.proofs.kept.any_sets_by_call.Goals as goal
 
 pub returns-then-sets_by_call : goal.returns-then-sets_by_call

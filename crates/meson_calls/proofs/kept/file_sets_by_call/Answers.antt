@@ -1,5 +1,4 @@
-use Rattle.std.proofs.Common.{sym, subst}
-use Rattle.meson_calls.specs.Spelling.{HasNoneOf}
+use Rattle.meson_calls.proofs.Words.{sym, subst, HasNoneOf}
 use Rattle.meson_calls.proofs.SettersKept.{no_call_sets}
 use Rattle.meson_calls.proofs.kept.file_sets_by_call.Goals as goal
 

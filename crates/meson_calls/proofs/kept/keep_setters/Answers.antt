@@ -1,13 +1,9 @@
-use Rattle.std.proofs.Common.{◌+◌, ◌<◌, ◌∙◌, length, sym, subst, arith}
-use Rattle.meson_splice.specs.Files.{bytes_at}
-use Rattle.meson_syntax.specs.Reads.{IsSpanned}
-use Rattle.meson_syntax.specs.View.{view}
-use Rattle.meson_calls.specs.Parts.{parts_of_file}
-use Rattle.meson_calls.specs.Setters.{IsKept}
+use Rattle.meson_calls.proofs.Words.{◌+◌, ◌<◌, ◌∙◌, length, sym, subst, arith, bytes_at, IsSpanned, view, parts_of_file, IsKept}
 use Rattle.meson_calls.proofs.CallsAt.{spanned_at}
 use Rattle.meson_calls.proofs.Loads.{as_many}
 use Rattle.meson_calls.proofs.SettersKept.{KeptUpTo, next_known, next_read}
-use Rattle.meson_calls.proofs.kept.keep_setters.Goals.{then-not-is_known+in_ok-kept+in-Assignments-1, then-not-is_known+in_ok-kept+in-Unknown-1, else-not-is_known}
+use Rattle.meson_calls.proofs.kept.keep_setters.Goals.{then-not-is_known+in_ok-kept+in-Assignments-1, then-not-is_known+in_ok-kept+in-Unknown-1}
+use Rattle.meson_calls.proofs.kept.keep_setters.Goals.{else-not-is_known}
 use Rattle.meson_calls.proofs.kept.keep_setters.Goals as goal
 
 pub bytes-requires : goal.bytes-requires

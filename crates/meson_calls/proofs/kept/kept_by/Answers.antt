@@ -1,5 +1,4 @@
-use Rattle.std.proofs.Common.{sym, ap, ◌∙◌}
-use Rattle.meson_calls.specs.Walks.{keeper_view}
+use Rattle.meson_calls.proofs.Words.{sym, ap, ◌∙◌, keeper_view}
 use Rattle.meson_calls.proofs.Visits.{all_gathered}
 use Rattle.meson_calls.proofs.kept.kept_by.Goals as goal
 

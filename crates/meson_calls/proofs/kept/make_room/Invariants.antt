@@ -1,5 +1,4 @@
-use Rattle.std.proofs.Common.{◌≡◌, ℕ, ◌-◌, get_or, length}
-use Rattle.meson_calls.specs.declared.kept.Kept.TheVariants.{Unknown}
+use Rattle.meson_calls.proofs.Words.{◌≡◌, ℕ, ◌-◌, get_or, length, Unknown}
 use Rattle.meson_calls.proofs.kept.make_room.Given as goal
 
 abbrev pub invariant-loop-kept : goal.invariant-loop-kept

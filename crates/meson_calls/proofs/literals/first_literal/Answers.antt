@@ -1,6 +1,4 @@
-use Rattle.std.proofs.Common.{◌∙◌, sym, ap}
-use Rattle.std.specs.Prelude.{[], option_and_then}
-use Rattle.meson_calls.specs.Calls.{literal_of}
+use Rattle.meson_calls.proofs.Words.{option_and_then, ◌∙◌, sym, ap, [], literal_of}
 use Rattle.meson_calls.proofs.GoodLiterals.{first_argument_good}
 use Rattle.meson_calls.proofs.literals.first_literal.Goals as goal
 

@@ -1,6 +1,4 @@
-use Rattle.std.proofs.Common.{◌∙◌, sym, ap}
-use Rattle.std.specs.Prelude.{option_map, string_bytes, bytes_eq}
-use Rattle.meson_calls.specs.Calls.{is}
+use Rattle.meson_calls.proofs.Words.{option_map, string_bytes, bytes_eq, ◌∙◌, sym, ap, is}
 use Rattle.meson_calls.proofs.literals.first_literal_is.Goals as goal
 
 pub returns-in-Some : goal.returns-in-Some

@@ -1,14 +1,7 @@
-use Rattle.std.proofs.Common.{rules, ◌≡◌, ℕ, List, ◌∙◌, sym, ap, subst}
-use Rattle.meson_lex.specs.Kinds.{IsString}
+use Rattle.meson_calls.proofs.Words.{rules, ◌≡◌, ℕ, List, ◌∙◌, sym, ap, subst, IsString, Span, expression_words, string_kind, string, text_at, expr_view}
+use Rattle.meson_calls.proofs.Words.{StringKind, AreGood}
 use Rattle.meson_syntax.specs.declared.tree.Expr.TheVariants as expr
 use Rattle.meson_syntax.specs.declared.tree.Arg.TheFolds.{the_lemmas}
-use Rattle.meson_syntax.specs.declared.operator.StringKind.{StringKind}
-use Rattle.meson_syntax.specs.Operators.{string_kind}
-use Rattle.meson_syntax.specs.Tree.{string}
-use Rattle.meson_syntax.specs.Grammar.{expression_words}
-use Rattle.meson_syntax.specs.View.{text_at, expr_view}
-use Rattle.meson_lex.specs.declared.kinds.Span.{Span}
-use Rattle.meson_calls.specs.Strings.{AreGood}
 use Rattle.meson_calls.proofs.GoodLiterals.{string_good}
 use Rattle.meson_calls.proofs.literals.literal.Goals as goal
 

@@ -1,4 +1,4 @@
-use Rattle.std.proofs.Common.{◌≡◌, take}
+use Rattle.meson_calls.proofs.Words.{◌≡◌, take}
 use Rattle.meson_calls.proofs.loading.copy_trees.Given as goal
 
 abbrev pub invariant-loop-i : goal.invariant-loop-i

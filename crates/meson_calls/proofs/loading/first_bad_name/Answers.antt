@@ -1,9 +1,4 @@
-use Rattle.std.proofs.Common.{◌<◌, ◌≤◌, length, sym, ◌∙◌, subst, arith}
-use Rattle.std.specs.Prelude.{All, []}
-use Rattle.std.proofs.lemmas.List.{take_all}
-use Rattle.meson_splice.specs.declared.file_set.File.{File}
-use Rattle.meson_calls.specs.Folders.{IsFileName}
-use Rattle.meson_calls.specs.Loading.{HasFileName}
+use Rattle.meson_calls.proofs.Words.{All, ◌<◌, ◌≤◌, length, sym, ◌∙◌, subst, arith, [], take_all, File, IsFileName, HasFileName}
 use Rattle.meson_calls.proofs.Loads.{all_more, nth_name}
 use Rattle.meson_calls.proofs.loading.first_bad_name.Goals as goal
 

@@ -1,6 +1,4 @@
-use Rattle.std.proofs.Common.{take}
-use Rattle.std.specs.Prelude.{All}
-use Rattle.meson_calls.specs.Loading.{HasFileName}
+use Rattle.meson_calls.proofs.Words.{All, take, HasFileName}
 use Rattle.meson_calls.proofs.loading.first_bad_name.Given as goal
 
 abbrev pub invariant-loop-i : goal.invariant-loop-i

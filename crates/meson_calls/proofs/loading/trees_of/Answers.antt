@@ -1,10 +1,4 @@
-use Rattle.std.proofs.Common.{◌+◌, ◌<◌, ◌≤◌, length, take, sym, subst, arith}
-use Rattle.std.specs.Prelude.{[]}
-use Rattle.std.proofs.lemmas.List.{take_all}
-use Rattle.meson_splice.specs.declared.file_set.File.{File}
-use Rattle.meson_syntax.specs.Reads.{MayNotRead, IsSpanned}
-use Rattle.meson_syntax.specs.View.{view}
-use Rattle.meson_calls.specs.Loading.{AreParsed}
+use Rattle.meson_calls.proofs.Words.{◌+◌, ◌<◌, ◌≤◌, length, take, sym, subst, arith, [], take_all, File, MayNotRead, IsSpanned, view, AreParsed}
 use Rattle.meson_calls.proofs.Loads.{parsed_more, have_trees, told_fault}
 use Rattle.meson_calls.proofs.loading.trees_of.Goals as goal
 

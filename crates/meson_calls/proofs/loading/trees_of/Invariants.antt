@@ -1,5 +1,4 @@
-use Rattle.std.proofs.Common.{take}
-use Rattle.meson_calls.specs.Loading.{AreParsed}
+use Rattle.meson_calls.proofs.Words.{take, AreParsed}
 use Rattle.meson_calls.proofs.loading.trees_of.Given as goal
 
 abbrev pub invariant-loop-index : goal.invariant-loop-index

@@ -1,10 +1,6 @@
-use Rattle.std.proofs.Common.{◌∙◌, ap}
-use Rattle.meson_splice.specs.Files.{bytes_at}
+use Rattle.meson_calls.proofs.Words.{◌∙◌, ap, bytes_at, expr_view, view, call_of, is_role_call}
 use Rattle.meson_syntax.specs.Paths as paths
-use Rattle.meson_syntax.specs.View.{expr_view, view}
 use Rattle.meson_calls.specs.declared.call.Role.TheVariants as role
-use Rattle.meson_calls.specs.Calls.{call_of}
-use Rattle.meson_calls.specs.ChosenNotes.{is_role_call}
 use Rattle.meson_calls.proofs.Standing.{no_file, no_expression, an_expression}
 use Rattle.meson_calls.proofs.looking.is_target.Goals as goal
 

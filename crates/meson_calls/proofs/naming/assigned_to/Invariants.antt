@@ -1,6 +1,4 @@
-use Rattle.std.proofs.Common.{◌≡◌, ◌++◌, drop}
-use Rattle.meson_calls.specs.Notes.{note_views}
-use Rattle.meson_calls.specs.ChosenNotes.{assigned_places}
+use Rattle.meson_calls.proofs.Words.{◌≡◌, ◌++◌, drop, assigned_places, note_views}
 use Rattle.meson_calls.proofs.naming.assigned_to.Given as goal
 
 abbrev pub invariant-loop-i : goal.invariant-loop-i

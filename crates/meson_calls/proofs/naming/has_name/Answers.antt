@@ -1,10 +1,4 @@
-use Rattle.std.proofs.Common.{◌∙◌, sym, ap}
-use Rattle.std.specs.Prelude.{◌&&◌}
-use Rattle.meson_syntax.specs.View.{text_at, list_view}
-use Rattle.meson_calls.specs.Calls.{first_literal, is}
-use Rattle.meson_calls.specs.Roles.{has_role}
-use Rattle.meson_calls.specs.Notes.{what_view}
-use Rattle.meson_calls.specs.ChosenNotes.{call_with, note_has_name}
+use Rattle.meson_calls.proofs.Words.{◌&&◌, ◌∙◌, sym, ap, text_at, list_view, first_literal, is, call_with, note_has_name, what_view, has_role}
 use Rattle.meson_calls.proofs.naming.has_name.Goals as goal
 
 pub returns-in_ok-named-in-Call : goal.returns-in_ok-named-in-Call

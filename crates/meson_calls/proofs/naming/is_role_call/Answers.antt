@@ -1,8 +1,4 @@
-use Rattle.std.proofs.Common.{◌∙◌, sym, ap}
-use Rattle.meson_syntax.specs.View.{expr_view, list_view}
-use Rattle.meson_calls.specs.Calls.{call_of}
-use Rattle.meson_calls.specs.Roles.{has_role}
-use Rattle.meson_calls.specs.ChosenNotes.{call_with, is_role_call}
+use Rattle.meson_calls.proofs.Words.{◌∙◌, sym, ap, expr_view, list_view, call_of, call_with, is_role_call, has_role}
 use Rattle.meson_calls.proofs.GoodNotes.{call_view}
 use Rattle.meson_calls.proofs.naming.is_role_call.Goals as goal
 

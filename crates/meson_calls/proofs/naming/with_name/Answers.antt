@@ -1,6 +1,4 @@
-use Rattle.std.proofs.Common.{sym, subst}
-use Rattle.meson_calls.specs.Notes.{note_view}
-use Rattle.meson_calls.specs.Strings.{AreGood, note_words}
+use Rattle.meson_calls.proofs.Words.{sym, subst, note_view, AreGood, note_words}
 use Rattle.meson_calls.proofs.GoodNotes.{good_at}
 use Rattle.meson_calls.proofs.naming.with_name.Goals as goal
 

@@ -1,6 +1,4 @@
-use Rattle.std.proofs.Common.{◌≡◌, ◌++◌, drop}
-use Rattle.meson_calls.specs.Notes.{note_views}
-use Rattle.meson_calls.specs.ChosenNotes.{places_that, note_has_name}
+use Rattle.meson_calls.proofs.Words.{◌≡◌, ◌++◌, drop, places_that, note_has_name, note_views}
 use Rattle.meson_calls.proofs.naming.with_name.Given as goal
 
 abbrev pub invariant-loop-i : goal.invariant-loop-i

@@ -1,9 +1,4 @@
-use Rattle.std.proofs.Common.{◌≡◌, None, Some, ◌∙◌, ap}
-use Rattle.meson_syntax.specs.View.{view}
-use Rattle.meson_syntax.proofs.parsing.Steps.{some-injective}
-use Rattle.meson_calls.specs.Parts.{parts_of_file}
-use Rattle.meson_calls.specs.Notes.{noted, taken_view}
-use Rattle.meson_calls.specs.Walks.{notes_kept, keeper_view, with_parts}
+use Rattle.meson_calls.proofs.Words.{◌≡◌, None, Some, ◌∙◌, ap, view, some-injective, noted, taken_view, parts_of_file, notes_kept, keeper_view, with_parts}
 use Rattle.meson_calls.proofs.Visits.{all_noted}
 use Rattle.meson_calls.proofs.notes.notes_in.Goals as goal
 

@@ -1,12 +1,5 @@
-use Rattle.std.proofs.Common.{◌<◌, ◌≤◌, [], length, sym, subst, arith}
-use Rattle.std.specs.Prelude.{MatchOption, ⊤}
-use Rattle.meson_splice.specs.Files.{bytes_at}
-use Rattle.meson_syntax.specs.Reads.{IsSpanned}
-use Rattle.meson_syntax.specs.View.{view}
-use Rattle.meson_calls.specs.Notes.{taken_view}
-use Rattle.meson_calls.specs.Parts.{parts_of_file}
-use Rattle.meson_calls.specs.Setters.{IsKept}
-use Rattle.meson_calls.specs.inside.Setters.{ComeBehind}
+use Rattle.meson_calls.proofs.Words.{MatchOption, ⊤, ◌<◌, ◌≤◌, [], length, sym, subst, arith, bytes_at, IsSpanned, view, taken_view, parts_of_file, IsKept}
+use Rattle.meson_calls.proofs.Words.{ComeBehind}
 use Rattle.meson_calls.proofs.CallsAt.{spanned_at}
 use Rattle.meson_calls.proofs.Loads.{as_many}
 use Rattle.meson_calls.proofs.SetterTurns.{SettersGoOn, all_setters, setters_go_on, next_setters}

@@ -1,4 +1,4 @@
-use Rattle.meson_calls.specs.Notes.{taken_view}
+use Rattle.meson_calls.proofs.Words.{taken_view}
 use Rattle.meson_calls.proofs.SetterTurns.{SettersGoOn}
 use Rattle.meson_calls.proofs.notes.notes_naming.Given as goal
 

@@ -1,9 +1,5 @@
-use Rattle.std.proofs.Common.{◌≡◌, None, Some, ◌∙◌, ap}
-use Rattle.meson_syntax.proofs.parsing.Steps.{some-injective}
-use Rattle.meson_calls.specs.Loading.{named_trees, views}
-use Rattle.meson_calls.specs.Parts.{parts}
-use Rattle.meson_calls.specs.Notes.{noted, taken_view}
-use Rattle.meson_calls.specs.Walks.{notes_kept, keeper_view, with_parts}
+use Rattle.meson_calls.proofs.Words.{◌≡◌, None, Some, ◌∙◌, ap, some-injective, named_trees, views, noted, taken_view, parts, notes_kept, keeper_view}
+use Rattle.meson_calls.proofs.Words.{with_parts}
 use Rattle.meson_calls.proofs.Visits.{all_noted}
 use Rattle.meson_calls.proofs.notes.notes_of.Goals as goal
 

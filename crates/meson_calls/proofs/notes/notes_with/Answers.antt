@@ -1,11 +1,5 @@
-use Rattle.std.proofs.Common.{◌<◌, ◌≤◌, ◌++◌, [], length, ◌∙◌, sym, ap, subst, arith}
-use Rattle.std.specs.Prelude.{if◌then◌else◌}
-use Rattle.meson_splice.specs.Files.{bytes_at}
-use Rattle.meson_syntax.specs.Reads.{IsSpanned}
-use Rattle.meson_syntax.specs.View.{view}
-use Rattle.meson_calls.specs.Notes.{noted, taken_view}
-use Rattle.meson_calls.specs.Parts.{parts_of_file}
-use Rattle.meson_calls.specs.Spelling.{HasNoneOf}
+use Rattle.meson_calls.proofs.Words.{if◌then◌else◌, ◌<◌, ◌≤◌, ◌++◌, [], length, ◌∙◌, sym, ap, subst, arith, bytes_at, IsSpanned, view, noted, taken_view}
+use Rattle.meson_calls.proofs.Words.{parts_of_file, HasNoneOf}
 use Rattle.meson_calls.proofs.CallsAt.{spanned_at}
 use Rattle.meson_calls.proofs.Loads.{as_many}
 use Rattle.meson_calls.proofs.NoteTurns.{GoesOn, all_files, goes_on, next_file}

@@ -1,4 +1,4 @@
-use Rattle.meson_calls.specs.Notes.{taken_view}
+use Rattle.meson_calls.proofs.Words.{taken_view}
 use Rattle.meson_calls.proofs.NoteTurns.{GoesOn}
 use Rattle.meson_calls.proofs.notes.notes_with.Given as goal
 

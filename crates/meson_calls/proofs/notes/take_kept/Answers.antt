@@ -1,14 +1,6 @@
-use Rattle.std.proofs.Common.{◌≡◌, ℕ, ◌≤◌, List, [], ◌∷◌, ◌++◌, true, length, Some, option_map, sym, ap, ◌∙◌, subst}
-use Rattle.std.specs.List.{cons_option}
-use Rattle.std.specs.Prelude.{OnOk}
-use Rattle.std.proofs.lemmas.List.{append-nil}
-use Rattle.meson_lex.specs.declared.kinds.Span.{Span}
-use Rattle.meson_syntax.specs.Paths.{expression_on_path}
-use Rattle.meson_syntax.specs.View.{expr_view, text_at, view}
-use Rattle.meson_calls.specs.Notes.{Note, an_assignment, taken_view}
-use Rattle.meson_calls.specs.Project.{Placed, place, placed}
-use Rattle.meson_calls.specs.Setters.{is_among}
-use Rattle.meson_calls.specs.inside.Setters.{without_last}
+use Rattle.meson_calls.proofs.Words.{cons_option, option_map, OnOk, ◌≡◌, ℕ, ◌≤◌, List, [], ◌∷◌, ◌++◌, true, length, Some, sym, ap, ◌∙◌, subst, append-nil, Span}
+use Rattle.meson_calls.proofs.Words.{expression_on_path, expr_view, text_at, view, Note, an_assignment, taken_view, Placed, place, placed, is_among}
+use Rattle.meson_calls.proofs.Words.{without_last}
 use Rattle.meson_calls.proofs.AssignmentsKept.{has_steps, note_kept}
 use Rattle.meson_calls.proofs.notes.take_kept.Goals as goal
 

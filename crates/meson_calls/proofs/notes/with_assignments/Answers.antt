@@ -1,9 +1,4 @@
-use Rattle.std.proofs.Common.{◌++◌, [], ◌∷◌, take, sym, ap, ◌∙◌}
-use Rattle.std.specs.List.{filter_map}
-use Rattle.std.proofs.lemmas.List.{append_assoc, take_all, take_more}
-use Rattle.std.proofs.lemmas.List.Elements.{filter_map-append}
-use Rattle.meson_calls.specs.Notes.{taken_view}
-use Rattle.meson_calls.specs.inside.Setters.{kept_note}
+use Rattle.meson_calls.proofs.Words.{filter_map, ◌++◌, [], ◌∷◌, take, sym, ap, ◌∙◌, append_assoc, take_all, take_more, filter_map-append, taken_view, kept_note}
 use Rattle.meson_calls.proofs.AssignmentsKept.{kept_setters}
 use Rattle.meson_calls.proofs.notes.with_assignments.Goals as goal
 

@@ -1,7 +1,4 @@
-use Rattle.std.proofs.Common.{◌≡◌, ◌++◌, take}
-use Rattle.std.specs.List.{filter_map}
-use Rattle.meson_calls.specs.Notes.{taken_view}
-use Rattle.meson_calls.specs.inside.Setters.{kept_note}
+use Rattle.meson_calls.proofs.Words.{filter_map, ◌≡◌, ◌++◌, take, taken_view, kept_note}
 use Rattle.meson_calls.proofs.notes.with_assignments.Given as goal
 
 abbrev pub invariant-loop-i : goal.invariant-loop-i

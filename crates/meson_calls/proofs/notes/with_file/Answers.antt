@@ -1,10 +1,4 @@
-use Rattle.std.proofs.Common.{◌≡◌, ◌++◌, None, Some, ◌∙◌, sym, ap}
-use Rattle.std.specs.Prelude.{if◌then◌else◌}
-use Rattle.meson_syntax.specs.View.{view}
-use Rattle.meson_syntax.proofs.parsing.Steps.{some-injective}
-use Rattle.meson_calls.specs.Parts.{parts_of_file}
-use Rattle.meson_calls.specs.Notes.{noted, taken_view}
-use Rattle.meson_calls.specs.Walks.{keeper_view}
+use Rattle.meson_calls.proofs.Words.{if◌then◌else◌, ◌≡◌, ◌++◌, None, Some, ◌∙◌, sym, ap, view, some-injective, noted, taken_view, parts_of_file, keeper_view}
 use Rattle.meson_calls.proofs.Visits.{more_noted}
 use Rattle.meson_calls.proofs.notes.with_file.Goals as goal
 

@@ -1,9 +1,5 @@
 use Rattle.std.proofs.lemmas.Result.{IfOk-weaker}
-use Rattle.std.proofs.Common.{◌≡◌, ◌++◌, subst}
-use Rattle.meson_calls.specs.Notes.{taken_view}
-use Rattle.meson_calls.specs.Setters.{notes_asked}
-use Rattle.meson_calls.specs.Spelling.{HasNoneOf}
-use Rattle.meson_calls.specs.inside.Setters.{ComeBehind}
+use Rattle.meson_calls.proofs.Words.{◌≡◌, ◌++◌, subst, taken_view, notes_asked, HasNoneOf, ComeBehind}
 use Rattle.meson_calls.proofs.SettersKept.{no_call_sets}
 use Rattle.meson_calls.proofs.notes.with_kept.Goals as goal
 

@@ -1,10 +1,4 @@
-use Rattle.std.proofs.Common.{◌≡◌, ◌++◌, None, Some, subst}
-use Rattle.meson_syntax.specs.View.{view}
-use Rattle.meson_syntax.proofs.parsing.Steps.{some-injective}
-use Rattle.meson_calls.specs.Notes.{taken_view}
-use Rattle.meson_calls.specs.Parts.{parts_of_file}
-use Rattle.meson_calls.specs.Setters.{notes_asked}
-use Rattle.meson_calls.specs.Walks.{keeper_view, with_parts}
+use Rattle.meson_calls.proofs.Words.{◌≡◌, ◌++◌, None, Some, subst, view, some-injective, taken_view, parts_of_file, notes_asked, keeper_view, with_parts}
 use Rattle.meson_calls.proofs.Visits.{more_asked}
 use Rattle.meson_calls.proofs.notes.with_setters.Goals as goal
 

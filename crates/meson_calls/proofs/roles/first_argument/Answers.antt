@@ -1,6 +1,4 @@
-use Rattle.std.proofs.Common.{◌∙◌, sym, ap}
-use Rattle.meson_syntax.specs.View.{arg_view}
-use Rattle.meson_calls.specs.Calls.{value_without_name}
+use Rattle.meson_calls.proofs.Words.{◌∙◌, sym, ap, arg_view, value_without_name}
 use Rattle.meson_calls.proofs.FirstArguments.{first_left, first_of_list, first_skipped, first_found, first_ended}
 use Rattle.meson_calls.proofs.roles.first_argument.Goals as goal
 

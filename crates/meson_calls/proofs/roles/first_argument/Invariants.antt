@@ -1,4 +1,4 @@
-use Rattle.std.proofs.Common.{◌≡◌, ℕ, List, drop}
+use Rattle.meson_calls.proofs.Words.{◌≡◌, ℕ, List, drop}
 use Rattle.meson_calls.proofs.FirstArguments.{first_left}
 use Rattle.meson_calls.proofs.roles.first_argument.Given as goal
 

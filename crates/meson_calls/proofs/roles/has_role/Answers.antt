@@ -1,9 +1,4 @@
-use Rattle.std.proofs.Common.{◌∙◌, sym, ap}
-use Rattle.std.specs.Prelude.{◌&&◌, is_some, bytes_eq}
-use Rattle.meson_syntax.specs.View.{expr_view, list_view}
-use Rattle.meson_calls.specs.Calls.{first_argument}
-use Rattle.meson_calls.specs.Roles.{has_role}
-use Rattle.meson_calls.specs.ChosenNotes.{call_with}
+use Rattle.meson_calls.proofs.Words.{◌&&◌, is_some, bytes_eq, ◌∙◌, sym, ap, expr_view, list_view, first_argument, call_with, has_role}
 use Rattle.meson_calls.proofs.FirstArguments.{there_alike}
 use Rattle.meson_calls.proofs.roles.has_role.Goals as goal
 

@@ -1,8 +1,4 @@
-use Rattle.std.proofs.Common.{◌∙◌, sym, ap}
-use Rattle.meson_syntax.specs.View.{list_view}
-use Rattle.meson_calls.specs.Roles.{has_role}
-use Rattle.meson_calls.specs.Notes.{what_view}
-use Rattle.meson_calls.specs.ChosenNotes.{call_with, note_has_role}
+use Rattle.meson_calls.proofs.Words.{◌∙◌, sym, ap, list_view, call_with, note_has_role, what_view, has_role}
 use Rattle.meson_calls.proofs.roles.note_has_role.Goals as goal
 
 pub returns-in-Call : goal.returns-in-Call

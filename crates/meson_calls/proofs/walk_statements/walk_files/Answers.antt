@@ -1,9 +1,4 @@
-use Rattle.std.proofs.Common.{◌<◌, ◌≤◌, length, ◌∙◌, sym, ap, subst, arith}
-use Rattle.meson_splice.specs.Files.{bytes_at}
-use Rattle.meson_syntax.specs.View.{view}
-use Rattle.meson_calls.specs.Parts.{parts_of_file}
-use Rattle.meson_calls.specs.Walks.{keeper_view, with_parts}
-use Rattle.meson_syntax.specs.Reads.{IsSpanned}
+use Rattle.meson_calls.proofs.Words.{◌<◌, ◌≤◌, length, ◌∙◌, sym, ap, subst, arith, bytes_at, IsSpanned, view, parts_of_file, keeper_view, with_parts}
 use Rattle.meson_calls.proofs.CallsAt.{spanned_at}
 use Rattle.meson_calls.proofs.Loads.{as_many}
 use Rattle.meson_calls.proofs.FileTurns.{file_turn, files_ended}

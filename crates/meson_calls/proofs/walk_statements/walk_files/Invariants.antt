@@ -1,5 +1,4 @@
-use Rattle.std.proofs.Common.{◌≡◌, drop}
-use Rattle.meson_calls.specs.Walks.{keeper_view, with_parts}
+use Rattle.meson_calls.proofs.Words.{◌≡◌, drop, keeper_view, with_parts}
 use Rattle.meson_calls.proofs.FileTurns.{left}
 use Rattle.meson_calls.proofs.walk_statements.walk_files.Given as goal
 

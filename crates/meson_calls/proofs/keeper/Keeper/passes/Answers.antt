@@ -1,8 +1,4 @@
-use Rattle.std.proofs.Common.{◌≡◌, sym, subst}
-use Rattle.meson_syntax.specs.View.{expr_view}
-use Rattle.meson_calls.specs.Notes.{taken_view}
-use Rattle.meson_calls.specs.Parts.{parts_of_expression}
-use Rattle.meson_calls.specs.Walks.{keeper_view, with_parts}
+use Rattle.meson_calls.proofs.Words.{◌≡◌, sym, subst, expr_view, taken_view, parts_of_expression, keeper_view, with_parts}
 use Rattle.meson_calls.proofs.Visits.{assignments_stay, notes_stay, setters_stay}
 use Rattle.meson_calls.proofs.keeper.Keeper.passes.Goals as goal
 

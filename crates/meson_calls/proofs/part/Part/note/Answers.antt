@@ -1,6 +1,4 @@
-use Rattle.std.proofs.Common.{ap, sym, ◌∙◌}
-use Rattle.meson_calls.specs.Notes.{note_of}
-use Rattle.meson_calls.specs.Walks.{part_view}
+use Rattle.meson_calls.proofs.Words.{ap, sym, ◌∙◌, note_of, part_view}
 use Rattle.meson_calls.proofs.part.Part.note.Goals as goal
 
 pub returns-in-Expression : goal.returns-in-Expression

@@ -1,15 +1,11 @@
-use Rattle.std.proofs.Common.{rules, ◌≡◌, ◌+◌, ◌*◌, ◌++◌, ◌∙◌, sym, ap, refl, get_or, length, arith}
-use Rattle.std.proofs.lemmas.List.{append_assoc}
-use Rattle.meson_syntax.specs.View.{expr_view, stmt_view, block_view, branch_view}
-use Rattle.meson_calls.specs.Project.{place, child}
-use Rattle.meson_calls.specs.Parts.{parts_of_expression, parts_of_block, parts_of_otherwise}
-use Rattle.meson_calls.specs.Walks.{keeper_view, with_parts}
-use Rattle.meson_calls.specs.inside.Walks.{else_view, parts_inside}
+use Rattle.meson_calls.proofs.Words.{rules, ◌≡◌, ◌+◌, ◌*◌, ◌++◌, ◌∙◌, sym, ap, refl, get_or, length, arith, append_assoc, expression_words, statement_words}
+use Rattle.meson_calls.proofs.Words.{block_words, expr_view, stmt_view, block_view, branch_view, parts_of_expression, parts_of_block, parts_of_otherwise, place}
+use Rattle.meson_calls.proofs.Words.{child, keeper_view, with_parts, else_view, parts_inside}
 use Rattle.meson_calls.proofs.Visits.{two_parts, turn}
-use Rattle.meson_calls.proofs.StatementParts.{list_parts, list_part, conditions_parts, conditions_part, branches_count, branch_condition, branch_block, two_each, if_view, foreach_view}
+use Rattle.meson_calls.proofs.StatementParts.{list_parts, list_part, conditions_parts, conditions_part, branches_count, branch_condition, branch_block}
+use Rattle.meson_calls.proofs.StatementParts.{two_each, if_view, foreach_view}
 use Rattle.meson_calls.proofs.WalkedWords.{value_fits, assigned_fits, items_fit, branches_fit, otherwise_fits, body_fits, stmt_fits, condition_fits, block_fits}
 use Rattle.meson_syntax.specs.declared.tree.Stmt.TheFolds.{the_lemmas}
-use Rattle.meson_syntax.specs.Grammar.{expression_words, statement_words, block_words}
 use Rattle.meson_syntax.proofs.tree.Stmt.TheLaws as stmts
 use Rattle.meson_syntax.proofs.tree.Branch.TheLaws as branches
 use denote.Param.Weighed.{at_most}

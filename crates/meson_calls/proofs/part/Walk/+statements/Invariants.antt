@@ -1,6 +1,4 @@
-use Rattle.std.proofs.Common.{◌≡◌, ◌*◌, drop}
-use Rattle.meson_calls.specs.Project.{place}
-use Rattle.meson_calls.specs.Walks.{keeper_view, with_parts}
+use Rattle.meson_calls.proofs.Words.{◌≡◌, ◌*◌, drop, place, keeper_view, with_parts}
 use Rattle.meson_calls.proofs.StatementParts.{list_parts, conditions_parts}
 use Rattle.meson_calls.proofs.part.Walk.+statements.Given as goal
 

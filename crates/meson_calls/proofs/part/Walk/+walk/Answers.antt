@@ -1,12 +1,11 @@
-use Rattle.std.proofs.Common.{rules, ◌≡◌, ◌+◌, ◌∙◌, sym, ap, refl, get_or, arith}
-use Rattle.meson_syntax.specs.View.{expr_view, arg_view}
-use Rattle.meson_calls.specs.Project.{place, child}
-use Rattle.meson_calls.specs.Parts.{parts_of_expression, parts_of_argument}
-use Rattle.meson_calls.specs.Walks.{keeper_view, with_parts}
+use Rattle.meson_calls.proofs.Words.{rules, ◌≡◌, ◌+◌, ◌∙◌, sym, ap, refl, get_or, arith, expr_view, arg_view, parts_of_expression, parts_of_argument, place}
+use Rattle.meson_calls.proofs.Words.{child, keeper_view, with_parts}
 use Rattle.meson_calls.proofs.Visits.{two_parts, turn, count_turn, count_ended}
 use Rattle.meson_calls.proofs.Parted.{operand_value, pair_view}
 use Rattle.meson_calls.proofs.ListTurns.{args_parts, args_part, args_size, args_count, row_parts, row_part, tail_list_parts, tail_part, tail_size}
-use Rattle.meson_calls.proofs.WalkedWords.{paren_fits, unary_fits, first_fits, base_fits, condition_of_fits, arg_some, pair_some, expr_count, array_fits, dictionary_fits, call_fits, tails_fit, operand_fits, method_fits, args_width, arg_count, args_more, arg_size_fits, tails_width, tail_count, tails_more, tail_size_fits, next_turn}
+use Rattle.meson_calls.proofs.WalkedWords.{paren_fits, unary_fits, first_fits, base_fits, condition_of_fits, arg_some, pair_some, expr_count, array_fits}
+use Rattle.meson_calls.proofs.WalkedWords.{dictionary_fits, call_fits, tails_fit, operand_fits, method_fits, args_width, arg_count, args_more, arg_size_fits}
+use Rattle.meson_calls.proofs.WalkedWords.{tails_width, tail_count, tails_more, tail_size_fits, next_turn}
 use Rattle.meson_syntax.specs.declared.tree.Arg.TheFolds.{the_lemmas}
 use Rattle.meson_syntax.proofs.tree.Operand.TheLaws as operands
 use denote.Param.Weighed.{at_most}

@@ -1,6 +1,4 @@
-use Rattle.std.proofs.Common.{◌≡◌, ◌≤◌, ◌+◌, drop}
-use Rattle.meson_calls.specs.Project.{place}
-use Rattle.meson_calls.specs.Walks.{keeper_view, with_parts}
+use Rattle.meson_calls.proofs.Words.{◌≡◌, ◌≤◌, ◌+◌, drop, place, keeper_view, with_parts}
 use Rattle.meson_calls.proofs.ListTurns.{args_parts, args_count, row_parts, tail_list_parts}
 use Rattle.meson_calls.proofs.WalkedWords.{args_width, tails_width}
 use Rattle.meson_calls.proofs.part.Walk.+walk.Given as goal

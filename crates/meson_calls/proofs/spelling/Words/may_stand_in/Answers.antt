@@ -1,7 +1,4 @@
-use Rattle.std.proofs.Common.{◌<◌, ◌≤◌, length, subst, arith}
-use Rattle.std.specs.Prelude.{All}
-use Rattle.std.proofs.lemmas.List.{take_all}
-use Rattle.meson_calls.specs.Spelling.{HasNone}
+use Rattle.meson_calls.proofs.Words.{All, ◌<◌, ◌≤◌, length, subst, arith, take_all, HasNone}
 use Rattle.meson_calls.proofs.Loads.{all_more}
 use Rattle.meson_calls.proofs.Spelled.{found_or_none}
 use Rattle.meson_calls.proofs.spelling.Words.may_stand_in.Goals as goal

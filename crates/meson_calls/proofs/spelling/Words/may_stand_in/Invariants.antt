@@ -1,5 +1,4 @@
-use Rattle.std.proofs.Common.{take}
-use Rattle.meson_calls.specs.Spelling.{HasNoneOf}
+use Rattle.meson_calls.proofs.Words.{take, HasNoneOf}
 use Rattle.meson_calls.proofs.spelling.Words.may_stand_in.Given as goal
 
 abbrev pub invariant-loop-i : goal.invariant-loop-i

@@ -1,5 +1,4 @@
-use Rattle.std.proofs.Common.{◌≡◌, take, map}
-use Rattle.meson_calls.specs.Notes.{note_views, ranged_view}
+use Rattle.meson_calls.proofs.Words.{◌≡◌, take, map, note_views, ranged_view}
 use Rattle.meson_calls.proofs.taken.Taken.all.Given as goal
 
 abbrev pub invariant-loop-i : goal.invariant-loop-i

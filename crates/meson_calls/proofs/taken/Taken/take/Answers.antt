@@ -1,6 +1,4 @@
-use Rattle.std.proofs.Common.{◌≡◌, ap, ◌∙◌, map, length, arith}
-use Rattle.meson_calls.specs.declared.note.Ranged.{Ranged}
-use Rattle.meson_calls.specs.Notes.{ranged_view}
+use Rattle.meson_calls.proofs.Words.{◌≡◌, ap, ◌∙◌, map, length, arith, ranged_view, Ranged}
 use Rattle.meson_calls.proofs.Takings.{taken_more}
 use Rattle.meson_calls.proofs.taken.Taken.take.Goals as goal
 
