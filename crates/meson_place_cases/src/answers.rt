@@ -173,6 +173,7 @@ fn values_of(alloc: Global, words: &str) -> Result<Vec<Given>, ValueFault> {
 fn change_of(alloc: Global, word: &str, values: &str) -> Result<ValueChange, ValueFault> {
     Ok(match word {
         "set" => ValueChange::Set(given_of(alloc, &text_of(alloc, values)?)?),
+        "add" => ValueChange::Add(Many::of(values_of(alloc, values)?)),
         "set-all" => ValueChange::SetAll(Many::of(values_of(alloc, values)?)),
         _ => ValueChange::Delete,
     })
@@ -234,7 +235,7 @@ pub fn answer(
             Ok(slot) => put_slot(&slot, to),
             Err(refusal) => to.show_line(&refusal),
         },
-        "set" | "set-all" | "delete" => put_change(alloc, sources, question, to)?,
+        "set" | "set-all" | "add" | "delete" => put_change(alloc, sources, question, to)?,
         _ => to.line("not understood"),
     }
     Ok(())

@@ -1,58 +1,18 @@
 -- What is written for a value is one expression.
-use Rattle.std.proofs.Common.{◌≡◌, ◌≤◌, ℕ, true, false, List, [], ◌∷◌, codes, IsUtf8, refl, sym, ◌∙◌, subst, arith}
-use Rattle.std.specs.Prelude.{Bool}
-use Rattle.std.specs.Char.{encode_utf8}
-use Rattle.meson_lex.specs.Items.{Lexeme}
+use Rattle.std.proofs.Common.{◌≡◌, ◌≤◌, ℕ, Bool, List, refl, sym, ◌∙◌, subst, arith}
 use Rattle.meson_syntax.specs.Grammar.{LevelExpression, expression_depth, expression_words}
-use Rattle.meson_syntax.specs.Operators.{boolean_kind}
-use Rattle.meson_syntax.specs.Tree.{boolean, Expression, Nowhere}
 use Rattle.meson_edit.specs.Places.{IsWritten}
 use Rattle.meson_steps.proofs.StepsDoable.{text_written}
+use Rattle.meson_steps.proofs.WrittenArrays.{truth_written}
 use Rattle.meson_steps.specs.declared.given.Given.{Given}
 use Rattle.meson_steps.specs.declared.given.Given.TheVariants as given
 use Rattle.meson_steps.specs.Code.{IsValue}
 use Rattle.meson_steps.specs.GivenWords.{MayBeGiven}
-use Rattle.meson_places.specs.Values.{given_bytes, given_node, switch_text}
-
-true_text : IsUtf8 (codes "true")
-unfolding encode_utf8
-true_text = (codes "true", (refl, refl))
-
-false_text : IsUtf8 (codes "false")
-unfolding encode_utf8
-false_text = (codes "false", (refl, refl))
-
-abbrev truth_item : Bool → Lexeme
-truth_item b = record { kind = boolean_kind b; text = switch_text b }
-
-abbrev truth_node : Bool → Expression Nowhere
-truth_node b = boolean tt b
-
-switch_written : (b : Bool) → IsWritten (switch_text b) (expression_words (truth_node b))
-switch_written true = record {
-  items = truth_item true ∷ [];
-  is_new = record {
-    are_items = record { joins = refl; each = ((refl, refl, refl), tt) };
-    tight = record { first = truth_item true; more = []; begins = refl; first_speaks = refl; front = []; last = truth_item true; ends = refl; last_speaks = refl };
-    no_remarks = refl;
-  };
-  is_words = refl;
-  utf8 = true_text;
-}
-switch_written false = record {
-  items = truth_item false ∷ [];
-  is_new = record {
-    are_items = record { joins = refl; each = ((refl, refl, refl), tt) };
-    tight = record { first = truth_item false; more = []; begins = refl; first_speaks = refl; front = []; last = truth_item false; ends = refl; last_speaks = refl };
-    no_remarks = refl;
-  };
-  is_words = refl;
-  utf8 = false_text;
-}
+use Rattle.meson_places.specs.Values.{given_bytes, given_node}
 
 pub given_written : (g : Given) (may : MayBeGiven g) → IsWritten (given_bytes g) (expression_words (given_node g may))
 given_written (given.Text text) may = text_written text may
-given_written (given.Switch b) may = switch_written b
+given_written (given.Switch b) may = truth_written b
 given_written (given.Code code) may = may.writes
 
 pub given_level : (g : Given) (may : MayBeGiven g) → LevelExpression (given_node g may)

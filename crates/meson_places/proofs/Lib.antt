@@ -1,16 +1,18 @@
+mod AddedValues
 mod ArgumentsDoable
 mod Around
 mod ArrayWritten
-mod Between
 mod DepthTexts
 mod Found
+mod FreshValues
 mod GivenWritten
-mod IdentifierTexts
 mod KeyedWritten
 mod ListElements
 mod ListStands
 mod ListsThere
+mod LoneValues
 mod Meant
+mod NewElementsDoable
 mod Numbers
 pub mod OneMeaning
 mod Refused
@@ -21,4 +23,5 @@ mod SlotSteps
 mod SlotsDoable
 mod SlotsThere
 mod Standing
+mod ValueListsThere
 pub mod ValuesLeft

@@ -1,7 +1,7 @@
 -- The elements of a list: their strings, and what the code's nodes stand for.
 use Rattle.std.proofs.Common.{rules, ◌≡◌, ℕ, suc, ◌+◌, ◌-◌, ◌<◌, true, false, List, [], ◌∷◌, ◌++◌, length, get_or, drop, Some, sym, ap, ◌∙◌, subst, arith, add-one, append_assoc}
-use Rattle.std.specs.Prelude.{Bool, ◌&&◌, if◌then◌else◌}
-use Rattle.std.specs.List.{list_all}
+use Rattle.std.specs.Prelude.{Bool, ◌&&◌, ◌||◌, if◌then◌else◌}
+use Rattle.std.specs.List.{list_all, list_any}
 use Rattle.std.proofs.Math.Seq.{drop-cons}
 use Rattle.meson_lex.specs.declared.kinds.Kind.TheVariants as k
 use Rattle.meson_lex.specs.declared.kinds.Span.{Span}
@@ -75,3 +75,11 @@ module _ (source : List ℕ) (args : List Arg) (i : ℕ) (d : Arg) (within : i <
 
   pub all_not : (test : Argument Span → Bool) → test (arg_view source (get_or args i d)) ≡ false → list_all test (args_view source (drop i args)) ≡ false
   all_not test fails = ap (list_all test) rest_is ∙ ap (λ b. b && list_all test (args_view source (drop (i + 1) args))) fails
+
+  -- ---- whether one passes a test
+
+  pub any_here : (test : Argument Span → Bool) → test (arg_view source (get_or args i d)) ≡ true → list_any test (args_view source (drop i args)) ≡ true
+  any_here test holds = ap (list_any test) rest_is ∙ ap (λ b. b || list_any test (args_view source (drop (i + 1) args))) holds
+
+  pub any_more : (test : Argument Span → Bool) → test (arg_view source (get_or args i d)) ≡ false → list_any test (args_view source (drop i args)) ≡ list_any test (args_view source (drop (i + 1) args))
+  any_more test fails = ap (list_any test) rest_is ∙ ap (λ b. b || list_any test (args_view source (drop (i + 1) args))) fails

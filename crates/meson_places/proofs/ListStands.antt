@@ -69,13 +69,13 @@ elements_depth (listing s trailing list) = omega (arith, ap arguments_depth (lis
 
 -- ---- elements
 
-last_there : (ys : List (Argument Nowhere)) (m : ℕ) → length ys ≡ suc m → (x : Argument Nowhere) × (nth ys m ≡ Some x) × (drop (suc m) ys ≡ [])
+pub last_there : (ys : List (Argument Nowhere)) (m : ℕ) → length ys ≡ suc m → (x : Argument Nowhere) × (nth ys m ≡ Some x) × (drop (suc m) ys ≡ [])
 last_there [] m many = absurd (omega (arith, many))
 last_there (x ∷ []) zero many = (x, refl, refl)
 last_there (x ∷ y ∷ ys) zero many = absurd (omega (arith, many))
 last_there (x ∷ ys) (suc m) many = let fewer : length ys ≡ suc m = omega (arith, many) in last_there ys m fewer
 
-no_elements : (ys : List (Argument Nowhere)) → length ys ≡ 0 → ys ≡ []
+pub no_elements : (ys : List (Argument Nowhere)) → length ys ≡ 0 → ys ≡ []
 no_elements [] empty = refl
 no_elements (y ∷ ys) empty = absurd (omega (arith, empty))
 

@@ -1,6 +1,6 @@
 -- A change of a value means one thing: the tree of code is that of its text, and what is read of a project are its files and trees.
 use Rattle.std.proofs.Common.{◌≡◌, ℕ, List, [], ◌∷◌, ◌++◌, map, Option, Some, None, Result, Ok, Err, refl, sym, ap, ap₂, ◌∙◌}
-use Rattle.std.specs.Prelude.{length, not, ◌&&◌, if◌then◌else◌}
+use Rattle.std.specs.Prelude.{Bool, length, not, ◌&&◌, if◌then◌else◌}
 use Rattle.std.specs.List.{list_all}
 use Rattle.meson_lex.specs.declared.kinds.Span.{Span}
 use Rattle.meson_lex.specs.Located.{located}
@@ -9,7 +9,7 @@ use Rattle.meson_splice.specs.Files.{bytes_at}
 use Rattle.meson_splice.specs.Patch.{then_ok}
 use Rattle.meson_syntax.specs.declared.operator.Bracket.TheVariants as bracket
 use Rattle.meson_syntax.specs.ReadsList.{ReadsListWithin, list_items}
-use Rattle.meson_syntax.specs.Tree.{plain, no_arguments, argument, Expression, File, Listing, listing, Nowhere, erase, erase_listing}
+use Rattle.meson_syntax.specs.Tree.{plain, no_arguments, argument, Expression, File, Listing, listing, Nowhere, erase, erase_expression, erase_listing}
 use Rattle.meson_syntax.proofs.lists.Complete.{whole_list-complete}
 use Rattle.meson_syntax.proofs.parsing.Steps.{some-injective}
 use Rattle.meson_edit.specs.Edits.{Replace, Written}
@@ -19,7 +19,7 @@ use Rattle.meson_calls.specs.declared.refusal.Refusal.TheVariants.{OtherKind, To
 use Rattle.meson_calls.specs.Finding.{only_one}
 use Rattle.meson_calls.specs.Loading.{Loaded, named_trees, project, trees}
 use Rattle.meson_calls.specs.Notes.{notes}
-use Rattle.meson_calls.specs.Project.{child, expression_at}
+use Rattle.meson_calls.specs.Project.{child, expression_at, nth_file}
 use Rattle.meson_steps.specs.declared.argument.PlaceName.{PlaceName}
 use Rattle.meson_steps.specs.declared.argument.PlaceName.TheVariants as name
 use Rattle.meson_steps.specs.declared.argument.ValueChange.{ValueChange}
@@ -37,9 +37,12 @@ use Rattle.meson_places.specs.declared.slots.Slot.{Slot}
 use Rattle.meson_places.specs.declared.slots.Slot.TheVariants as slot
 use Rattle.meson_places.specs.Arguments.{MayBeMade, argument_steps, last_key, set_within, slot_steps}
 use Rattle.meson_places.specs.Changes.{added_to, element_child, set_there}
-use Rattle.meson_places.specs.Names.{found_by_id, found_within, numbered_file, places_by_id, places_on, first_around, project_there, searched, searched_file, the_place}
+use Rattle.meson_places.specs.Names.{found_by_id, found_within, numbered_file, places_by_id, places_on, beginning_among, lists_among, project_there, searched, searched_file, the_place}
+use Rattle.meson_places.specs.Equality.{is_old, lists_say, says}
+use Rattle.meson_places.specs.NewElements.{add_steps, add_there, add_to_last, add_to_lone, add_to_value, add_to_whole, array_with, beside, fresh_written, lone_token}
+use Rattle.meson_places.specs.ValueLists.{ValueList, last_of, lists_of}
 use Rattle.meson_places.specs.Room.{has_room, list_in_trees}
-use Rattle.meson_places.specs.Several.{AllMayBeGiven, add_array, all_written, array_bytes, becomes_array, if_room_for, is_text_given, put_all, set_all, set_all_there}
+use Rattle.meson_places.specs.Several.{AllMayBeGiven, add_array, all_written, array_bytes, becomes_array, if_room_for, is_text_given, put_all, put_each, set_all, set_all_there}
 use Rattle.meson_places.specs.Slots.{Child, elements_in, the_slot}
 use Rattle.meson_places.specs.Values.{are_texts, is_array, written_given}
 
@@ -104,9 +107,41 @@ set_all_one l gs m k key (slot.Element list n) = there_one l gs m k key list n (
 set_all_one l gs m k key (slot.Absent list absent) = added_one l gs m k absent list
 set_all_one l gs m k key (slot.Whole c) = refl
 
+fresh_one : (known : Given → Bool) (before gs : List Given) (m k : AllMayBeGiven gs) → fresh_written known before gs m ≡ fresh_written known before gs k
+fresh_one known before [] m k = refl
+fresh_one known before (g ∷ gs) m k =
+    ap₂ (λ (w : Written (Expression Nowhere)) (ws : Values). if is_old known before g then ws else w ∷ ws) (one_written g m.0 k.0) (fresh_one known (before ++ g ∷ []) gs m.1 k.1)
+
+module _ (l : Loaded) (gs : List Given) (m k : AllMayBeGiven gs) (key : List ℕ) where
+  last_one : (known : Given → Bool) (a b : Result (List Step) Refusal) → a ≡ b → (o : Option (ValueList Span)) → add_to_last l known gs m a o ≡ add_to_last l known gs k b o
+  last_one known a b same None = same
+  last_one known a b same (Some list) =
+      ap₂ (λ (ws fs : Values). if list_all (λ w. has_room w.node (list_in_trees (plain_trees l) list.place)) ws then Ok (put_each list.place (length list.elements) (length list.elements) fs) else Err TooDeep)
+      (all_one gs m k) (fresh_one known [] gs m k)
+
+  lone_one : (list : CallRef) (n : ℕ) (e : Expression Span) (o : Option (List ℕ)) → add_to_lone l gs m key list n e o ≡ add_to_lone l gs k key list n e o
+  lone_one list n e None = refl
+  lone_one list n e (Some x) = ap (beside l list n (record { bytes = x; node = erase_expression e })) (fresh_one (λ g. says (bytes_at list.file l.files) g e) [] gs m k)
+
+  add_there_one : (list : CallRef) (n : ℕ) (o : Option (Child Span)) → add_there l gs m key list n o ≡ add_there l gs k key list n o
+  add_there_one list n None = refl
+  add_there_one list n (Some c) =
+      let at_ = child list c.number in
+      last_one (lists_say (bytes_at list.file l.files) (lists_of at_ c.value)) _ _ (lone_one list n c.value (lone_token c.value)) (last_of (lists_of at_ c.value))
+
+  add_whole_one : (c : CallRef) (o : Option (Expression Span)) → add_to_whole l gs m key c o ≡ add_to_whole l gs k key c o
+  add_whole_one c None = refl
+  add_whole_one c (Some e) = last_one (lists_say (bytes_at c.file l.files) (lists_of c e)) _ _ refl (last_of (lists_of c e))
+
+  add_one : (s : Slot) → add_steps l gs m key s ≡ add_steps l gs k key s
+  add_one (slot.Element list n) = add_there_one list n (element_child (project l) list n)
+  add_one (slot.Absent list absent) = added_one l gs m k absent list
+  add_one (slot.Whole c) = add_whole_one c (expression_at (project l) c)
+
 steps_one : (l : Loaded) (key : List ℕ) (c : ValueChange) (m k : MayBeMade c) (s : Slot) → slot_steps l key c m s ≡ slot_steps l key c k s
 steps_one l key (change.Set g) m k s = ap (λ w. set_within l g w key s) (one_written g m k)
 steps_one l key (change.SetAll gs) m k s = set_all_one l gs m k key s
+steps_one l key (change.Add gs) m k s = add_one l gs m k key s
 steps_one l key change.Delete m k s = refl
 
 pub arguments_one : (l : Loaded) (n : ValueName) (c : ValueChange) (m k : MayBeMade c) → argument_steps l n c m ≡ argument_steps l n c k
@@ -128,7 +163,8 @@ module _ (p q : Loaded) (same_files : p.files ≡ q.files) (same_trees : trees p
 
   found_same : (n : PlaceName) (folder : Option (List ℕ)) → then_ok (searched_file p.files folder) (λ within. found_within p within n) ≡ then_ok (searched_file q.files folder) (λ within. found_within q within n)
   found_same (name.Line file line) folder =
-      alike (λ fs ts. then_ok (searched_file fs folder) (λ within. then_ok (numbered_file fs file) (λ m. first_around (searched within (places_on fs m line (notes (named_trees fs ts)))))))
+      alike (λ fs ts. then_ok (searched_file fs folder) (λ within. then_ok (numbered_file fs file) (λ m.
+      beginning_among (searched within (places_on fs m line (notes (named_trees fs ts)))) (searched within (lists_among (bytes_at m fs) m line (nth_file (named_trees fs ts) m))))))
   found_same (name.Project id) folder = by_id (name.Project id) folder
   found_same (name.Call f id) folder = by_id (name.Call f id) folder
   found_same (name.Variable id) folder = by_id (name.Variable id) folder
@@ -162,9 +198,47 @@ module _ (p q : Loaded) (same_files : p.files ≡ q.files) (same_trees : trees p
       (λ steps. if has_room node (list_in_trees (map erase ts) list) then Ok steps else Err TooDeep))
   all_same gs may key (slot.Whole c) = refl
 
+  value_same : (gs : List Given) (may : AllMayBeGiven gs) (a b : Result (List Step) Refusal) → a ≡ b → (c : CallRef) (e : Expression Span) → add_to_value p gs may a c e ≡ add_to_value q gs may b c e
+  value_same gs may a b same c e = go (last_of (lists_of c e))
+    where
+      go : (o : Option (ValueList Span)) → add_to_last p (lists_say (bytes_at c.file p.files) (lists_of c e)) gs may a o ≡ add_to_last q (lists_say (bytes_at c.file q.files) (lists_of c e)) gs may b o
+      go None = same
+      go (Some list) =
+          alike (λ fs ts. if list_all (λ w. has_room w.node (list_in_trees (map erase ts) list.place)) (all_written gs may)
+          then Ok (put_each list.place (length list.elements) (length list.elements) (fresh_written (lists_say (bytes_at c.file fs) (lists_of c e)) [] gs may)) else Err TooDeep)
+
+  beside_same : (list : CallRef) (n : ℕ) (old : Written (Expression Nowhere)) (ws : Values) → beside p list n old ws ≡ beside q list n old ws
+  beside_same list n old [] = refl
+  beside_same list n old (w ∷ ws) =
+      let new = array_with old (w ∷ ws) in
+      alike (λ fs ts. if has_room new.node (list_in_trees (map erase ts) list) then Ok (step_in list (Replace list.path.steps n new) ∷ []) else Err TooDeep)
+
+  lone_same : (gs : List Given) (may : AllMayBeGiven gs) (key : List ℕ) (list : CallRef) (n : ℕ) (e : Expression Span) (o : Option (List ℕ)) → add_to_lone p gs may key list n e o ≡ add_to_lone q gs may key list n e o
+  lone_same gs may key list n e None = refl
+  lone_same gs may key list n e (Some x) =
+      let old : Written (Expression Nowhere) = record { bytes = x; node = erase_expression e } in
+      ap (λ fs. beside p list n old (fresh_written (λ g. says (bytes_at list.file fs) g e) [] gs may)) same_files
+      ∙ beside_same list n old (fresh_written (λ g. says (bytes_at list.file q.files) g e) [] gs may)
+
+  add_there_same : (gs : List Given) (may : AllMayBeGiven gs) (key : List ℕ) (list : CallRef) (n : ℕ) (o : Option (Child Span)) → add_there p gs may key list n o ≡ add_there q gs may key list n o
+  add_there_same gs may key list n None = refl
+  add_there_same gs may key list n (Some c) = value_same gs may _ _ (lone_same gs may key list n c.value (lone_token c.value)) (child list c.number) c.value
+
+  add_whole_same : (gs : List Given) (may : AllMayBeGiven gs) (key : List ℕ) (c : CallRef) (o : Option (Expression Span)) → add_to_whole p gs may key c o ≡ add_to_whole q gs may key c o
+  add_whole_same gs may key c None = refl
+  add_whole_same gs may key c (Some e) = value_same gs may _ _ refl c e
+
+  add_same : (gs : List Given) (may : AllMayBeGiven gs) (key : List ℕ) (s : Slot) → add_steps p gs may key s ≡ add_steps q gs may key s
+  add_same gs may key (slot.Element list n) =
+      ap (add_there p gs may key list n) (alike (λ fs ts. element_child (named_trees fs ts) list n)) ∙ add_there_same gs may key list n (element_child (project q) list n)
+  add_same gs may key (slot.Absent list k) = all_same gs may key (slot.Absent list k)
+  add_same gs may key (slot.Whole c) =
+      ap (add_to_whole p gs may key c) (alike (λ fs ts. expression_at (named_trees fs ts) c)) ∙ add_whole_same gs may key c (expression_at (project q) c)
+
   slot_same : (key : List ℕ) (c : ValueChange) (may : MayBeMade c) (s : Slot) → slot_steps p key c may s ≡ slot_steps q key c may s
   slot_same key (change.Set g) may s = set_same g (written_given g may) key s
   slot_same key (change.SetAll gs) may s = all_same gs may key s
+  slot_same key (change.Add gs) may s = add_same gs may key s
   slot_same key change.Delete may s = refl
 
   pub arguments_same : (n : ValueName) (c : ValueChange) (may : MayBeMade c) → argument_steps p n c may ≡ argument_steps q n c may

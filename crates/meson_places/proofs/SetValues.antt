@@ -84,7 +84,7 @@ gone path n was is h =
 
 -- ---- the laws
 
-set_one : (list : CallRef) (n : ℕ) (w : Written (Expression Nowhere)) (before after : List Plain) → all_stepped (step_in list (Replace list.path.steps n w) ∷ []) before ≡ Some after
+pub set_one : (list : CallRef) (n : ℕ) (w : Written (Expression Nowhere)) (before after : List Plain) → all_stepped (step_in list (Replace list.path.steps n w) ∷ []) before ≡ Some after
     → SlotIs list n w.node before after
 set_one list n w before after is =
     let c = changed list.file (edited (Replace list.path.steps n w)) before after (one_step (step_in list (Replace list.path.steps n w)) before after is) in

@@ -42,7 +42,7 @@ abbrev pub AllLow : ℕ → (gs : List Given) → AllMayBeGiven gs → Type 0
 AllLow limit [] mays = Unit {0}
 AllLow limit (g ∷ gs) mays = (expression_depth (given_node g mays.0) ≤ limit) × AllLow limit gs mays.1
 
-lower : (a b : ℕ) → a ≤ b → (gs : List Given) (mays : AllMayBeGiven gs) → AllLow a gs mays → AllLow b gs mays
+pub lower : (a b : ℕ) → a ≤ b → (gs : List Given) (mays : AllMayBeGiven gs) → AllLow a gs mays → AllLow b gs mays
 lower a b below [] mays all = tt
 lower a b below (g ∷ gs) mays all = let first = all.0 in (omega (arith, below, first), lower a b below gs mays.1 all.1)
 
@@ -50,12 +50,12 @@ abbrev pub all_room : List Plain → CallRef → (gs : List Given) → AllMayBeG
 all_room trees c gs mays = list_all (λ (w : Written (Expression Nowhere)). has_room w.node (list_in_trees trees c)) (all_written gs mays)
 
 -- the deepest of some values, for which there is room
-record Deepest (trees : List Plain) (c : CallRef) (gs : List Given) (mays : AllMayBeGiven gs) : Type 0 where
-  node : Expression Nowhere
-  room : has_room node (list_in_trees trees c) ≡ true
-  low : AllLow (expression_depth node) gs mays
+pub record Deepest (trees : List Plain) (c : CallRef) (gs : List Given) (mays : AllMayBeGiven gs) : Type 0 where
+  pub node : Expression Nowhere
+  pub room : has_room node (list_in_trees trees c) ≡ true
+  pub low : AllLow (expression_depth node) gs mays
 
-deepest : (old : Loaded) → IsProject old → (c : CallRef) (gs : List Given) (mays : AllMayBeGiven gs) → all_room (plain_trees old) c gs mays ≡ true → Deepest (plain_trees old) c gs mays
+pub deepest : (old : Loaded) → IsProject old → (c : CallRef) (gs : List Given) (mays : AllMayBeGiven gs) → all_room (plain_trees old) c gs mays ≡ true → Deepest (plain_trees old) c gs mays
 deepest old is c [] mays all = record { node = string_of []; room = flat_room (plain_trees old) (parsed_shallow old.files old.parsed is.parsed) c (string_of []) refl; low = tt }
 deepest old is c (g ∷ gs) mays all =
     let parts = and_parts (has_room (given_node g mays.0) (list_in_trees (plain_trees old) c)) (all_room (plain_trees old) c gs mays.1) all in

@@ -15,14 +15,6 @@ module _ (p : CallRef) (e : Expression Span) (here : Slot) (key : List ℕ) (key
   pub further : ℕ → Child Span → Result Slot Refusal
   further n c = slot_in (child p c.number) c.value (slot.Element p n) keys
 
-  pub step_refused : (f : Refusal) → number_in key e ≡ Err f → slot_in p e here (key ∷ keys) ≡ Err f
-  unfolding further
-  step_refused f is = ap (at_number (absent_slot p key keys) (λ n. in_child key (further n) (nth_child 0 (elements_in e) n))) is
-
-  pub step_absent : number_in key e ≡ Ok None → slot_in p e here (key ∷ keys) ≡ absent_slot p key keys
-  unfolding further
-  step_absent is = ap (at_number (absent_slot p key keys) (λ n. in_child key (further n) (nth_child 0 (elements_in e) n))) is
-
   pub step_to : (n : ℕ) → number_in key e ≡ Ok (Some n) → slot_in p e here (key ∷ keys) ≡ in_child key (further n) (nth_child 0 (elements_in e) n)
   unfolding further
   step_to n is = ap (at_number (absent_slot p key keys) (λ n. in_child key (further n) (nth_child 0 (elements_in e) n))) is

@@ -39,7 +39,7 @@ use Rattle.meson_steps.specs.GivenWords.{MayBeGiven}
 use Rattle.meson_places.specs.Values.{is_array, is_identifier, keeps_kind, written_given}
 use Rattle.meson_places.specs.inside.Colons.{colon_text}
 use Rattle.meson_places.proofs.GivenWritten.{given_level, given_written}
-use Rattle.meson_places.proofs.IdentifierTexts.{identifier_true}
+use Rattle.meson_steps.proofs.Identifiers.{identifier_true}
 use Rattle.meson_places.proofs.KeyedWritten.{entry_written, keyword_written}
 use Rattle.meson_places.proofs.ListStands.{ListStands, behind_step, remove_step, replace_step, xs}
 use Rattle.meson_places.proofs.ListsThere.{ElementThere, StandsWith, element_there, stands_with}

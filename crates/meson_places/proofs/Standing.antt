@@ -32,7 +32,7 @@ node_good of_expression x e good is = let same : x ≡ e = cc in subst (λ y. Ar
 node_good of_statement x e good is = cc
 node_good of_block x e good is = cc
 
-expression_good : (f : tree.File Span) (path : List ℕ) (e : Expression Span) → paths.expression_on_path f path ≡ Some e → AreGood (node_words Span of_block (block_of f)) → AreGood (expression_words e)
+pub expression_good : (f : tree.File Span) (path : List ℕ) (e : Expression Span) → paths.expression_on_path f path ≡ Some e → AreGood (node_words Span of_block (block_of f)) → AreGood (expression_words e)
 expression_good f path e is good =
     let o = and-then-some (λ h. expression_of Span h.sort h.inside) (reach Span of_block (block_of f) path) e is in
     let h = o.0 in
@@ -40,7 +40,7 @@ expression_good f path e is good =
     let whole = subst AreGood (fits.put h.inside) (subst (λ b. AreGood (node_words Span of_block b)) (sym fits.same) good) in
     node_good h.sort h.inside e (good_left (node_words Span h.sort h.inside) h.behind (good_right h.before (node_words Span h.sort h.inside ++ h.behind) whole)) o.2
 
-block_good : (f : tree.File Span) → AreGood (file_words f) → AreGood (node_words Span of_block (block_of f))
+pub block_good : (f : tree.File Span) → AreGood (file_words f) → AreGood (node_words Span of_block (block_of f))
 block_good (tree.file s b) good = good
 
 module _ (files : List File) (trees : List Parsed) (c : CallRef) where

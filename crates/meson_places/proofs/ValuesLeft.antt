@@ -1,30 +1,40 @@
 -- What a change of one value leaves.
-use Rattle.std.proofs.Common.{◌≡◌, ℕ, true, false, List, [], Some, Result, Ok, Err, refl, sym, ap, ◌∙◌, subst}
-use Rattle.std.specs.Prelude.{Bool, if◌then◌else◌}
+use Rattle.std.proofs.Common.{◌≡◌, ℕ, true, false, List, [], ◌∷◌, Option, Some, None, Result, Ok, Err, refl, sym, ap, ◌∙◌, subst, inl, inr}
+use Rattle.std.specs.Prelude.{Bool, ◌⊎◌, if◌then◌else◌}
+use Rattle.meson_lex.specs.declared.kinds.Span.{Span}
+use Rattle.meson_splice.specs.Files.{bytes_at}
 use Rattle.meson_splice.specs.Patch.{then_ok}
-use Rattle.meson_syntax.specs.Tree.{Expression, Nowhere, Plain}
+use Rattle.meson_syntax.specs.Tree.{Expression, Nowhere, Plain, erase_expression}
+use Rattle.meson_edit.specs.Edits.{Replace, Written}
 use Rattle.meson_calls.specs.declared.call.CallRef.{CallRef}
 use Rattle.meson_calls.specs.declared.refusal.Refusal.{Refusal}
-use Rattle.meson_calls.specs.declared.refusal.Refusal.TheVariants.{TooDeep}
+use Rattle.meson_calls.specs.declared.refusal.Refusal.TheVariants.{NotLiteral, TooDeep}
 use Rattle.meson_calls.specs.Loading.{Loaded, project}
+use Rattle.meson_calls.specs.Project.{child, expression_at}
 use Rattle.meson_steps.specs.declared.argument.ValueChange.{ValueChange}
 use Rattle.meson_steps.specs.declared.argument.ValueChange.TheVariants as change
 use Rattle.meson_steps.specs.declared.argument.ValueName.{ValueName}
 use Rattle.meson_steps.specs.declared.given.Given.{Given}
 use Rattle.meson_steps.specs.GivenWords.{MayBeGiven}
 use Rattle.meson_steps.specs.ResultLimits.{plain_trees}
-use Rattle.meson_steps.specs.Steps.{Step, all_stepped}
+use Rattle.meson_steps.specs.Steps.{Step, all_stepped, step_in}
 use Rattle.meson_places.specs.declared.slots.Slot.{Slot}
 use Rattle.meson_places.specs.declared.slots.Slot.TheVariants as slot
 use Rattle.meson_places.specs.Arguments.{MayBeMade, argument_steps, last_key, set_within, slot_steps}
-use Rattle.meson_places.specs.Changes.{set_steps}
-use Rattle.meson_places.specs.Effects.{SetLeft, SlotLeft, ValueLeft}
+use Rattle.meson_places.specs.Changes.{element_child, set_steps}
+use Rattle.meson_places.specs.Equality.{lists_say, says}
+use Rattle.meson_places.specs.Effects.{AddedBeside, AddedTo, ElementAdded, IsBeside, WholeAdded, SetLeft, SlotLeft, ValueLeft}
 use Rattle.meson_places.specs.Names.{the_place}
+use Rattle.meson_places.specs.NewElements.{add_steps, add_there, add_to_last, add_to_lone, add_to_value, add_to_whole, array_with, beside, fresh_written, lone_token}
 use Rattle.meson_places.specs.Room.{has_room, if_room, list_in_trees}
-use Rattle.meson_places.specs.Slots.{the_slot}
+use Rattle.meson_places.specs.Several.{AllMayBeGiven}
+use Rattle.meson_places.specs.Slots.{Child, the_slot}
+use Rattle.meson_places.specs.ValueLists.{ValueList, last_of, lists_of}
 use Rattle.meson_places.specs.Values.{written_given}
+use Rattle.meson_places.proofs.AddedValues.{adds_to_one_list}
 use Rattle.meson_places.proofs.ArgumentsDoable.{ok_then}
-use Rattle.meson_places.proofs.SetValues.{deletes_one_element, keeps_kinds, sets_one_value}
+use Rattle.meson_places.proofs.ListsThere.{element_there}
+use Rattle.meson_places.proofs.SetValues.{deletes_one_element, keeps_kinds, set_one, sets_one_value}
 use Rattle.meson_places.proofs.SlotsThere.{slots_are_there}
 
 with_room : (l : Loaded) (list : CallRef) (e : Expression Nowhere) (some steps : List Step) → if_room l list e some ≡ Ok steps → some ≡ steps
@@ -44,12 +54,73 @@ set_left l g may key list n steps after made done =
     let m = keeps_kinds l g w key list n steps is in
     record { may_set = m; may = may; now = λ kept. sets_one_value l g w key list n m.value m.is_value kept steps is (plain_trees l) after done }
 
+-- values that are added
+module _ (l : Loaded) (gs : List Given) (may : AllMayBeGiven gs) (key : List ℕ) (steps : List Step) (after : List Plain) (done : all_stepped steps (plain_trees l) ≡ Some after) where
+  to_value : (c : CallRef) (e : Expression Span) → expression_at (project l) c ≡ Some e → (otherwise : Result (List Step) Refusal) → (Left : Type 0) → (otherwise ≡ Ok steps → Left) → add_to_value l gs may otherwise c e ≡ Ok steps
+      → AddedTo l gs may c e (plain_trees l) after ⊎ Left
+  to_value c e at_ otherwise Left other made = go (last_of (lists_of c e)) refl made
+    where
+      known : Given → Bool
+      known = lists_say (bytes_at c.file l.files) (lists_of c e)
+
+      go : (o : Option (ValueList Span)) → last_of (lists_of c e) ≡ o → add_to_last l known gs may otherwise o ≡ Ok steps → AddedTo l gs may c e (plain_trees l) after ⊎ Left
+      go None no_list m = inr (other m)
+      go (Some list) last m = inl (record { list = list; is_last = last; now = adds_to_one_list l gs may otherwise c e at_ list last steps made after done })
+
+  beside_left : (list : CallRef) (n : ℕ) (old : Written (Expression Nowhere)) (ws : List (Written (Expression Nowhere))) → beside l list n old ws ≡ Ok steps → IsBeside list n old ws (plain_trees l) after
+  beside_left list n old [] made =
+      let none : [] ≡ steps = cc in
+      let same : Some (plain_trees l) ≡ Some after = ap (λ ss. all_stepped ss (plain_trees l)) none ∙ done in
+      cc
+  beside_left list n old (w ∷ ws) made =
+      let new = array_with old (w ∷ ws) in
+      let all = step_in list (Replace list.path.steps n new) ∷ [] in
+      set_one list n new (plain_trees l) after (ap (λ ss. all_stepped ss (plain_trees l)) (with_room l list new.node all steps made) ∙ done)
+
+  lone_left : (list : CallRef) (n : ℕ) (e : Expression Span) → add_to_lone l gs may key list n e (lone_token e) ≡ Ok steps → AddedBeside l gs may list n e (plain_trees l) after
+  lone_left list n e made = go (lone_token e) refl made
+    where
+      go : (o : Option (List ℕ)) → lone_token e ≡ o → add_to_lone l gs may key list n e o ≡ Ok steps → AddedBeside l gs may list n e (plain_trees l) after
+      go None token m = absurd (let no : ⊥ = cc in no)
+      go (Some x) token m = record {
+        token = x;
+        is_token = token;
+        now = beside_left list n (record { bytes = x; node = erase_expression e }) (fresh_written (λ g. says (bytes_at list.file l.files) g e) [] gs may) m;
+      }
+
+  element_left : (list : CallRef) (n : ℕ) → add_steps l gs may key (slot.Element list n) ≡ Ok steps → ElementAdded l gs list n (plain_trees l) after
+  element_left list n made = go (element_child (project l) list n) refl made
+    where
+      go : (o : Option (Child Span)) → element_child (project l) list n ≡ o → add_there l gs may key list n o ≡ Ok steps → ElementAdded l gs list n (plain_trees l) after
+      go None is m = absurd (let no : ⊥ = cc in no)
+      go (Some v) is m = record {
+        may = may;
+        value = v;
+        is_value = is;
+        added = to_value (child list v.number) v.value (element_there (project l) list n v is).at_child (add_to_lone l gs may key list n v.value (lone_token v.value))
+            (AddedBeside l gs may list n v.value (plain_trees l) after) (lone_left list n v.value) m;
+      }
+
+  whole_left : (c : CallRef) → add_steps l gs may key (slot.Whole c) ≡ Ok steps → WholeAdded l gs c (plain_trees l) after
+  whole_left c made = go (expression_at (project l) c) refl made
+    where
+      one : (e : Expression Span) → AddedTo l gs may c e (plain_trees l) after ⊎ ⊥ → AddedTo l gs may c e (plain_trees l) after
+      one e (inl x) = x
+      one e (inr never) = absurd never
+
+      go : (o : Option (Expression Span)) → expression_at (project l) c ≡ o → add_to_whole l gs may key c o ≡ Ok steps → WholeAdded l gs c (plain_trees l) after
+      go None is m = absurd (let no : ⊥ = cc in no)
+      go (Some e) is m = record { may = may; value = e; is_value = is; added = one e (to_value c e is (Err (NotLiteral key)) ⊥ (λ h. let no : ⊥ = cc in no) m) }
+
 slot_left : (l : Loaded) (key : List ℕ) (c : ValueChange) (may : MayBeMade c) (s : Slot) (steps : List Step) (after : List Plain) → slot_steps l key c may s ≡ Ok steps
     → all_stepped steps (plain_trees l) ≡ Some after → SlotLeft l c s (plain_trees l) after
 slot_left l key (change.Set g) may (slot.Element list n) steps after made done = set_left l g may key list n steps after made done
 slot_left l key (change.Set g) may (slot.Absent list k) steps after made done = tt
 slot_left l key (change.Set g) may (slot.Whole p) steps after made done = tt
 slot_left l key (change.SetAll gs) may s steps after made done = tt
+slot_left l key (change.Add gs) may (slot.Element list n) steps after made done = element_left l gs may key steps after done list n made
+slot_left l key (change.Add gs) may (slot.Absent list k) steps after made done = tt
+slot_left l key (change.Add gs) may (slot.Whole c) steps after made done = whole_left l gs may key steps after done c made
 slot_left l key change.Delete may (slot.Element list n) steps after made done = deletes_one_element list n steps made (plain_trees l) after done
 slot_left l key change.Delete may (slot.Absent list k) steps after made done =
     let none : [] ≡ steps = cc in

@@ -1,8 +1,12 @@
 -- What is there after a change of one value: the value that was named, and all else as it was.
-use Rattle.std.specs.Prelude.{◌≡◌, ℕ, true, List, Ok}
-use Rattle.meson_syntax.specs.Tree.{Plain}
+use Rattle.std.specs.Prelude.{◌≡◌, ◌⊎◌, ℕ, true, List, [], ◌∷◌, map, Some, Ok}
+use Rattle.meson_lex.specs.declared.kinds.Span.{Span}
+use Rattle.meson_splice.specs.Files.{bytes_at}
+use Rattle.meson_syntax.specs.Tree.{Expression, Nowhere, Plain, erase_expression}
+use Rattle.meson_edit.specs.Edits.{Written}
 use Rattle.meson_calls.specs.declared.call.CallRef.{CallRef}
 use Rattle.meson_calls.specs.Loading.{Loaded, project}
+use Rattle.meson_calls.specs.Project.{child, expression_at}
 use Rattle.meson_steps.specs.declared.argument.ValueChange.{ValueChange}
 use Rattle.meson_steps.specs.declared.argument.ValueChange.TheVariants as change
 use Rattle.meson_steps.specs.declared.argument.ValueName.{ValueName}
@@ -10,9 +14,14 @@ use Rattle.meson_steps.specs.declared.given.Given.{Given}
 use Rattle.meson_steps.specs.GivenWords.{MayBeGiven}
 use Rattle.meson_places.specs.declared.slots.Slot.{Slot}
 use Rattle.meson_places.specs.declared.slots.Slot.TheVariants as slot
-use Rattle.meson_places.specs.Laws.{IsWithout, MaySet, SlotIs, SlotIsThere}
+use Rattle.meson_places.specs.Changes.{element_child}
+use Rattle.meson_places.specs.Equality.{lists_say, says}
+use Rattle.meson_places.specs.Laws.{HasAlso, IsWithout, MaySet, SlotIs, SlotIsThere}
 use Rattle.meson_places.specs.Names.{the_place}
-use Rattle.meson_places.specs.Slots.{the_slot}
+use Rattle.meson_places.specs.NewElements.{array_with, fresh_written, lone_token}
+use Rattle.meson_places.specs.Several.{AllMayBeGiven}
+use Rattle.meson_places.specs.Slots.{Child, the_slot}
+use Rattle.meson_places.specs.ValueLists.{ValueList, last_of, lists_of}
 use Rattle.meson_places.specs.Values.{given_node, keeps_kind}
 
 -- A value that was there may be set to the given one. Where it keeps its kind, that is the value now, and all else is as it was.
@@ -21,9 +30,43 @@ pub record SetLeft (old : Loaded) (g : Given) (list : CallRef) (n : ℕ) (before
   pub may : MayBeGiven g
   pub now : keeps_kind g may_set.value ≡ true → SlotIs list n (given_node g may) before after
 
+-- The last list of a value has also the new ones.
+pub record AddedTo (old : Loaded) (gs : List Given) (may : AllMayBeGiven gs) (c : CallRef) (e : Expression Span) (before after : List Plain) : Type 0 where
+  pub list : ValueList Span
+  pub is_last : last_of (lists_of c e) ≡ Some list
+  pub now : HasAlso list.place (map (λ w. w.node) (fresh_written (lists_say (bytes_at c.file old.files) (lists_of c e)) [] gs may)) before after
+
+-- a value is the array of it and the new ones now, or nothing is changed where there are none
+abbrev pub IsBeside : CallRef → ℕ → Written (Expression Nowhere) → List (Written (Expression Nowhere)) → (before after : List Plain) → Type 0
+IsBeside list n old [] before after = after ≡ before
+IsBeside list n old (w ∷ ws) before after = SlotIs list n (array_with old (w ∷ ws)).node before after
+
+-- A literal or an identifier is.
+pub record AddedBeside (old : Loaded) (gs : List Given) (may : AllMayBeGiven gs) (list : CallRef) (n : ℕ) (e : Expression Span) (before after : List Plain)
+    : Type 0 where
+  pub token : List ℕ
+  pub is_token : lone_token e ≡ Some token
+  pub now : IsBeside list n (record { bytes = token; node = erase_expression e }) (fresh_written (λ g. says (bytes_at list.file old.files) g e) [] gs may) before after
+
+-- so it is of the value of an element
+pub record ElementAdded (old : Loaded) (gs : List Given) (list : CallRef) (n : ℕ) (before after : List Plain) : Type 0 where
+  pub may : AllMayBeGiven gs
+  pub value : Child Span
+  pub is_value : element_child (project old) list n ≡ Some value
+  pub added : AddedTo old gs may (child list value.number) value.value before after ⊎ AddedBeside old gs may list n value.value before after
+
+-- and of the expression at a place, which has a list
+pub record WholeAdded (old : Loaded) (gs : List Given) (c : CallRef) (before after : List Plain) : Type 0 where
+  pub may : AllMayBeGiven gs
+  pub value : Expression Span
+  pub is_value : expression_at (project old) c ≡ Some value
+  pub added : AddedTo old gs may c value before after
+
 -- what a change leaves of a slot
 abbrev pub SlotLeft : Loaded → ValueChange → Slot → (before after : List Plain) → Type 0
 SlotLeft old (change.Set g) (slot.Element list n) before after = SetLeft old g list n before after
+SlotLeft old (change.Add gs) (slot.Element list n) before after = ElementAdded old gs list n before after
+SlotLeft old (change.Add gs) (slot.Whole c) before after = WholeAdded old gs c before after
 SlotLeft old change.Delete (slot.Element list n) before after = IsWithout list n before after
 SlotLeft old change.Delete (slot.Absent list key) before after = after ≡ before
 SlotLeft old _ _ before after = Unit {0}

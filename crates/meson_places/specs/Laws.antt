@@ -1,12 +1,14 @@
 -- What a search finds and what a slot is, in terms of the calls of a project and of what is at a place.
-use Rattle.std.specs.Prelude.{◌≡◌, ◌⊎◌, ℕ, suc, true, List, ◌∷◌, ◌++◌, take, drop, Option, Some, None, Ok, All}
-use Rattle.std.specs.List.{Contains}
+use Rattle.std.specs.Prelude.{◌≡◌, ◌⊎◌, ℕ, suc, Bool, true, not, List, [], ◌∷◌, ◌++◌, map, take, drop, Option, Some, None, Result, Ok, All}
+use Rattle.std.specs.List.{Contains, list_all}
 use Rattle.std.specs.Str.{IsUtf8}
 use Rattle.meson_lex.specs.declared.kinds.Span.{Span}
 use Rattle.meson_syntax.specs.Paths.{ListAt, list_at, nth}
-use Rattle.meson_syntax.specs.Tree.{Argument, Expression, Nowhere, Plain}
+use Rattle.meson_syntax.specs.Tree.{Argument, plain, Expression, Nowhere, Plain}
 use Rattle.meson_edit.specs.Edits.{Written, elements, with_elements, with_value}
+use Rattle.meson_splice.specs.Files.{bytes_at}
 use Rattle.meson_calls.specs.declared.call.CallRef.{CallRef}
+use Rattle.meson_calls.specs.declared.refusal.Refusal.{Refusal}
 use Rattle.meson_calls.specs.Calls.{Call, call_of, calls, first_literal, is}
 use Rattle.meson_calls.specs.Loading.{IsProject, Loaded, project}
 use Rattle.meson_calls.specs.Notes.{an_assignment, notes}
@@ -24,7 +26,11 @@ use Rattle.meson_places.specs.declared.slots.Slot.TheVariants as slot
 use Rattle.meson_steps.specs.declared.given.Given.{Given}
 use Rattle.meson_places.specs.Arguments.{MayBeMade, argument_steps}
 use Rattle.meson_places.specs.Changes.{delete_steps, replaces_texts, set_steps, slot_value}
+use Rattle.meson_places.specs.Equality.{fresh, lists_say}
+use Rattle.meson_places.specs.NewElements.{add_to_value, fresh_written}
+use Rattle.meson_places.specs.Several.{AllMayBeGiven}
 use Rattle.meson_places.specs.Slots.{number_in, the_slot}
+use Rattle.meson_places.specs.ValueLists.{ValueList, last_of, lists_of}
 use Rattle.meson_places.specs.Values.{keeps_kind}
 use Rattle.meson_places.specs.Names.{calls_callee, is_searched, searched_file, the_place}
 
@@ -124,6 +130,33 @@ pub record IsWithout (list : CallRef) (n : ℕ) (before after : List Plain) : Ty
 abbrev pub DeletesOneElement : Type 0
 DeletesOneElement = (list : CallRef) (n : ℕ) (steps : List Step) → delete_steps (slot.Element list n) ≡ Ok steps
     → (before after : List Plain) → all_stepped steps before ≡ Some after → IsWithout list n before after
+
+-- ---- elements that are added
+
+-- Elements with these values are behind all others of the list there, and all else in the trees is as it was.
+pub record HasMore (list : CallRef) (new : List (Expression Nowhere)) (before after : List Plain) : Type 0 where
+  pub tree : Plain
+  pub is_tree : nth before list.file ≡ Some tree
+  pub place : ListAt Nowhere
+  pub is_place : list_at tree list.path.steps ≡ Some place
+  pub is_after : changed_at list.file (λ t. Some (place.back (with_elements place.list (elements place.list ++ map plain new)))) before ≡ Some after
+
+-- the same, and nothing is changed where there are none
+abbrev pub HasAlso : CallRef → (new : List (Expression Nowhere)) → (before after : List Plain) → Type 0
+HasAlso list [] before after = after ≡ before
+HasAlso list (e ∷ es) before after = HasMore list (e ∷ es) before after
+
+-- the law: values are added to the last list of a value and to no other, behind its old elements in their order, each that no element of a list of the value said
+abbrev pub AddsToOneList : Type 0
+AddsToOneList = (l : Loaded) (gs : List Given) (may : AllMayBeGiven gs) (otherwise : Result (List Step) Refusal) (c : CallRef) (e : Expression Span)
+    → expression_at (project l) c ≡ Some e → (list : ValueList Span) → last_of (lists_of c e) ≡ Some list
+    → (steps : List Step) → add_to_value l gs may otherwise c e ≡ Ok steps
+    → (after : List Plain) → all_stepped steps (plain_trees l) ≡ Some after
+    → HasAlso list.place (map (λ w. w.node) (fresh_written (lists_say (bytes_at c.file l.files) (lists_of c e)) [] gs may)) (plain_trees l) after
+
+-- the law: the new ones are not known
+abbrev pub NewAreUnknown : Type 0
+NewAreUnknown = (known : Given → Bool) (before gs : List Given) → list_all (λ g. not (known g)) (fresh known before gs) ≡ true
 
 -- ---- steps that may be done
 

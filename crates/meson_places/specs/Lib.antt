@@ -1,8 +1,11 @@
 pub mod Arguments
 pub mod Changes
+pub mod Equality
 pub mod Names
+pub mod NewElements
 pub mod Room
 pub mod Several
+pub mod ValueLists
 pub mod Values
 pub mod Slots
 pub mod Laws

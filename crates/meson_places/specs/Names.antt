@@ -19,8 +19,11 @@ use Rattle.meson_calls.specs.Loading.{Loaded, loaded_from, project}
 use Rattle.meson_calls.specs.Naming.{project_ids}
 use Rattle.meson_calls.specs.Notes.{Note, a_call, an_assignment, a_loop, notes}
 use Rattle.meson_calls.specs.OnePlace.{any_place}
-use Rattle.meson_calls.specs.Project.{Placed, child}
+use Rattle.meson_calls.specs.Parts.{parts_of_file}
+use Rattle.meson_calls.specs.Project.{BuildFile, Placed, child, nth_file}
 use Rattle.meson_calls.specs.Roles.{has_role, one_of}
+use Rattle.meson_calls.specs.Walks.{lists_opened}
+use Rattle.meson_calls.specs.declared.keeper.Opened.{Opened}
 use Rattle.meson_steps.specs.declared.argument.Callee.{Callee}
 use Rattle.meson_steps.specs.declared.argument.Callee.TheVariants as callee
 use Rattle.meson_steps.specs.declared.argument.PlaceName.{PlaceName}
@@ -92,10 +95,24 @@ leads_into path [] = true
 leads_into [] (n ∷ outer) = false
 leads_into (m ∷ path) (n ∷ outer) = m == n && leads_into path outer
 
+-- the place of an array or a dictionary whose bracket opens on this line
+abbrev pub opens_on : List ℕ → (line : ℕ) → Opened → Option CallRef
+opens_on bytes line o = if line_of bytes o.at == line then Some o.place else None
+
 -- the first of some places of one file, if all others are in it
 abbrev pub first_around : List CallRef → Result CallRef Refusal
 first_around [] = Err NotFound
 first_around (c ∷ more) = if list_all (λ d. leads_into d.path.steps c.path.steps) more then Ok c else Err Ambiguous
+
+-- the first of some arrays and dictionaries
+abbrev pub first_list : List CallRef → Result CallRef Refusal
+first_list [] = Err NotFound
+first_list (c ∷ more) = Ok c
+
+-- what begins on a line: a call or an assigned value, and where there is none, the first array or dictionary that opens on it
+abbrev pub beginning_among : (places lists : List CallRef) → Result CallRef Refusal
+beginning_among [] lists = first_list lists
+beginning_among (c ∷ more) lists = first_around (c ∷ more)
 
 -- ---- which files are searched
 
@@ -132,8 +149,17 @@ places_by_id n ns = filter_map (named_place n) ns
 abbrev pub places_on : List File → (file line : ℕ) → List (Placed (Note Span)) → List CallRef
 places_on files file line ns = filter_map (place_on files file line) ns
 
+-- the arrays and dictionaries of a build file that open on this line of the file of this number
+abbrev pub lists_among : List ℕ → (file line : ℕ) → Option (BuildFile Span) → List CallRef
+lists_among bytes file line None = []
+lists_among bytes file line (Some f) = filter_map (opens_on bytes line) (lists_opened (parts_of_file file f.tree))
+
+abbrev pub lists_on : Loaded → (file line : ℕ) → List CallRef
+lists_on l file line = lists_among (bytes_at file l.files) file line (nth_file (project l) file)
+
 abbrev pub found_on : Loaded → Option ℕ → (file line : ℕ) → Result CallRef Refusal
-found_on l within file line = first_around (searched within (places_on l.files file line (notes (project l))))
+found_on l within file line =
+    beginning_among (searched within (places_on l.files file line (notes (project l)))) (searched within (lists_on l file line))
 
 abbrev pub found_by_id : Loaded → Option ℕ → PlaceName → Result CallRef Refusal
 found_by_id l within n = then_ok (project_there n (notes (project l))) (λ _. only_one (searched within (places_by_id n (notes (project l)))))

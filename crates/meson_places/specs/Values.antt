@@ -1,13 +1,11 @@
 -- What is written for values that are given, and which of them may replace a value.
-use Rattle.std.specs.Prelude.{ℕ, ◌==◌, Bool, true, false, not, ◌&&◌, List, [], ◌∷◌, map, bytes_eq, codes, if◌then◌else◌, is_some}
+use Rattle.std.specs.Prelude.{ℕ, Bool, true, false, ◌&&◌, List, codes, if◌then◌else◌, is_some}
 use Rattle.std.specs.List.{list_all}
-use Rattle.meson_lex.specs.Bytes.{is_word_byte, is_word_start}
-use Rattle.meson_lex.specs.Kinds.{reserved, spelling}
 use Rattle.meson_lex.specs.Literals.{literal}
 use Rattle.meson_syntax.specs.Tree.{Argument, plain, Expression, boolean, array, Nowhere}
 use Rattle.meson_edit.specs.Edits.{Written}
 use Rattle.meson_calls.specs.Calls.{literal_of}
-use Rattle.meson_calls.specs.Roles.{one_of}
+pub use Rattle.meson_steps.specs.Identifiers.{is_identifier}
 use Rattle.meson_steps.specs.WrittenTexts.{string_of}
 use Rattle.meson_steps.specs.declared.given.Given.{Given}
 use Rattle.meson_steps.specs.declared.given.Given.TheVariants as given
@@ -55,13 +53,3 @@ is_array _ = false
 -- an array of texts
 abbrev pub are_texts : {S : Type 0} → Expression S → Bool
 are_texts e = is_array e && list_all is_text (elements_in e)
-
--- ---- names of keyword arguments: Meson manual, Syntax, the grammar's id_expression
-
--- a letter or `_`, and then letters, digits and `_`
-abbrev pub is_word : List ℕ → Bool
-is_word [] = false
-is_word (b ∷ bs) = is_word_start b && list_all is_word_byte bs
-
-abbrev pub is_identifier : List ℕ → Bool
-is_identifier text = is_word text && not (one_of (map spelling reserved) text)

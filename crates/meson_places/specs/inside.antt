@@ -1,2 +1,3 @@
 pub mod Colons
+pub mod Found
 pub mod Wanted

@@ -15,6 +15,7 @@ ghost use Rattle.meson_places.specs.Values.{written_given};
 use crate::changes::{delete_steps, set_steps};
 use crate::lookup::find_place;
 use crate::name::Sources;
+use crate::new_elements::add_steps;
 use crate::room::has_room;
 use crate::several::set_all;
 use crate::slots::{Slot, find_slot};
@@ -56,6 +57,7 @@ fn reads_change(change: &ValueChange)
     match change {
         ValueChange::Set(given) => reads(given),
         ValueChange::SetAll(values) => reads_all(values.get()),
+        ValueChange::Add(values) => reads_all(values.get()),
         ValueChange::Delete => {}
     }
 }
@@ -110,7 +112,7 @@ fn set_within(
 /// The steps that change the value of a slot.
 ///
 /// # Errors
-/// The faults of `set_within`, `set_all` or `delete_steps`.
+/// The faults of `set_within`, `set_all`, `add_steps` or `delete_steps`.
 fn slot_steps(
     alloc: Global,
     sources: Sources<'_>,
@@ -125,6 +127,7 @@ fn slot_steps(
     match change {
         ValueChange::Set(given) => set_within(alloc, sources, given, key, slot),
         ValueChange::SetAll(values) => set_all(alloc, sources, values.get(), key, slot),
+        ValueChange::Add(values) => add_steps(alloc, sources, values.get(), key, slot),
         ValueChange::Delete => delete_steps(alloc, slot),
     }
 }

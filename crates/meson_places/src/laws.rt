@@ -1,6 +1,6 @@
 //! Laws of places. The functions do nothing: what they ensure is the law.
 
-ghost use Rattle.meson_places.specs.Laws.{ArgumentStepsAreDoable, DeletesOneElement, FindsOneCall, KeepsKind, SetsOneValue, SlotsAreThere};
+ghost use Rattle.meson_places.specs.Laws.{AddsToOneList, ArgumentStepsAreDoable, DeletesOneElement, FindsOneCall, KeepsKind, NewAreUnknown, SetsOneValue, SlotsAreThere};
 
 /// What a search for a call finds is a call of the function, which has the name or is assigned to the variable. It is in the files that are searched, and no
 /// other call of the function there has the name.
@@ -26,6 +26,16 @@ pub fn keeps_kind()
 /// Deleting a slot removes that argument, entry or element, and leaves all else in the trees.
 pub fn deletes_one_element()
     ensures { DeletesOneElement }
+{}
+
+/// Values are added to the last list of a value and to no other, after its old elements.
+pub fn adds_to_one_list()
+    ensures { AddsToOneList }
+{}
+
+/// No element of a list of the value says one of them.
+pub fn new_are_unknown()
+    ensures { NewAreUnknown }
 {}
 
 /// The steps that change a value may be done one after another.

@@ -2,11 +2,12 @@
 
 ghost use Rattle.std.specs.Prelude.{◌≡◌, ◌==◌, filter, length, IfOk, Ok};
 ghost use Rattle.meson_splice.specs.Files.{bytes_at};
-ghost use Rattle.std.specs.List.{list_all};
+ghost use Rattle.std.specs.List.{filter_map, list_all};
 ghost use Rattle.meson_calls.specs.Notes.{note_view};
 ghost use Rattle.meson_calls.specs.Refusals.{RefusedAs};
-ghost use Rattle.meson_places.specs.Names.{beginning_at, first_around, leads_into, line_of, offset_of, place_on};
+ghost use Rattle.meson_places.specs.Names.{beginning_at, first_around, leads_into, line_of, offset_of, opens_on, place_on};
 
+use meson_calls::keeper::Opened;
 use meson_calls::note::{Note, What};
 use meson_calls::place::{child_place, copy_place, place_of};
 use meson_calls::{CallRef, Refusal};
@@ -81,6 +82,34 @@ pub(crate) fn place_on(
         return Ok(None);
     }
     Ok(Some(beginning_at(alloc, note)?))
+}
+
+/// The place of an array or a dictionary, if its bracket opens on this line of the source.
+fn opens_on(source: &[u8], line: usize, list: Opened) -> Option<CallRef>
+    ensures { result ≡ opens_on source.now line list }
+{
+    if line_of(source, list.at) != line {
+        return None;
+    }
+    Some(list.place)
+}
+
+/// The places of those arrays and dictionaries whose bracket opens on this line of the source.
+pub(crate) fn opened_on(
+    alloc: Global,
+    source: &[u8],
+    line: usize,
+    lists: Vec<Opened>,
+) -> Result<Vec<CallRef>, AllocError>
+    ensures { IfOk result (λ found. found.items ≡ filter_map (opens_on source.now line) lists.items) }
+{
+    let mut found = Vec::new(alloc);
+    for list in lists {
+        if let Some(place) = opens_on(source, line, list) {
+            found.push(place)?;
+        }
+    }
+    Ok(found)
 }
 
 /// Whether a path leads to what is at another path, or into it.

@@ -6,13 +6,14 @@ ghost use Rattle.meson_calls.specs.Loading.{AreParsed};
 ghost use Rattle.meson_calls.specs.Notes.{note_views};
 ghost use Rattle.meson_calls.specs.Refusals.{RefusedAs};
 ghost use Rattle.meson_calls.specs.Strings.{NotesGood};
-ghost use Rattle.meson_places.specs.Names.{file_of_folder, found_by_id, found_on, is_searched, loaded_in, numbered_file, places_by_id, places_on};
+ghost use Rattle.meson_places.specs.Names.{file_of_folder, first_list, found_by_id, found_on, is_searched, lists_on, loaded_in, numbered_file, places_by_id, places_on};
 ghost use Rattle.meson_places.specs.Names.{project_there, searched, searched_file, the_place};
 
-use crate::lines::{first_around, place_on};
+use crate::lines::{first_around, opened_on, place_on};
 use crate::name::Sources;
 use crate::naming::named_place;
 use meson_calls::chosen_notes::with_role;
+use meson_calls::lists::lists_of;
 use meson_calls::note::Note;
 use meson_calls::notes::notes_of;
 use meson_calls::{CallRef, Refusal, Role};
@@ -55,6 +56,24 @@ fn places_on(
         }
     }
     Ok(found)
+}
+
+/// The places of the arrays and dictionaries that open on this line of the file of this number.
+fn lists_on(
+    alloc: Global,
+    sources: Sources<'_>,
+    file: usize,
+    line: usize,
+) -> Result<Vec<CallRef>, AllocError>
+    requires { AreParsed sources.files.now sources.trees.now }
+    ensures { IfOk result (λ found. found.items ≡ lists_on (loaded_in sources.entry) file line) }
+{
+    if file >= sources.trees.len() {
+        return Ok(Vec::new(alloc));
+    }
+    let source = sources.files.bytes(file);
+    let lists = lists_of(alloc, file, source, &sources.trees[file])?;
+    opened_on(alloc, source, line, lists)
 }
 
 /// Whether places of a file are searched.
@@ -182,6 +201,16 @@ fn found_by_id(
     only_one(places)
 }
 
+/// The first of some lists.
+///
+/// # Errors
+/// There is no list.
+fn first_list(lists: Vec<CallRef>) -> Result<CallRef, Refusal>
+    ensures { result ≡ first_list lists.items }
+{
+    lists.into_iter().next().ok_or(Refusal::NotFound)
+}
+
 /// What begins on this line of the file of this number, if the file is searched.
 fn found_on(
     alloc: Global,
@@ -198,7 +227,11 @@ fn found_on(
     let notes = taken.all(alloc)?;
     let places = places_on(alloc, sources.files, file, line, notes.as_slice())?;
     let places = searched(alloc, within, places)?;
-    first_around(alloc, places.as_slice())
+    if !places.is_empty() {
+        return first_around(alloc, places.as_slice());
+    }
+    let lists = lists_on(alloc, sources, file, line)?;
+    first_list(searched(alloc, within, lists)?)
 }
 
 /// The one place that a search finds: that of a call, or that of the value of an assignment.

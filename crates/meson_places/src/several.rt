@@ -86,7 +86,7 @@ fn all_texts_given(values: &[Given]) -> bool
 }
 
 /// The edit that puts a value in the place of the i-th element of an array with this number of elements, or after all if it has no such element.
-fn put_at(many: usize, i: usize, new: Bytes) -> ListEdit
+pub(crate) fn put_at(many: usize, i: usize, new: Bytes) -> ListEdit
     ensures { (list : CallRef) (w : Written (Expression Nowhere)) → w.bytes ≡ new → bare (put_at list many i w) ≡ Some (record { list = list; edit = result }) }
 {
     if i < many {
@@ -137,7 +137,7 @@ fn put_all(
 }
 
 /// Whether the list at a place has room for each of some values.
-fn has_room_for_all(
+pub(crate) fn has_room_for_all(
     alloc: Global,
     sources: Sources<'_>,
     list: &CallRef,
@@ -157,12 +157,12 @@ fn has_room_for_all(
 
 /// A value that is there: the key that a refusal names, the source, and the value as that of an element of the list at a place.
 #[derive(Clone, Copy)]
-struct Held<'t> {
-    key: &'t Text,
-    source: &'t [u8],
-    list: &'t CallRef,
-    number: usize,
-    child: ChildValue<'t>,
+pub(crate) struct Held<'t> {
+    pub key: &'t Text,
+    pub source: &'t [u8],
+    pub list: &'t CallRef,
+    pub number: usize,
+    pub child: ChildValue<'t>,
 }
 
 /// Whether all values are texts, and not all elements of an array are.
@@ -287,7 +287,7 @@ fn set_all_there(
 ///
 /// # Errors
 /// The faults of `added_to`; the file would nest too deep; or out of memory.
-fn add_array(
+pub(crate) fn add_array(
     alloc: Global,
     sources: Sources<'_>,
     values: &[Given],

@@ -2,13 +2,20 @@
 
 ghost use Rattle.std.specs.Prelude.{◌≡◌, IfErr, IfOk};
 ghost use Rattle.meson_calls.specs.declared.refusal.Refusal.TheVariants.{OutOfMemory};
-ghost use Rattle.meson_places.specs.Values.{given_bytes};
+ghost use Rattle.meson_places.specs.Values.{given_bytes, switch_text};
 
 use meson_calls::Refusal;
 use meson_splice::{Bytes, Text};
 use meson_steps::given::Given;
 use meson_steps::literals::written_text;
 use std::alloc::Global;
+
+/// The word of a truth value.
+pub(crate) fn switch_text(yes: bool) -> &'static str
+    ensures { result.now ≡ switch_text yes }
+{
+    if yes { "true" } else { "false" }
+}
 
 /// The bytes that are written for a value.
 ///
@@ -21,7 +28,7 @@ pub fn given_bytes(alloc: Global, given: &Given) -> Result<Bytes, Refusal>
     match given {
         Given::Text(text) => written_text(alloc, text),
         Given::Switch(yes) => {
-            let word = if *yes { "true" } else { "false" };
+            let word = switch_text(*yes);
             Ok(Bytes::of(Vec::from_slice(alloc, word.as_bytes())?))
         }
         Given::Code(code) => Ok(Bytes::of(Vec::from_slice(alloc, code.get().as_bytes())?)),

@@ -7,7 +7,7 @@ use Rattle.meson_steps.specs.Meanings.{AreMeant}
 use Rattle.meson_places.specs.Changes.{added_keyword, keyword_behind}
 use Rattle.meson_places.specs.Values.{is_identifier}
 use Rattle.meson_places.proofs.Refused.{refused_as}
-use Rattle.meson_places.proofs.IdentifierTexts.{identifier_is}
+use Rattle.meson_steps.proofs.Identifiers.{identifier_is}
 use Rattle.meson_places.proofs.additions.keyword_steps.Goals as goal
 
 pub returns-then-not-is_identifier-clause-refused : goal.returns-then-not-is_identifier-clause-refused

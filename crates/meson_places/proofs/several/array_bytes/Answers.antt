@@ -1,7 +1,7 @@
 use Rattle.std.proofs.Common.{◌≡◌, ◌<◌, ◌++◌, get_or, length, map, sym, ap, ◌∙◌, arith}
 use Rattle.std.proofs.lemmas.List.{get_or-map, length-map}
 use Rattle.meson_places.specs.Values.{given_bytes}
-use Rattle.meson_places.proofs.Between.{first_behind, next_behind}
+use Rattle.meson_steps.proofs.Between.{first_behind, next_behind}
 use Rattle.meson_places.proofs.several.array_bytes.Goals as goal
 use Rattle.meson_places.proofs.several.array_bytes.Goals.{then-i-gt0+in_ok-extend_from_slice-2, else-i-gt0}
 
