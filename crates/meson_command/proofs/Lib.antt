@@ -3,6 +3,9 @@ pub mod NoHelp
 pub mod Json
 pub mod HelpAlone
 pub mod Taken
+pub mod ValuesMeant
 pub mod WordsInPairs
 pub mod Usages
 pub mod FitTexts
+pub mod LaterWords
+pub mod Entries

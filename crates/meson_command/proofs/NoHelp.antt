@@ -1,17 +1,18 @@
 -- No subcommand asks for help or the version.
 use Rattle.std.proofs.Common.{◌≡◌, ℕ, Bool, true, false, List, Option, Some, None, Result, Ok, Err, codes, refl, ap, subst}
-use Rattle.std.specs.Prelude.{◌||◌, ◌==◌, length, IfOk, bytes_eq, if◌then◌else◌, ok_or}
+use Rattle.std.specs.Prelude.{◌||◌, ◌==◌, length, IfOk, bytes_eq, if◌then◌else◌, is_some, ok_or}
 use Rattle.clap.specs.Words.{Row, Text, first_of}
 use Rattle.meson_calls.specs.declared.call.Role.{Role}
 use Rattle.meson_splice.specs.Patch.{then_ok}
 use Rattle.meson_command.specs.Actions.{action_of, count_in, kwargs_action, history_by, kwargs_by, has_flag, list_by, list_with, options_action, options_by, is_json, other_action, script_action, target_action, target_by, target_words, undo_of, unknown_members, word_at, words_at}
+use Rattle.meson_command.specs.Arguments.{action_within, argument_action, change_meant, value_named}
 use Rattle.meson_command.specs.Asking.{asked_from, is_dry, names_no_folder, texts_fit, title_in, with_texts, with_title, without_help_text, without_text}
 use Rattle.meson_command.specs.declared.asked.Action.{Action}
 use Rattle.meson_command.specs.declared.asked.Action.TheVariants as action
 use Rattle.meson_command.specs.declared.asked.Action.TheVariants.{Run, Info, ScriptText, ScriptFile, Undo, UndoTo, UndoChecked, Redo, History, ForgetOldest, ForgetAll, Sums, Help, Version}
 use Rattle.meson_command.specs.declared.asked.Asked.{Asked}
 use Rattle.meson_json.specs.Titles.{is_title}
-use Rattle.meson_json.specs.Operations.{kwargs_operation, role_of}
+use Rattle.meson_json.specs.Operations.{argument_operation, kwargs_operation, role_of}
 use Rattle.meson_json.specs.Counts.{count_of}
 use Rattle.meson_command.specs.Operations.{options_word}
 use Rattle.meson_command.specs.Pairs.{lone_names, pairs_of}
@@ -139,6 +140,18 @@ action-plain name rows =
     (either (bytes_eq name (codes "history")) _ _ (history-plain (first_of (codes "N") rows))
     (either (bytes_eq name (codes "list")) _ _ (list_with-plain (first_of (codes "FUNCTION") rows) (has_flag (codes "json") rows) (has_flag (codes "sums") rows)) (err Usage))))))))
 
+argument-plain : (folder : Option Text) (rows : List Row) → Answers IsPlain (argument_action folder rows)
+unfolding argument_action
+argument-plain folder rows =
+    after (ok_or (argument_operation (word_at (codes "OPERATION") rows)) Usage) _ (λ operation.
+    after (ok_or (value_named folder rows) Usage) _ (λ name.
+    after (change_meant operation (words_at (codes "VALUE") rows)) _ (λ change. ok _ tt)))
+
+within-plain : (folder : Option Text) (name : Text) (rows : List Row) → Answers IsPlain (action_within folder name rows)
+unfolding action_within
+within-plain folder name rows =
+    either (bytes_eq name (codes "arg")) _ _ (argument-plain folder rows) (either (is_some folder) _ _ (err Usage) (action-plain name rows))
+
 titled : (rows : List Row) (a : Action) → IsPlain a → Answers (λ x. IsPlain x.action) (with_title rows a)
 titled rows a plain = either (is_title (title_in rows)) _ _ (ok _ plain) (err BadTitle)
 
@@ -148,7 +161,7 @@ texted rows a plain = either (texts_fit a (first_of (codes "FILE") rows) (is_dry
 asked : (rows : List Row) (subcommand : Option (Text × List Row)) → Answers (λ a. IsPlain a.action) (asked_from rows subcommand)
 unfolding asked_from
 asked rows subcommand = after (ok_or subcommand Usage) _ (λ s. either (names_no_folder (first_of (codes "DIR") rows)) _ _ (err _)
-    (after_some IsPlain (action_of s.0 s.1) _ (action-plain s.0 s.1) (texted rows)))
+    (after_some IsPlain (action_within (first_of (codes "FOLDER") rows) s.0 s.1) _ (within-plain (first_of (codes "FOLDER") rows) s.0 s.1) (texted rows)))
 
 pub not_help : (rows : List Row) (subcommand : Option (Text × List Row)) (a : Asked) → asked_from rows subcommand ≡ Ok a → IsPlain a.action
 not_help rows subcommand a is = subst (λ r. IfOk r (λ x. IsPlain x.action)) is (asked rows subcommand).so

@@ -14,19 +14,27 @@ use Rattle.clap.specs.Words.{Row, Text, fault_of, first_of, matches_of, subcomma
 use Rattle.clap.specs.declared.error.kind.ErrorKind.TheVariants.{DisplayHelp, DisplayVersion}
 use Rattle.meson_calls.specs.declared.call.Role.{Role}
 use Rattle.meson_splice.specs.Patch.{then_ok}
-use Rattle.meson_command.specs.Actions.{action_of, count_in, history_by, kwargs_action, kwargs_by, list_by, list_with, listing_of, options_action, options_by, other_action, target_action, undo_of, word_at, words_at}
+use Rattle.meson_command.specs.Actions.{action_of, count_in, history_by, kwargs_action, kwargs_by, list_by, list_with, listing_of, options_action, options_by, other_action, run, target_action, undo_of, word_at, words_at}
+use Rattle.meson_command.specs.Arguments.{action_within, argument_action, change_meant, value_named, values_meant}
 use Rattle.meson_command.specs.Asking.{answer, asked_from, asked_of, help, is_dry, names_no_folder, texts_fit, title_in, version, with_texts, with_title}
 use Rattle.meson_json.specs.Counts.{count_of}
-use Rattle.meson_command.specs.Laws.{HelpWhereAsked, IsNoCount, IsUnknown, TextsAreMisused, UsageMeansUnknown, VersionWhereAsked}
+use Rattle.meson_command.specs.Laws.{FolderIsMisused, HelpWhereAsked, IsNoArgument, IsNoCount, IsUnknown, TextsAreMisused, UsageMeansUnknown, VersionWhereAsked}
 use Rattle.meson_json.specs.Titles.{is_title}
-use Rattle.meson_json.specs.Operations.{kwargs_operation, role_of}
+use Rattle.meson_json.specs.Arguments.{change_to, keys_in, place_named}
+use Rattle.meson_json.specs.Operations.{argument_operation, kwargs_operation, role_of}
+use Rattle.meson_json.specs.declared.names.ArgumentOperation.{ArgumentOperation}
+use Rattle.meson_steps.specs.declared.argument.PlaceName.{PlaceName}
+use Rattle.meson_steps.specs.declared.argument.ValueChange.{ValueChange}
+use Rattle.meson_steps.specs.declared.argument.ValueName.{ValueName}
+use Rattle.meson_steps.specs.declared.command.Command.TheVariants as commands
+use Rattle.meson_steps.specs.declared.given.Given.{Given}
 use Rattle.meson_command.specs.Operations.{operation_of_word, options_word}
 use Rattle.meson_command.specs.Pairs.{in_pairs, lone_names, pair_names, pairs_of, repeats}
-use Rattle.meson_command.specs.Program.{command, default_options, history, kwargs, list, program, redo, target, undo}
+use Rattle.meson_command.specs.Program.{argument, command, default_options, history, kwargs, list, program, redo, target, undo}
 use Rattle.meson_command.specs.declared.asked.Action.{Action}
 use Rattle.meson_command.specs.declared.asked.Asked.{Asked}
 use Rattle.meson_command.specs.declared.fault.UsageFault.{UsageFault}
-use Rattle.meson_command.specs.declared.fault.UsageFault.TheVariants.{Usage, OddWords, RepeatedKey, BadTitle}
+use Rattle.meson_command.specs.declared.fault.UsageFault.TheVariants.{Usage, OddWords, RepeatedKey, BadTitle, NotCode}
 use Rattle.meson_command.specs.declared.asked.Action.TheVariants.{ForgetAll, ForgetOldest}
 use Rattle.meson_json.specs.declared.names.KwargsOperation.{KwargsOperation}
 use Rattle.meson_json.specs.declared.names.KwargsOperation.TheVariants as of_kwargs
@@ -81,12 +89,12 @@ level-some s pair_names h words has below needs e =
 
 -- where clap takes the words, there is a subcommand
 entered_one : (words : List Text) → fault_of program words ≡ [] → is_some (subcommand_of program words) ≡ true
-unfolding program target kwargs default_options command undo redo history list
+unfolding program target kwargs argument default_options command undo redo history list
 entered_one words e =
     let stop = (walk (built program).top.rules (names_of (built program)) nothing_held (argument_words program words)).stopped in
     level-some (built program).top (names_of (built program)) nothing_held (argument_words program words) (is_some (entered (built program) stop)) (entered_fault (built program) stop) refl e
 
--- ---- it is one of the eight
+-- ---- it is one of the nine
 
 or_true : (b : Bool) → (b || true) ≡ true
 or_true true = refl
@@ -108,12 +116,15 @@ entered-name : (a : App) (stop : Option (Text × List Text)) (name : Text) (rows
 entered-name a None name rows e = cc
 entered-name a (Some p) name rows e = found-name (λ s. answers_to p.0 (label_of s)) a.subs p.1 name rows e
 
+abbrev is_other : Text → Bool
+is_other name = bytes_eq name (codes "default-options") || (bytes_eq name (codes "command") || (bytes_eq name (codes "undo")
+    || (bytes_eq name (codes "redo") || (bytes_eq name (codes "history") || (bytes_eq name (codes "list") || false)))))
+
 abbrev is_known : Text → Bool
-is_known name = bytes_eq name (codes "target") || (bytes_eq name (codes "kwargs") || (bytes_eq name (codes "default-options")
-    || (bytes_eq name (codes "command") || (bytes_eq name (codes "undo") || (bytes_eq name (codes "redo") || (bytes_eq name (codes "history") || (bytes_eq name (codes "list") || false)))))))
+is_known name = bytes_eq name (codes "target") || (bytes_eq name (codes "kwargs") || (bytes_eq name (codes "arg") || is_other name))
 
 known : (words : List Text) (name : Text) (rows : List Row) → subcommand_of program words ≡ Some (name, rows) → is_known name ≡ true
-unfolding program target kwargs default_options command undo redo history list
+unfolding program target kwargs argument default_options command undo redo history list
 known words name rows e =
     entered-name (built program) (walk (built program).top.rules (names_of (built program)) nothing_held (argument_words program words)).stopped name rows e
 
@@ -245,7 +256,9 @@ by_name false x y rest e k h n = n e k
 named : (name x : Text) → bytes_eq name x ≡ true → name ≡ x
 named name x e = (bytes_eq-Decides name x).0 e
 
-unknown : (name : Text) (rows : List Row) → is_known name ≡ true → action_of name rows ≡ Err Usage → IsUnknown name rows
+-- of another subcommand than `arg`
+unknown : (name : Text) (rows : List Row) → (bytes_eq name (codes "target") || (bytes_eq name (codes "kwargs") || is_other name)) ≡ true
+    → action_of name rows ≡ Err Usage → IsUnknown name rows
 unfolding action_of other_action
 unknown name rows k e =
     by_name (bytes_eq name (codes "target")) _ _ _ e k (λ b x. inl (named _ _ b, target-unknown rows x)) (λ e k.
@@ -255,13 +268,83 @@ unknown name rows k e =
     by_name (bytes_eq name (codes "undo")) _ _ _ e k (λ b x. inr (inr (inr (inl (named _ _ b, undo-unknown _ (first_of (codes "FILE") rows) x))))) (λ e k.
     by_name (bytes_eq name (codes "redo")) _ _ _ e k (λ b x. cc) (λ e k.
     by_name (bytes_eq name (codes "history")) _ _ _ e k (λ b x. inr (inr (inr (inr (inl (named _ _ b, history-unknown _ x)))))) (λ e k.
-    by_name (bytes_eq name (codes "list")) _ _ _ e k (λ b x. inr (inr (inr (inr (inr (named _ _ b, list-unknown _ _ _ x)))))) (λ e k. cc))))))))
+    by_name (bytes_eq name (codes "list")) _ _ _ e k (λ b x. inr (inr (inr (inr (inr (inl (named _ _ b, list-unknown _ _ _ x))))))) (λ e k. cc))))))))
+
+-- ---- which of the words of `arg` is unknown
+
+-- the number of values is wrong, as each of them is code or another word
+other-values : (o : ArgumentOperation) (vs : Option (List Given)) → then_ok (ok_or vs NotCode) (λ values. ok_or (change_to o values) Usage) ≡ Err Usage
+    → (values : List Given) × (vs ≡ Some values) × (change_to o values ≡ None)
+other-values o None e = cc
+other-values o (Some values) e = (values, refl, of_values (change_to o values) e)
+  where
+    of_values : (c : Option ValueChange) → ok_or c Usage ≡ Err Usage → c ≡ None
+    of_values None e = refl
+    of_values (Some change) e = cc
+
+after_change : (r : Result ValueChange UsageFault) (f : ValueChange → Action) → then_ok r (λ c. Ok (f c)) ≡ Err Usage → r ≡ Err Usage
+after_change (Ok c) f e = cc
+after_change (Err fault) f e = let at : fault ≡ Usage = cc in ap (λ (u : UsageFault). Err u) at
+
+abbrev named_in : Option Text → Text → Option PlaceName → Option ValueName
+named_in folder key o = option_map (λ name. record { place = record { name = name; folder = folder }; keys = keys_in key }) o
+
+no_place : (o : Option PlaceName) (folder : Option Text) (key : Text) → named_in folder key o ≡ None → o ≡ None
+no_place None folder key e = refl
+no_place (Some name) folder key e = cc
+
+argument-unknown : (folder : Option Text) (rows : List Row) → argument_action folder rows ≡ Err Usage → IsNoArgument rows
+unfolding argument_action
+argument-unknown folder rows e = by_operation (argument_operation (word_at (codes "OPERATION") rows)) refl e
+  where
+    by_name_of : (o : ArgumentOperation) → argument_operation (word_at (codes "OPERATION") rows) ≡ Some o → (n : Option ValueName) → value_named folder rows ≡ n
+        → then_ok (ok_or n Usage) (λ name. then_ok (change_meant o (words_at (codes "VALUE") rows)) (λ change. Ok (run (commands.Argument name change)))) ≡ Err Usage
+        → IsNoArgument rows
+    by_name_of o of None is e = inr (inl (no_place (place_named (word_at (codes "FUNCTION") rows) (word_at (codes "ID") rows)) folder (word_at (codes "KEY") rows) is))
+    by_name_of o of (Some name) is e =
+        let changed = after_change (change_meant o (words_at (codes "VALUE") rows)) (λ change. run (commands.Argument name change)) e in
+        let given = other-values o (values_meant (words_at (codes "VALUE") rows)) changed in
+        inr (inr (o, given.0, of, given.1, given.2))
+
+    by_operation : (o : Option ArgumentOperation) → argument_operation (word_at (codes "OPERATION") rows) ≡ o
+        → then_ok (ok_or o Usage) (λ operation.
+        then_ok (ok_or (value_named folder rows) Usage) (λ name.
+        then_ok (change_meant operation (words_at (codes "VALUE") rows)) (λ change. Ok (run (commands.Argument name change))))) ≡ Err Usage
+        → IsNoArgument rows
+    by_operation None of e = inl of
+    by_operation (Some o) of e = by_name_of o of (value_named folder rows) refl e
+
+-- ---- in the folder that is named
+
+without : (t k a rest : Bool) → a ≡ false → (t || (k || (a || rest))) ≡ true → (t || (k || rest)) ≡ true
+without true k a rest is h = refl
+without false true a rest is h = refl
+without false false true rest is h = cc
+without false false false rest is h = h
+
+abbrev WrongWithin : Option Text → Text → List Row → Type 0
+WrongWithin folder name rows = IsUnknown name rows ⊎ ((is_some folder ≡ true) × (name ≢ codes "arg"))
+
+by_place : (folder : Option Text) (name : Text) (rows : List Row) → bytes_eq name (codes "arg") ≡ false → is_known name ≡ true → (b : Bool) → is_some folder ≡ b
+    → (if b then Err Usage else action_of name rows) ≡ Err Usage → WrongWithin folder name rows
+by_place folder name rows other k true is e = inr (is, another name (codes "arg") other)
+by_place folder name rows other k false is e =
+    inl (unknown name rows (without (bytes_eq name (codes "target")) (bytes_eq name (codes "kwargs")) (bytes_eq name (codes "arg")) (is_other name) other k) e)
+
+by_subcommand : (folder : Option Text) (name : Text) (rows : List Row) → is_known name ≡ true → (b : Bool) → bytes_eq name (codes "arg") ≡ b
+    → (if b then argument_action folder rows else (if is_some folder then Err Usage else action_of name rows)) ≡ Err Usage → WrongWithin folder name rows
+by_subcommand folder name rows k true is e = inl (inr (inr (inr (inr (inr (inr (named _ _ is, argument-unknown folder rows e)))))))
+by_subcommand folder name rows k false is e = by_place folder name rows is k (is_some folder) refl e
+
+within : (folder : Option Text) (name : Text) (rows : List Row) → is_known name ≡ true → action_within folder name rows ≡ Err Usage → WrongWithin folder name rows
+unfolding action_within
+within folder name rows k e = by_subcommand folder name rows k (bytes_eq name (codes "arg")) refl e
 
 -- ---- wrong usage
 
 abbrev Wrong : List Row → Option (Text × List Row) → Type 0
 Wrong rows sub = (names_no_folder (first_of (codes "DIR") rows) ≡ true)
-    ⊎ ((name : Text) × (inner : List Row) × (sub ≡ Some (name, inner)) × ((action_of name inner ≡ Err Usage) ⊎ TextsAreMisused rows name inner))
+    ⊎ ((name : Text) × (inner : List Row) × (sub ≡ Some (name, inner)) × ((action_within (first_of (codes "FOLDER") rows) name inner ≡ Err Usage) ⊎ TextsAreMisused rows name inner))
 
 abbrev wrong : Result Asked UsageFault
 wrong = Err Usage
@@ -276,25 +359,34 @@ by_texts : (rows : List Row) (a : Action) (b : Bool) → texts_fit a (first_of (
 by_texts rows a true is e = absurd (by_title _ (is_title (title_in rows)) e)
 by_texts rows a false is e = is
 
-not_done : (rows : List Row) (name : Text) (inner : List Row) (r : Result Action UsageFault) → action_of name inner ≡ r → then_ok r (with_texts rows) ≡ wrong
-    → (action_of name inner ≡ Err Usage) ⊎ TextsAreMisused rows name inner
+not_done : (rows : List Row) (name : Text) (inner : List Row) (r : Result Action UsageFault) → action_within (first_of (codes "FOLDER") rows) name inner ≡ r → then_ok r (with_texts rows) ≡ wrong
+    → (action_within (first_of (codes "FOLDER") rows) name inner ≡ Err Usage) ⊎ TextsAreMisused rows name inner
 not_done rows name inner (Ok a) is e = inr (a, is, by_texts rows a (texts_fit a (first_of (codes "FILE") rows) (is_dry rows)) refl e)
 not_done rows name inner (Err fault) is e = inl (let at : fault ≡ Usage = cc in is ∙ ap (λ (u : UsageFault). Err u) at)
 
 by_folder : (rows : List Row) (s : Text × List Row) (b : Bool) → names_no_folder (first_of (codes "DIR") rows) ≡ b
-    → (if b then Err Usage else then_ok (action_of s.0 s.1) (with_texts rows)) ≡ wrong → Wrong rows (Some s)
+    → (if b then Err Usage else then_ok (action_within (first_of (codes "FOLDER") rows) s.0 s.1) (with_texts rows)) ≡ wrong → Wrong rows (Some s)
 by_folder rows s true is e = inl is
-by_folder rows s false is e = inr (s.0, s.1, refl, not_done rows s.0 s.1 (action_of s.0 s.1) refl e)
+by_folder rows s false is e = inr (s.0, s.1, refl, not_done rows s.0 s.1 (action_within (first_of (codes "FOLDER") rows) s.0 s.1) refl e)
 
 split : (rows : List Row) (sub : Option (Text × List Row)) → is_some sub ≡ true → asked_from rows sub ≡ Err Usage → Wrong rows sub
 unfolding asked_from
 split rows None has e = cc
 split rows (Some s) has e = by_folder rows s (names_no_folder (first_of (codes "DIR") rows)) refl e
 
+bad_usage : (words : List Text) (name : Text) (rows : List Row) → subcommand_of program words ≡ Some (name, rows)
+    → action_within (first_of (codes "FOLDER") (matches_of program words)) name rows ≡ Err Usage
+    → IsUnknown name rows ⊎ (FolderIsMisused (matches_of program words) name ⊎ TextsAreMisused (matches_of program words) name rows)
+bad_usage words name rows is bad =
+    elim (within (first_of (codes "FOLDER") (matches_of program words)) name rows (known words name rows is) bad) [
+      | inl wrong ↦ inl wrong
+      | inr folder ↦ inr (inl folder)
+    ]
+
 pub usage-law : UsageMeansUnknown
 usage-law words none e =
     let asked : asked_of words ≡ Err Usage = sym (as_taken (fault_of program words) (asked_of words) none) ∙ e in
     elim (split (matches_of program words) (subcommand_of program words) (entered_one words none) asked) [
       | inl folder ↦ inl folder
-      | inr u ↦ inr (u.0, u.1, u.2, elim u.3 [ inl bad ↦ inl (unknown u.0 u.1 (known words u.0 u.1 u.2) bad) | inr misused ↦ inr misused ])
+      | inr u ↦ inr (u.0, u.1, u.2, elim u.3 [ inl bad ↦ bad_usage words u.0 u.1 u.2 bad | inr misused ↦ inr (inr misused) ])
     ]

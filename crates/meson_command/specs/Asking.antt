@@ -6,7 +6,8 @@ use Rattle.clap.specs.declared.error.kind.ErrorKind.{ErrorKind}
 use Rattle.clap.specs.declared.error.kind.ErrorKind.TheVariants.{DisplayHelp, DisplayVersion}
 use Rattle.meson_splice.specs.Patch.{then_ok}
 use Rattle.meson_json.specs.Titles.{is_title}
-use Rattle.meson_command.specs.Actions.{action_of, has_flag, word_at}
+use Rattle.meson_command.specs.Actions.{has_flag, word_at}
+use Rattle.meson_command.specs.Arguments.{action_within}
 use Rattle.meson_command.specs.Program.{program}
 use Rattle.meson_command.specs.declared.asked.Action.{Action}
 use Rattle.meson_command.specs.declared.asked.Action.TheVariants as action
@@ -97,7 +98,7 @@ unfoldable pub asked_from : List Row → Option (Text × List Row) → Result As
 asked_from rows subcommand =
     then_ok (ok_or subcommand Usage) (λ s.
     if names_no_folder (first_of (codes "DIR") rows) then Err Usage else
-    then_ok (action_of s.0 s.1) (with_texts rows))
+    then_ok (action_within (first_of (codes "FOLDER") rows) s.0 s.1) (with_texts rows))
 
 -- if clap takes the words, of which the first is the program's name
 abbrev pub asked_of : List Text → Result Asked UsageFault

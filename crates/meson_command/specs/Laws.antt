@@ -3,9 +3,13 @@ use Rattle.std.specs.Prelude.{◌≡◌, ◌≢◌, ◌↔◌, ◌⊎◌, ◌||�
 use Rattle.std.specs.List.{AllPairs}
 use Rattle.clap.specs.Words.{Row, Text, fault_of, first_of, matches_of, subcommand_of}
 use Rattle.clap.specs.declared.error.kind.ErrorKind.TheVariants.{DisplayHelp, DisplayVersion}
-use Rattle.meson_command.specs.Actions.{action_of, has_flag, options_by, word_at}
+use Rattle.meson_command.specs.Actions.{has_flag, options_by, word_at, words_at}
+use Rattle.meson_command.specs.Arguments.{action_within, values_meant}
 use Rattle.meson_command.specs.Asking.{asked_by, help, is_dry, names_no_folder, only_asks, only_shows, texts_fit, version, wants_json}
-use Rattle.meson_json.specs.Operations.{kwargs_operation, role_of}
+use Rattle.meson_json.specs.Arguments.{change_to, place_named}
+use Rattle.meson_json.specs.Operations.{argument_operation, kwargs_operation, role_of}
+use Rattle.meson_json.specs.declared.names.ArgumentOperation.{ArgumentOperation}
+use Rattle.meson_steps.specs.declared.given.Given.{Given}
 use Rattle.meson_json.specs.Counts.{count_of}
 use Rattle.meson_command.specs.Operations.{operation_of_word, options_word}
 use Rattle.meson_command.specs.Pairs.{pair_names, pairs_of}
@@ -64,7 +68,19 @@ AsksForTwo rows = (has_flag (codes "sums") rows ≡ true) × ((has_flag (codes "
 abbrev pub NamesNoFunction : List Row → Type 0
 NamesNoFunction rows = first_of (codes "FUNCTION") rows ≡ Some []
 
--- the subcommand's operation, function or number is not valid, or two listings are requested or one of a function without a name
+-- the values of `arg` are not as many as its operation takes
+abbrev pub HasOtherValues : List Row → Type 0
+HasOtherValues rows =
+    (operation : ArgumentOperation) × (values : List Given) × (argument_operation (word_at (codes "OPERATION") rows) ≡ Some operation)
+    × (values_meant (words_at (codes "VALUE") rows) ≡ Some values) × (change_to operation values ≡ None)
+
+-- the operation of `arg` is unknown, its function and id name no place, or its values are not as many as it takes
+abbrev pub IsNoArgument : List Row → Type 0
+IsNoArgument rows =
+    (argument_operation (word_at (codes "OPERATION") rows) ≡ None)
+    ⊎ ((place_named (word_at (codes "FUNCTION") rows) (word_at (codes "ID") rows) ≡ None) ⊎ HasOtherValues rows)
+
+-- the subcommand's operation, function, id or number is not valid, the values of `arg` are not as many as it takes, or two listings are requested or one of a function without a name
 abbrev pub IsUnknown : Text → List Row → Type 0
 IsUnknown subcommand rows =
     ((subcommand ≡ codes "target") × (operation_of_word (word_at (codes "OPERATION") rows) ≡ None))
@@ -72,17 +88,22 @@ IsUnknown subcommand rows =
     ⊎ (((subcommand ≡ codes "default-options") × (options_word (word_at (codes "OPERATION") rows) ≡ None))
     ⊎ (((subcommand ≡ codes "undo") × ((word : Text) × IsNoCount (first_of (codes "N") rows) word))
     ⊎ (((subcommand ≡ codes "history") × ((word : Text) × (word ≢ codes "all") × IsNoCount (first_of (codes "N") rows) word))
-    ⊎ ((subcommand ≡ codes "list") × (AsksForTwo rows ⊎ NamesNoFunction rows))))))
+    ⊎ (((subcommand ≡ codes "list") × (AsksForTwo rows ⊎ NamesNoFunction rows))
+    ⊎ ((subcommand ≡ codes "arg") × IsNoArgument rows))))))
+
+-- a folder is named for another subcommand than `arg`
+abbrev pub FolderIsMisused : List Row → Text → Type 0
+FolderIsMisused own subcommand = (is_some (first_of (codes "FOLDER") own) ≡ true) × (subcommand ≢ codes "arg")
 
 -- a file of texts is named for an action that writes, or standard input would be read twice
 abbrev pub TextsAreMisused : List Row → Text → List Row → Type 0
 TextsAreMisused own subcommand rows =
-    (asked : Action) × (action_of subcommand rows ≡ Ok asked) × (texts_fit asked (first_of (codes "FILE") own) (is_dry own) ≡ false)
+    (asked : Action) × (action_within (first_of (codes "FOLDER") own) subcommand rows ≡ Ok asked) × (texts_fit asked (first_of (codes "FILE") own) (is_dry own) ≡ false)
 
--- if clap takes the words and the usage is wrong: the folder is empty, a word is unknown or not a number, two listings are requested or one of a
--- function without a name, or texts do not fit
+-- if clap takes the words and the usage is wrong: the folder is empty, a word is unknown or not a number, `arg` has no place or other values, two
+-- listings are requested or one of a function without a name, or a folder or texts do not fit
 abbrev pub UsageMeansUnknown : Type 0
 UsageMeansUnknown = (words : List Text) → fault_of program words ≡ [] → asked_by words ≡ Err Usage
     → (names_no_folder (first_of (codes "DIR") (matches_of program words)) ≡ true)
     ⊎ ((name : Text) × (rows : List Row) × (subcommand_of program words ≡ Some (name, rows))
-    × (IsUnknown name rows ⊎ TextsAreMisused (matches_of program words) name rows))
+    × (IsUnknown name rows ⊎ (FolderIsMisused (matches_of program words) name ⊎ TextsAreMisused (matches_of program words) name rows)))

@@ -2,7 +2,9 @@ pub mod Program
 pub mod Operations
 pub mod Pairs
 pub mod Actions
+pub mod Arguments
 pub mod Asking
+pub mod Entries
 pub mod Rows
 pub mod Messages
 pub mod Laws

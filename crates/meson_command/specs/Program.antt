@@ -10,6 +10,10 @@ use Rattle.clap.specs.declared.builder.command.Command.TheViews.{out-Command}
 abbrev pub required_word : Text → Rule
 required_word id = record (new_rule id) { required = true; action = Some action.Set }
 
+-- a required word after which no word is an option
+abbrev pub ending_word : Text → Rule
+ending_word id = record (required_word id) { trailing_var_arg = true }
+
 -- any number of words
 abbrev pub many : Text → Rule
 many id = record (new_rule id) { action = Some action.Append }
@@ -55,6 +59,11 @@ unfoldable pub kwargs : App
 kwargs = of_words (new_app (codes "kwargs")) (required_word (codes "OPERATION") ∷ required_word (codes "FUNCTION") ∷ required_word (codes "ID")
     ∷ many (codes "KEY VALUE") ∷ help ∷ [])
 
+-- arg OPERATION FUNCTION ID KEY [VALUE]...
+unfoldable pub argument : App
+argument = of_words (new_app (codes "arg")) (required_word (codes "OPERATION") ∷ ending_word (codes "FUNCTION") ∷ required_word (codes "ID")
+    ∷ required_word (codes "KEY") ∷ many (codes "VALUE") ∷ help ∷ [])
+
 -- default-options OPERATION [OPTION VALUE]...
 unfoldable pub default_options : App
 default_options =
@@ -86,18 +95,18 @@ bare_command name = record (new_app name) {
   top = record (new_app name).top { subcommand_required = true; disable_help_flag = true; disable_help_subcommand = true };
 }
 
--- meson_rewrite [-s|--sourcedir DIR] [--title TEXT] [--dry-run] [--json] [--explain] [--exit-code] [--no-log] [--texts FILE] [-V|--verbose]; `V` is 86, and
--- nothing reads whether it is there
+-- meson_rewrite [-s|--sourcedir DIR] [--in FOLDER] [--title TEXT] [--dry-run] [--json] [--explain] [--exit-code] [--no-log] [--texts FILE] [-V|--verbose];
+-- `V` is 86, and nothing reads whether it is there
 abbrev pub own_words : App
 own_words =
-    fold with_rule (bare_command (codes "meson_rewrite")) (short_option (codes "DIR") (codes "sourcedir") 115 ∷ option (codes "TEXT") (codes "title")
-    ∷ flag (codes "dry-run") (codes "dry-run") ∷ flag (codes "json") (codes "json") ∷ flag (codes "explain") (codes "explain")
+    fold with_rule (bare_command (codes "meson_rewrite")) (short_option (codes "DIR") (codes "sourcedir") 115 ∷ option (codes "FOLDER") (codes "in")
+    ∷ option (codes "TEXT") (codes "title") ∷ flag (codes "dry-run") (codes "dry-run") ∷ flag (codes "json") (codes "json") ∷ flag (codes "explain") (codes "explain")
     ∷ flag (codes "exit-code") (codes "exit-code") ∷ flag (codes "no-log") (codes "no-log")
     ∷ option (codes "FILE") (codes "texts") ∷ short_flag (codes "verbose") (codes "verbose") 86 ∷ help ∷ version ∷ [])
 
 -- meson_rewrite [OPTION]... SUBCOMMAND
 unfoldable pub program : App
-program = fold (λ a s. with_subcommand a s.top) own_words (target ∷ kwargs ∷ default_options ∷ command ∷ undo ∷ redo ∷ history ∷ list ∷ [])
+program = fold (λ a s. with_subcommand a s.top) own_words (target ∷ kwargs ∷ argument ∷ default_options ∷ command ∷ undo ∷ redo ∷ history ∷ list ∷ [])
 
 -- this is declared to clap, and no word counts for all subcommands at once
 abbrev pub IsToldToClap : App → Command → Type 0

@@ -4,10 +4,12 @@ ghost use Rattle.std.specs.Prelude.{◌≡◌, ◌≢◌, [], Err, IfErr, IfOk, 
 ghost use Rattle.clap.specs.Words.{Row, Text as Word, found_of, rows_of, subcommand_rows_of, takes};
 ghost use Rattle.meson_json.specs.Titles.{is_title};
 ghost use Rattle.meson_command.specs.Actions.{action_of, other_action};
+ghost use Rattle.meson_command.specs.Arguments.{action_within};
 ghost use Rattle.meson_command.specs.Asking.{asked_by, asked_from, asked_of, flags_in, names_no_folder, no_flags, only_asks, reads_input, takes_texts, texts_fit, wants_json, without_text};
 ghost use Rattle.meson_command.specs.Program.{program};
 ghost use Rattle.meson_command.specs.declared.fault.UsageFault.TheVariants.{BadTitle, OutOfMemory, Usage};
 
+use crate::argument::argument_action;
 use crate::fault::UsageFault;
 use crate::history::{history_action, list_action, undo_action};
 use crate::kwargs::kwargs_action;
@@ -137,6 +139,27 @@ fn action_of(
     }
 }
 
+/// The request of a subcommand's words, in the folder that is named before it; only `arg` has one.
+#[tactic(auto, unfolding(crate::specs::Arguments::action_within))]
+fn action_within(
+    alloc: Global,
+    folder: Option<&str>,
+    subcommand: &str,
+    matches: &ArgMatches<'_>,
+) -> Result<Action, UsageFault>
+    ensures ok { IfOk result (λ a. action_within (option_map (λ w. w.now) folder.entry) subcommand.now (rows_of (found_of matches.now)) ≡ Ok a) }
+    ensures refused { IfErr result (λ e. e ≢ OutOfMemory
+        → action_within (option_map (λ w. w.now) folder.entry) subcommand.now (rows_of (found_of matches.now)) ≡ Err e) }
+{
+    if subcommand == "arg" {
+        argument_action(alloc, folder, matches)
+    } else if folder.is_some() {
+        Err(UsageFault::Usage)
+    } else {
+        action_of(alloc, subcommand, matches)
+    }
+}
+
 /// The folder that is named, if any.
 fn folder(alloc: Global, dir: Option<&str>) -> Result<Option<Text>, UsageFault>
     ensures ok { IfOk result (λ d. (names_no_folder (option_map (λ w. w.now) dir.entry) ≡ false) × (d ≡ option_map (λ w. w.now) dir.entry)) }
@@ -235,7 +258,7 @@ fn asked_from(alloc: Global, matches: &ArgMatches<'_>) -> Result<Asked, UsageFau
         return Err(UsageFault::Usage);
     };
     let dir = folder(alloc, matches.get_str("DIR"))?;
-    let action = action_of(alloc, subcommand, words)?;
+    let action = action_within(alloc, matches.get_str("FOLDER"), subcommand, words)?;
     let flags = flags_in(matches);
     let texts = texts_for(alloc, &action, matches.get_str("FILE"), flags.dry_run)?;
     let word = word_or(matches, "TEXT", "");
@@ -270,12 +293,13 @@ fn shown(alloc: Global, action: Action) -> Asked
 }
 
 /// The request of the words of a command line, of which the first is the program's name. They are those of the Rewriter page of the Meson manual; `undo`,
-/// `redo`, `history`, `list`, `unset`, `--title`, `--dry-run`, `--json`, `--explain`, `--exit-code`, `--no-log`, `--texts`, `--strict`, `--subdir` and
-/// `--type` are this program's own. Values, ids and names are passed on as given.
+/// `redo`, `history`, `list`, `unset`, `--title`, `--dry-run`, `--json`, `--explain`, `--exit-code`, `--no-log`, `--texts`, `--strict`, `--subdir`,
+/// `--type`, `arg` and `--in` are this program's own. Values, ids and names are passed on as given.
 ///
 /// # Errors
-/// The first of these faults, in this order. A word is missing, unknown or one too many, a number is not valid, two listings are requested or one of a function
-/// without a name, or the folder is empty. In words that are names with values, the last name has no value. A name is repeated. The operation is not done here.
+/// The first of these faults, in this order. A word is missing, unknown or one too many, a number or a place is not valid, two listings are requested or one of
+/// a function without a name, the folder is empty, or `--in` goes with another subcommand than `arg`. In words that are names with values, the last name has no
+/// value. A name is repeated. The operation is not done here. A value of `arg` is not code. Its values are more or fewer than its operation takes.
 /// Texts are named for what writes, or standard input would be read twice. The title is not valid. And out of memory, at any time.
 pub fn command_of(alloc: Global, words: &[String]) -> Result<Asked, UsageFault>
     ensures ok { IfOk result (λ a. asked_by (map string_bytes words.now) ≡ Ok (without_text a)) }

@@ -31,6 +31,13 @@ pub(crate) const FUNCTIONS: Choice = Choice {
     words: &["project", "target", "dependency"],
 };
 
+/// The operations of `arg`.
+pub(crate) const ARGUMENT_OPERATIONS: Choice = Choice {
+    of: "arg",
+    what: "operations",
+    words: &["set", "add", "delete"],
+};
+
 /// The operations of `default-options`.
 pub(crate) const OPTIONS_OPERATIONS: Choice = Choice {
     of: "default-options",

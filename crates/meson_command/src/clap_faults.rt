@@ -1,6 +1,8 @@
 //! What explains words that clap does not take.
 
-use crate::choices::{FUNCTIONS, KWARGS_OPERATIONS, OPTIONS_OPERATIONS, TARGET_OPERATIONS};
+use crate::choices::{
+    ARGUMENT_OPERATIONS, FUNCTIONS, KWARGS_OPERATIONS, OPTIONS_OPERATIONS, TARGET_OPERATIONS,
+};
 use crate::subcommands::{SUBCOMMANDS, Subcommand};
 use clap::Error;
 use clap::error::ErrorKind;
@@ -14,6 +16,7 @@ fn value_of(option: &str) -> Option<&'static str> {
         "--sourcedir" | "-s" => Some(" DIR"),
         "--title" => Some(" TEXT"),
         "--texts" => Some(" FILE"),
+        "--in" => Some(" FOLDER"),
         "--dry-run" | "--json" | "--explain" | "--exit-code" | "--no-log" => Some(""),
         "--verbose" | "-V" => Some(""),
         _ => None,
@@ -162,6 +165,11 @@ fn help_subcommand(alloc: Global, remarks: &mut Remarks, word: &str) -> Result<(
             "for keyword arguments: meson_rewrite kwargs {word} FUNCTION ID .."
         )?)?;
     }
+    if ARGUMENT_OPERATIONS.has(word) {
+        remarks.help(format!(in alloc;
+            "for any value: meson_rewrite arg {word} FUNCTION ID KEY .."
+        )?)?;
+    }
     if OPTIONS_OPERATIONS.has(word) {
         remarks.help(format!(in alloc;
             "for default options: meson_rewrite default-options {word} .."
@@ -187,6 +195,13 @@ fn help_missing(
             KWARGS_OPERATIONS.list(alloc, remarks)?;
             FUNCTIONS.list(alloc, remarks)?;
             remarks.help_words(alloc, "the id of the project is /")
+        }
+        Some(Subcommand::Argument) => {
+            ARGUMENT_OPERATIONS.list(alloc, remarks)?;
+            remarks.help_words(
+                alloc,
+                "KEY is a keyword, a number from 0 or the text of an entry; . is the place itself",
+            )
         }
         Some(Subcommand::DefaultOptions) => OPTIONS_OPERATIONS.list(alloc, remarks),
         _ => Ok(()),

@@ -1,15 +1,16 @@
 //! Why words are refused.
 
 use meson_json::ScriptFault;
-use std::alloc::AllocError;
+use meson_steps::value_fault::ValueFault;
+use std::alloc::{AllocError, AllocFailed};
 use std::error::Error;
 use std::fmt;
 
 /// Why the words of a command line are refused.
 #[derive(Debug, Drop)]
 pub enum UsageFault {
-    /// A word is missing, one too many or unknown, a number is not valid, two listings are requested, the folder or the function is empty, or texts do not fit
-    /// the request.
+    /// A word is missing, one too many or unknown, a number or a place is not valid, two listings are requested, the folder or the function is empty, or a folder
+    /// or texts do not fit the request.
     Usage,
     /// The last name has no value.
     OddWords,
@@ -19,6 +20,8 @@ pub enum UsageFault {
     Unsupported,
     /// The text is not a valid title.
     BadTitle,
+    /// The text after a colon is not one expression.
+    NotCode,
     /// An allocation failed.
     OutOfMemory,
 }
@@ -36,6 +39,7 @@ impl fmt::Display for UsageFault {
             UsageFault::RepeatedKey => f.write_str("U3 repeated key"),
             UsageFault::Unsupported => f.write_str("U4 unsupported"),
             UsageFault::BadTitle => f.write_str("U6 bad title"),
+            UsageFault::NotCode => f.write_str("U7 not code"),
             UsageFault::OutOfMemory => f.write_str("out of memory"),
         }
     }
@@ -54,6 +58,17 @@ impl From<AllocError> for UsageFault {
     }
 }
 
+impl<T: Drop> From<AllocFailed<T>> for UsageFault {
+    ghost use Rattle.std.specs.Prelude.{◌≡◌};
+    ghost use Rattle.meson_command.specs.declared.fault.UsageFault.TheVariants.{OutOfMemory};
+
+    ghost from_gives = { λ _ e. e ≡ OutOfMemory };
+
+    fn from(_: AllocFailed<T>) -> UsageFault {
+        UsageFault::OutOfMemory
+    }
+}
+
 // A script from the words of a command line is refused only when out of memory. Any other fault would be one of the words.
 impl From<ScriptFault> for UsageFault {
     ghost use Rattle.std.specs.Prelude.{◌≡◌, ◌↔◌};
@@ -66,6 +81,20 @@ impl From<ScriptFault> for UsageFault {
         match fault {
             ScriptFault::OutOfMemory => UsageFault::OutOfMemory,
             _ => UsageFault::Usage,
+        }
+    }
+}
+
+impl From<ValueFault> for UsageFault {
+    ghost use Rattle.std.specs.Prelude.{◌≡◌};
+    ghost use Rattle.meson_command.specs.Messages.{usage_by_value};
+
+    ghost from_gives = { λ fault usage. usage ≡ usage_by_value fault };
+
+    fn from(fault: ValueFault) -> UsageFault {
+        match fault {
+            ValueFault::NotCode => UsageFault::NotCode,
+            ValueFault::OutOfMemory => UsageFault::OutOfMemory,
         }
     }
 }

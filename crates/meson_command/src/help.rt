@@ -26,11 +26,13 @@ Examples:
 
 pub(crate) const DIR: &str = "Folder of the root file [default: the working folder]";
 
+pub(crate) const IN: &str = "With arg: search the build file of this folder alone";
+
 pub(crate) const DRY_RUN: &str = "Show the changes as a unified diff, and write nothing";
 
 pub(crate) const ANSWER_JSON: &str = "Print what is done, or the refusal, as one line of JSON";
 
-pub(crate) const EXPLAIN: &str = "Explain a refusal in further lines";
+pub(crate) const EXPLAIN: &str = "Explain a refusal, or warn of a run, in further lines";
 
 pub(crate) const EXIT_CODE: &str = "End with status 4 if a build file is changed";
 
@@ -116,6 +118,57 @@ Examples:
   meson_rewrite kwargs delete target harbor install x
   meson_rewrite kwargs info dependency zlib";
 
+pub(crate) const ARGUMENT: &str = "Set, add to or delete any value of a call or a variable";
+
+pub(crate) const BELOW_ARGUMENT: &str = "\
+Options of the program, before the subcommand (see meson_rewrite --help):
+  --sourcedir DIR, --in FOLDER, --title TEXT, --dry-run, --json
+
+Operations:
+  set     give the key this value, or an array of these values; an absent
+          keyword or entry is inserted after the others
+  add     add the values that its list does not have yet, at the end; of a
+          sum, to its last list; an absent key gets the array of them
+  delete  remove the argument, entry or element; it takes no values
+
+Places, each a FUNCTION with its ID:
+  target ID      a call that makes a target, by its name or variable
+  project /      the project call
+  variable NAME  the value that is assigned to the variable with =
+  at FILE:LINE   the value or call that begins on this line, counted from 1;
+                 else the first array or dictionary that opens on it
+  other words    a call of that function, by its first argument or variable
+
+Keys: a keyword; the number of another argument, or of an element, from 0; the
+text of an entry of a dictionary. Dots join keys that lead further in, as
+license.0, and . is the place itself.
+
+Values:
+  true, false  the truth value
+  :CODE        a Meson expression without comments, as :zlib or :[]
+  other words  the text
+
+From FUNCTION on no word is an option, so values may begin with -.
+A text replaces a text or an array of texts, a truth value a truth value, and
+CODE anything.
+
+If it is refused:
+  C3   several calls have the id: use --in FOLDER, the variable, or at FILE:LINE
+  C9   the value has no list to add to: set the whole value by CODE
+  C21  the value is of another kind: give CODE
+  C23  no argument or element has this number: count from 0
+
+Examples:
+  meson_rewrite arg set target tide c_args -DTIDE -DPIER
+  meson_rewrite arg add target harbor c_args -DHARBOR
+  meson_rewrite arg set target harbor install_dir \":get_option('bindir')\"
+  meson_rewrite arg set dependency zlib version '>=1.3'
+  meson_rewrite arg set project / license.0 Zlib
+  meson_rewrite arg delete target harbor install
+  meson_rewrite --in src arg set target harbor install false";
+
+pub(crate) const PLACE_FUNCTION: &str = "Where the value is, see Places";
+
 pub(crate) const DEFAULT_OPTIONS: &str = "Edit the default options of the project";
 
 pub(crate) const BELOW_DEFAULT_OPTIONS: &str = "\
@@ -151,7 +204,7 @@ operation; man meson_rewrite lists their other members:
                    target_add, target_rm, info
   kwargs           set, add, remove, delete, info
   default_options  set, delete
-  arg              set, delete
+  arg              set, add, delete
 
 All commands are done, or none.
 The script is kept as a run even if it only lists (info). --dry-run leaves the

@@ -16,7 +16,11 @@ fn list_name(subcommand: Subcommand) -> &'static str {
 }
 
 /// Says that a key and its value are two words, if one word has both.
-fn split_pair(alloc: Global, remarks: &mut Remarks, list: &[&str]) -> Result<(), AllocError> {
+pub(crate) fn split_pair(
+    alloc: Global,
+    remarks: &mut Remarks,
+    list: &[&str],
+) -> Result<(), AllocError> {
     for word in list {
         if let Some((key, value)) = word.split_once('=') {
             let key = quoted(alloc, key)?;
@@ -30,7 +34,7 @@ fn split_pair(alloc: Global, remarks: &mut Remarks, list: &[&str]) -> Result<(),
 }
 
 /// Words for a command line, with a space before each.
-fn all_quoted(alloc: Global, list: &[&str]) -> Result<String, AllocError> {
+pub(crate) fn all_quoted(alloc: Global, list: &[&str]) -> Result<String, AllocError> {
     let mut all = String::new(alloc);
     for word in list {
         all.push(' ')?;

@@ -1,12 +1,14 @@
 //! Laws of the command line. The functions do nothing: what they ensure is the law.
 
+ghost use Rattle.meson_command.specs.Entries.{WordsMeanTheEntry};
 ghost use Rattle.meson_command.specs.Laws.{HelpWhereAsked, JsonWhereWanted, OddWordsAreOdd, PairsAreTheWords, UnsetIsDelete, UsageMeansUnknown, VersionWhereAsked};
 ghost use Rattle.meson_command.specs.Laws.{TextsWriteNothing};
-ghost use Rattle.meson_command.specs.Rows.{Done, Flagged, Json, Listed, Other, Refused, Shown, Texts, Titled};
+ghost use Rattle.meson_command.specs.Rows.{CodeIsExpressionOrRefused, Done, Flagged, Json, LaterWordsArePlain, Listed, Other, Refused, Shown, Texts, Titled, Values};
 
 /// The requests of some command lines.
 pub fn rows()
     ensures done { Done }
+    ensures values { Values }
     ensures titled { Titled }
     ensures shown { Shown }
     ensures json { Json }
@@ -15,6 +17,17 @@ pub fn rows()
     ensures listed { Listed }
     ensures other { Other }
     ensures refused { Refused }
+{}
+
+/// From the function of `arg` on no word is an option. A value after a colon is code if it is an expression, and is refused otherwise.
+pub fn values_are_words()
+    ensures later { LaterWordsArePlain }
+    ensures code { CodeIsExpressionOrRefused }
+{}
+
+/// Words of `arg` mean the command of the entry of a script with the same function, id, key, values and folder.
+pub fn words_mean_the_entry()
+    ensures { WordsMeanTheEntry }
 {}
 
 /// Names with values are the words two by two, if no name is repeated. An odd number of words is refused. `unset` needs no values, and is else `delete`.
@@ -41,7 +54,8 @@ pub fn texts_write_nothing()
 {}
 
 /// Words that clap takes are wrong usage only in these cases: the folder is empty, an operation or a function is unknown, a number is not valid, two listings
-/// are requested or one of a function without a name, or texts are named for what writes or would read standard input, too.
+/// are requested or one of a function without a name, the function and the id of `arg` name no place, its values are not as many as its operation takes, a
+/// folder is named for another subcommand, or texts are named for what writes or would read standard input, too.
 pub fn usage_means_unknown()
     ensures { UsageMeansUnknown }
 {}

@@ -1,6 +1,8 @@
 //! The command line: which words the program takes, and what they request.
 #![tactic(auto)]
 
+mod argument;
+mod argument_faults;
 mod asked;
 mod choices;
 mod clap_faults;

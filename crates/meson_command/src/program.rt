@@ -2,7 +2,7 @@
 
 ghost use Rattle.std.specs.Prelude.{◌≡◌, IfOk, false};
 ghost use Rattle.clap.specs.Words.{App, app_of, new_app, rule_of, with_rule, with_subcommand};
-ghost use Rattle.meson_command.specs.Program.{IsToldToClap, command, default_options, flag, help, history, kwargs, list, many, required_word, option, own_words, program, redo, short_flag, short_option, target, undo, version, with_alias};
+ghost use Rattle.meson_command.specs.Program.{IsToldToClap, argument, command, default_options, ending_word, flag, help, history, kwargs, list, many, required_word, option, own_words, program, redo, short_flag, short_option, target, undo, version, with_alias};
 
 use crate::help;
 use clap::{Arg, ArgAction, Command};
@@ -44,6 +44,19 @@ fn with_one<'h>(
 {
     let arg = Arg::new(alloc, name).required(true).action(ArgAction::Set);
     with_arg(command, arg.help(about))
+}
+
+/// With a required word after which no word is an option.
+fn with_ending<'h>(
+    alloc: Global,
+    command: Result<Command<'h>, AllocError>,
+    name: &'h str,
+    about: &'h str,
+) -> Result<Command<'h>, AllocError>
+    ensures { (a : App) → IfOk command.entry (IsToldToClap a) → IfOk result (IsToldToClap (with_rule a (ending_word name.entry.now))) }
+{
+    let arg = Arg::new(alloc, name).required(true).action(ArgAction::Set);
+    with_arg(command, arg.trailing_var_arg(true).help(about))
 }
 
 /// With any number of words.
@@ -178,6 +191,19 @@ fn kwargs<'h>(alloc: Global) -> Result<Command<'h>, AllocError>
     with_help(alloc, command)
 }
 
+#[tactic(auto, unfolding(crate::specs::Program::argument))]
+fn argument<'h>(alloc: Global) -> Result<Command<'h>, AllocError>
+    ensures { IfOk result (IsToldToClap argument) }
+{
+    let command = Ok(described(alloc, "arg", help::ARGUMENT, help::BELOW_ARGUMENT));
+    let command = with_one(alloc, command, "OPERATION", "What to do, see Operations");
+    let command = with_ending(alloc, command, "FUNCTION", help::PLACE_FUNCTION);
+    let command = with_one(alloc, command, "ID", "Which call or variable, see Places");
+    let command = with_one(alloc, command, "KEY", "Which value of it, see Keys");
+    let command = with_many(alloc, command, "VALUE", "What it becomes, see Values");
+    with_help(alloc, command)
+}
+
 #[tactic(auto, unfolding(crate::specs::Program::default_options))]
 fn default_options<'h>(alloc: Global) -> Result<Command<'h>, AllocError>
     ensures { IfOk result (IsToldToClap default_options) }
@@ -262,6 +288,7 @@ fn own_words<'h>(alloc: Global) -> Result<Command<'h>, AllocError>
         .disable_help_flag(true)
         .disable_help_subcommand(true);
     let program = with_short_option(alloc, Ok(bare), "DIR", "sourcedir", 's', help::DIR);
+    let program = with_option(alloc, program, "FOLDER", "in", help::IN);
     let program = with_option(alloc, program, "TEXT", "title", help::TITLE);
     let program = with_flag(alloc, program, "dry-run", "dry-run", help::DRY_RUN);
     let program = with_flag(alloc, program, "json", "json", help::ANSWER_JSON);
@@ -292,6 +319,7 @@ fn program<'h>(alloc: Global) -> Result<Command<'h>, AllocError>
 {
     let program = with_subcommand(own_words(alloc), target(alloc));
     let program = with_subcommand(program, kwargs(alloc));
+    let program = with_subcommand(program, argument(alloc));
     let program = with_subcommand(program, default_options(alloc));
     let program = with_subcommand(program, command(alloc));
     let program = with_subcommand(program, undo(alloc));

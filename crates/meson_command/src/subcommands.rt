@@ -7,6 +7,7 @@ use crate::help;
 pub(crate) enum Subcommand {
     Target,
     Kwargs,
+    Argument,
     DefaultOptions,
     Command,
     Undo,
@@ -16,9 +17,10 @@ pub(crate) enum Subcommand {
 }
 
 /// All of them, in the order of help.
-pub(crate) const SUBCOMMANDS: [Subcommand; 8] = [
+pub(crate) const SUBCOMMANDS: [Subcommand; 9] = [
     Subcommand::Target,
     Subcommand::Kwargs,
+    Subcommand::Argument,
     Subcommand::DefaultOptions,
     Subcommand::Command,
     Subcommand::Undo,
@@ -33,6 +35,7 @@ impl Subcommand {
         match word {
             "target" | "tgt" => Some(Subcommand::Target),
             "kwargs" => Some(Subcommand::Kwargs),
+            "arg" => Some(Subcommand::Argument),
             "default-options" | "def" => Some(Subcommand::DefaultOptions),
             "command" | "cmd" => Some(Subcommand::Command),
             "undo" => Some(Subcommand::Undo),
@@ -47,6 +50,7 @@ impl Subcommand {
         match self {
             Subcommand::Target => "target",
             Subcommand::Kwargs => "kwargs",
+            Subcommand::Argument => "arg",
             Subcommand::DefaultOptions => "default-options",
             Subcommand::Command => "command",
             Subcommand::Undo => "undo",
@@ -61,6 +65,7 @@ impl Subcommand {
         match self {
             Subcommand::Target => help::TARGET,
             Subcommand::Kwargs => help::KWARGS,
+            Subcommand::Argument => help::ARGUMENT,
             Subcommand::DefaultOptions => help::DEFAULT_OPTIONS,
             Subcommand::Command => help::COMMAND,
             Subcommand::Undo => help::UNDO,
@@ -77,6 +82,7 @@ impl Subcommand {
                 "target ID OPERATION [SOURCE]... [--subdir SUBDIR] [--type KIND]"
             }
             Subcommand::Kwargs => "kwargs OPERATION FUNCTION ID [KEY VALUE]...",
+            Subcommand::Argument => "arg OPERATION FUNCTION ID KEY [VALUE]...",
             Subcommand::DefaultOptions => "default-options OPERATION [OPTION VALUE]...",
             Subcommand::Command => "command [--strict] JSON",
             Subcommand::Undo => "undo [--to N] [--check FILE]",

@@ -1,5 +1,6 @@
 //! What explains words that clap takes, and that are no request.
 
+use crate::argument_faults::{explain_argument, explain_code};
 use crate::choices::{FUNCTIONS, KWARGS_OPERATIONS, OPTIONS_OPERATIONS, TARGET_OPERATIONS};
 use crate::clap_faults::add_usage;
 use crate::fault::UsageFault;
@@ -183,6 +184,11 @@ fn explain_texts(
     remarks.help_words(alloc, "--texts goes with --dry-run, list, history and info")
 }
 
+/// Whether a folder may be named for a subcommand.
+fn takes_folder(subcommand: Option<Subcommand>) -> bool {
+    matches!(subcommand, Some(Subcommand::Argument))
+}
+
 /// Explains words that are wrong usage.
 fn explain_usage(
     alloc: Global,
@@ -195,9 +201,14 @@ fn explain_usage(
         remarks.note_words(alloc, "--sourcedir is empty")?;
         return remarks.help_words(alloc, "leave it out for the working folder");
     }
+    if matches.get_str("FOLDER").is_some() && !takes_folder(subcommand) {
+        remarks.note_words(alloc, "--in is given with words that take no folder")?;
+        return remarks.help_words(alloc, "--in FOLDER goes with arg");
+    }
     match subcommand {
         Some(Subcommand::Target) => explain_target(alloc, remarks, words)?,
         Some(Subcommand::Kwargs) => explain_kwargs(alloc, remarks, words)?,
+        Some(Subcommand::Argument) => explain_argument(alloc, remarks, words)?,
         Some(Subcommand::DefaultOptions) => explain_options(alloc, remarks, words)?,
         Some(Subcommand::Undo) => explain_undo(alloc, remarks, words)?,
         Some(Subcommand::History) => explain_history(alloc, remarks, words)?,
@@ -255,6 +266,7 @@ pub(crate) fn explain_taken(
         UsageFault::RepeatedKey => explain_repeated(alloc, remarks, subcommand, words)?,
         UsageFault::Unsupported => explain_unsupported(alloc, remarks)?,
         UsageFault::BadTitle => explain_title(alloc, remarks, word_or(matches, "TEXT", ""))?,
+        UsageFault::NotCode => explain_code(alloc, remarks, words)?,
         UsageFault::OutOfMemory => {}
     }
     add_usage(alloc, remarks, subcommand)

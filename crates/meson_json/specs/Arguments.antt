@@ -9,6 +9,8 @@ use Rattle.meson_steps.specs.declared.argument.ValueChange.{ValueChange}
 use Rattle.meson_steps.specs.declared.argument.ValueChange.TheVariants as change
 use Rattle.meson_steps.specs.declared.given.Given.{Given}
 use Rattle.meson_json.specs.Counts.{count_of}
+use Rattle.meson_json.specs.declared.names.ArgumentOperation.{ArgumentOperation}
+use Rattle.meson_json.specs.declared.names.ArgumentOperation.TheVariants as operation
 
 -- `target` stands for all functions that make targets
 abbrev pub callee_of : List ℕ → Callee
@@ -52,3 +54,11 @@ abbrev pub set_to : List Given → Option ValueChange
 set_to [] = None
 set_to (g ∷ []) = Some (change.Set g)
 set_to (g ∷ h ∷ gs) = Some (change.SetAll (g ∷ h ∷ gs))
+
+-- the change of an operation with its values, if there are as many as it takes
+abbrev pub change_to : ArgumentOperation → List Given → Option ValueChange
+change_to operation.Set gs = set_to gs
+change_to operation.Add [] = None
+change_to operation.Add (g ∷ gs) = Some (change.Add (g ∷ gs))
+change_to operation.Delete [] = Some change.Delete
+change_to operation.Delete (g ∷ gs) = None

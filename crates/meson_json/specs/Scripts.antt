@@ -4,7 +4,7 @@ use Rattle.serde_json.specs.Data.{Data, array, string, Items, no_items, item, Me
 use Rattle.serde_json.specs.Events.{items_len}
 use Rattle.serde_json.specs.Find.{get, as_array, as_object, as_str}
 use Rattle.meson_splice.specs.Patch.{then_ok}
-use Rattle.meson_json.specs.Arguments.{keys_in, place_named, set_to}
+use Rattle.meson_json.specs.Arguments.{change_to, keys_in, place_named}
 use Rattle.meson_json.specs.Each.{each_of, each_member, names_of_members}
 use Rattle.meson_json.specs.Known.{unknown_in}
 use Rattle.meson_json.specs.Members.{member_text}
@@ -12,10 +12,10 @@ use Rattle.meson_json.specs.Operations.{argument_operation, entry_type, target_o
 use Rattle.meson_json.specs.Settings.{given_value, setting_of, option_value}
 use Rattle.meson_json.specs.Targets.{target_command}
 use Rattle.meson_steps.specs.declared.argument.ValueChange.{ValueChange}
-use Rattle.meson_steps.specs.declared.argument.ValueChange.TheVariants as change
 use Rattle.meson_steps.specs.declared.argument.ValueName.{ValueName}
 use Rattle.meson_steps.specs.declared.command.Command.{Command}
 use Rattle.meson_steps.specs.declared.command.Command.TheVariants as command
+use Rattle.meson_steps.specs.declared.given.Given.{Given}
 use Rattle.meson_calls.specs.declared.call.Role.{Role}
 use Rattle.meson_json.specs.declared.target.TargetMembers.{TargetMembers}
 use Rattle.meson_json.specs.declared.fault.ScriptFault.{ScriptFault}
@@ -109,12 +109,14 @@ keys_of (string word) = Some (keys_in word)
 keys_of (array ds) = each_of as_str ds
 keys_of _ = None
 
--- to one value or to several, of which there is one at least
+-- `delete` reads no values
+abbrev pub values_at : ℕ → ArgumentOperation → Data → Result (List Given) ScriptFault
+values_at i argument.Set d = given (λ v. option_and_then (each_of given_value) (as_array v)) i (codes "values") [] (get (codes "values") d)
+values_at i argument.Add d = given (λ v. option_and_then (each_of given_value) (as_array v)) i (codes "values") [] (get (codes "values") d)
+values_at i argument.Delete d = Ok []
+
 abbrev pub change_at : ℕ → ArgumentOperation → Data → Result ValueChange ScriptFault
-change_at i argument.Set d =
-    then_ok (given (λ v. option_and_then (each_of given_value) (as_array v)) i (codes "values") [] (get (codes "values") d))
-    (λ gs. ok_or (set_to gs) (BadField i (codes "values")))
-change_at i argument.Delete d = Ok change.Delete
+change_at i operation d = then_ok (values_at i operation d) (λ gs. ok_or (change_to operation gs) (BadField i (codes "values")))
 
 abbrev pub folder_at : ℕ → Data → Result (Option (List ℕ)) ScriptFault
 folder_at i d = given (λ v. option_map Some (as_str v)) i (codes "in") None (get (codes "in") d)

@@ -1,10 +1,11 @@
 //! What names a value, and the changes of a value, by a script or on the command line.
 
 ghost use Rattle.std.specs.Prelude.{◌≡◌, IfOk};
-ghost use Rattle.meson_json.specs.Arguments.{callee_of, keys_in, line_named, place_named, set_to};
+ghost use Rattle.meson_json.specs.Arguments.{callee_of, change_to, keys_in, line_named, place_named, set_to};
 
 use crate::count::count_of;
 use crate::members::owned;
+use crate::names::ArgumentOperation;
 use meson_splice::{Many, Text};
 use meson_steps::argument::{Callee, PlaceName, ValueChange};
 use meson_steps::given::Given;
@@ -78,7 +79,7 @@ pub fn keys_in(alloc: Global, word: &str) -> Result<Many<Text>, AllocError>
 }
 
 /// The change that sets a value to some given ones, if there are any.
-pub fn set_to(values: Vec<Given>) -> Option<ValueChange>
+fn set_to(values: Vec<Given>) -> Option<ValueChange>
     ensures { result ≡ set_to values.items }
 {
     let mut values = values;
@@ -90,4 +91,17 @@ pub fn set_to(values: Vec<Given>) -> Option<ValueChange>
         };
     }
     values.pop().map(ValueChange::Set)
+}
+
+/// The change that an operation and its values mean: one or more of `set` and `add`, none of `delete`.
+pub fn change_to(operation: ArgumentOperation, values: Vec<Given>) -> Option<ValueChange>
+    ensures { result ≡ change_to operation values.items }
+{
+    match operation {
+        ArgumentOperation::Set => set_to(values),
+        ArgumentOperation::Add if values.is_empty() => None,
+        ArgumentOperation::Add => Some(ValueChange::Add(Many::of(values))),
+        ArgumentOperation::Delete if values.is_empty() => Some(ValueChange::Delete),
+        ArgumentOperation::Delete => None,
+    }
 }

@@ -1,16 +1,15 @@
 //! Entries of a script: each is one command.
 
-ghost use Rattle.std.specs.Prelude.{◌≡◌, ◌≢◌, [], Err, IfErr, IfOk, Ok, codes, ok_or, option_and_then};
-ghost use Rattle.serde_json.specs.Find.{as_array, get};
+ghost use Rattle.std.specs.Prelude.{◌≡◌, ◌≢◌, Err, IfErr, IfOk, Ok, codes, ok_or, option_and_then};
+ghost use Rattle.serde_json.specs.Find.{get};
 ghost use Rattle.serde_json.specs.View.{members_view, view};
 ghost use Rattle.meson_json.specs.Operations.{kwargs_operation};
 ghost use Rattle.meson_json.specs.Arguments.{place_named};
-ghost use Rattle.meson_json.specs.Each.{each_of};
-ghost use Rattle.meson_json.specs.Settings.{given_value};
-ghost use Rattle.meson_json.specs.Scripts.{argument_entry, change_at, entry_of, folder_at, given, keys_of, kwargs_asked, kwargs_command, kwargs_entry, options_command, options_entry, role_at, target_entry, target_members, value_name};
+ghost use Rattle.meson_json.specs.Scripts.{argument_entry, change_at, entry_of, folder_at, keys_of, kwargs_asked, kwargs_command, kwargs_entry, options_command, options_entry, role_at, target_entry, target_members, value_name, values_at};
 ghost use Rattle.meson_json.specs.declared.fault.ScriptFault.TheVariants.{BadField, OutOfMemory};
+ghost use Rattle.meson_json.specs.declared.names.ArgumentOperation.TheVariants as argument;
 
-use crate::argument::{keys_in, place_named, set_to};
+use crate::argument::{change_to, keys_in, place_named};
 use crate::fault::ScriptFault;
 use crate::members::{
     bad_field, given_values, members_or, names, option_texts, owned, required_text, settings,
@@ -229,11 +228,9 @@ fn value_name(alloc: Global, index: usize, entry: &Value) -> Result<ValueName, S
 }
 
 /// The values of an entry.
-fn values_at(alloc: Global, index: usize, entry: &Value) -> Result<Vec<Given>, ScriptFault>
-    ensures ok { IfOk result (λ v. given (λ d. option_and_then (each_of given_value) (as_array d)) index (codes "values") [] (get (codes "values") (view entry.now))
-        ≡ Ok v.items) }
-    ensures refused { IfErr result (λ e. e ≢ OutOfMemory
-        → given (λ d. option_and_then (each_of given_value) (as_array d)) index (codes "values") [] (get (codes "values") (view entry.now)) ≡ Err e) }
+fn given_at(alloc: Global, index: usize, entry: &Value) -> Result<Vec<Given>, ScriptFault>
+    ensures ok { IfOk result (λ v. values_at index argument.Set (view entry.now) ≡ Ok v.items) }
+    ensures refused { IfErr result (λ e. e ≢ OutOfMemory → values_at index argument.Set (view entry.now) ≡ Err e) }
 {
     let Some(member) = entry.get("values") else {
         return Ok(Vec::new(alloc));
@@ -247,6 +244,23 @@ fn values_at(alloc: Global, index: usize, entry: &Value) -> Result<Vec<Given>, S
     }
 }
 
+/// The values of an entry that its operation reads.
+fn values_at(
+    alloc: Global,
+    index: usize,
+    operation: ArgumentOperation,
+    entry: &Value,
+) -> Result<Vec<Given>, ScriptFault>
+    ensures ok { IfOk result (λ v. values_at index operation (view entry.now) ≡ Ok v.items) }
+    ensures refused { IfErr result (λ e. e ≢ OutOfMemory → values_at index operation (view entry.now) ≡ Err e) }
+{
+    match operation {
+        ArgumentOperation::Set => given_at(alloc, index, entry),
+        ArgumentOperation::Add => given_at(alloc, index, entry),
+        ArgumentOperation::Delete => Ok(Vec::new(alloc)),
+    }
+}
+
 /// The change of an entry.
 fn change_at(
     alloc: Global,
@@ -257,15 +271,10 @@ fn change_at(
     ensures ok { IfOk result (λ c. change_at index operation (view entry.now) ≡ Ok c) }
     ensures refused { IfErr result (λ e. e ≢ OutOfMemory → change_at index operation (view entry.now) ≡ Err e) }
 {
-    match operation {
-        ArgumentOperation::Set => {
-            let values = values_at(alloc, index, entry)?;
-            match set_to(values) {
-                Some(change) => Ok(change),
-                None => Err(bad_field(alloc, index, "values")?),
-            }
-        }
-        ArgumentOperation::Delete => Ok(ValueChange::Delete),
+    let values = values_at(alloc, index, operation, entry)?;
+    match change_to(operation, values) {
+        Some(change) => Ok(change),
+        None => Err(bad_field(alloc, index, "values")?),
     }
 }
 

@@ -38,6 +38,7 @@ pub(crate) enum OptionsOperation {
 #[derive(Clone, Copy)]
 pub enum ArgumentOperation {
     Set,
+    Add,
     Delete,
 }
 
@@ -120,6 +121,8 @@ pub fn find_argument_operation(name: &str) -> Option<ArgumentOperation>
 {
     if name == "set" {
         Some(ArgumentOperation::Set)
+    } else if name == "add" {
+        Some(ArgumentOperation::Add)
     } else if name == "delete" {
         Some(ArgumentOperation::Delete)
     } else {

@@ -47,7 +47,7 @@ const OPTIONS_OPERATIONS: Choice = Choice {
 const VALUE_OPERATIONS: Choice = Choice {
     of: "arg",
     what: "operations",
-    words: &["set", "delete"],
+    words: &["set", "add", "delete"],
 };
 
 /// The members that an operation uses, by the names of its type and of itself.

@@ -1,0 +1,179 @@
+-- Words of `arg` mean the command of an entry.
+use Rattle.std.proofs.Common.{◌≡◌, ◌∙◌, ◌∷◌, ℕ, Bool, true, false, List, [], Option, Some, None, Result, Ok, Err, bytes_eq, codes, refl, sym, ap, ap₂, subst}
+use Rattle.std.specs.Prelude.{if◌then◌else◌, ok_or, option_and_then, option_map}
+use Rattle.clap.specs.Words.{Row, Text}
+use Rattle.meson_splice.specs.Patch.{then_ok}
+use Rattle.meson_steps.specs.Code.{code_of, is_code}
+use Rattle.meson_steps.specs.GivenWords.{after_first, begins_colon, meant_by}
+use Rattle.meson_steps.specs.declared.argument.PlaceName.{PlaceName}
+use Rattle.meson_steps.specs.declared.argument.ValueChange.{ValueChange}
+use Rattle.meson_steps.specs.declared.argument.ValueName.{ValueName}
+use Rattle.meson_steps.specs.declared.command.Command.{Command}
+use Rattle.meson_steps.specs.declared.command.Command.TheVariants as commands
+use Rattle.meson_steps.specs.declared.given.Given.{Given}
+use Rattle.meson_steps.specs.declared.given.Given.TheVariants as given
+use Rattle.meson_json.specs.Arguments.{change_to, keys_in, place_named}
+use Rattle.meson_json.specs.Each.{each_of}
+use Rattle.meson_json.specs.Operations.{argument_operation}
+use Rattle.meson_json.specs.Scripts.{argument_entry, entry_of, value_name, values_at}
+use Rattle.meson_json.specs.Settings.{given_value}
+use Rattle.meson_json.specs.declared.fault.ScriptFault.{ScriptFault}
+use Rattle.meson_json.specs.declared.fault.ScriptFault.TheVariants.{BadField, UnknownOperation}
+use Rattle.meson_json.specs.declared.names.ArgumentOperation.{ArgumentOperation}
+use Rattle.meson_json.specs.declared.names.ArgumentOperation.TheVariants as operation
+use Rattle.meson_command.specs.Actions.{run, word_at, words_at}
+use Rattle.meson_command.specs.Arguments.{argument_action, values_meant}
+use Rattle.meson_command.specs.Entries.{WordsMeanTheEntry, data_of, entry_of_words, items_of}
+use Rattle.meson_command.specs.declared.asked.Action.{Action}
+use Rattle.meson_command.specs.declared.asked.Action.TheVariants.{Run}
+use Rattle.meson_command.specs.declared.fault.UsageFault.{UsageFault}
+use Rattle.meson_command.specs.declared.fault.UsageFault.TheVariants.{NotCode, Usage}
+
+-- ---- a value is read from its data
+
+abbrev IsRead : Given → Type 0
+IsRead g = given_value (data_of g) ≡ Some g
+
+code-read : (code : Text) (b : Bool) → is_code code ≡ b → (g : Given) → option_map given.Code (if b then Some code else None) ≡ Some g → IsRead g
+code-read code true is g e =
+    let same : given.Code code ≡ g = cc in
+    let read : IsRead (given.Code code) = ap (λ (b : Bool). option_map given.Code (if b then Some code else None)) is in
+    subst IsRead same read
+code-read code false is g e = cc
+
+plain-read : (word : Text) (t f : Bool) (g : Given) → (if t then Some (given.Switch true) else (if f then Some (given.Switch false) else Some (given.Text word))) ≡ Some g → IsRead g
+plain-read word true f g e = let same : given.Switch true ≡ g = cc in subst IsRead same refl
+plain-read word false true g e = let same : given.Switch false ≡ g = cc in subst IsRead same refl
+plain-read word false false g e = let same : given.Text word ≡ g = cc in subst IsRead same refl
+
+word-read : (word : Text) (colon : Bool) (g : Given)
+    → (if colon then option_map given.Code (code_of (after_first word)) else (if bytes_eq word (codes "true") then Some (given.Switch true)
+    else (if bytes_eq word (codes "false") then Some (given.Switch false) else Some (given.Text word)))) ≡ Some g → IsRead g
+word-read word true g e = code-read (after_first word) (is_code (after_first word)) refl g e
+word-read word false g e = plain-read word (bytes_eq word (codes "true")) (bytes_eq word (codes "false")) g e
+
+abbrev AreRead : List Given → Type 0
+AreRead gs = each_of given_value (items_of gs) ≡ Some gs
+
+one-more : (word : Text) (o : Option Given) (r : Option (List Given)) (values : List Given) → meant_by word ≡ o → ((gs : List Given) → r ≡ Some gs → AreRead gs)
+    → option_and_then (λ value. option_map (λ values. value ∷ values) r) o ≡ Some values → AreRead values
+unfolding each_of
+one-more word None r values is others e = cc
+one-more word (Some g) None values is others e = cc
+one-more word (Some g) (Some gs) values is others e =
+    let same : (g ∷ gs) ≡ values = cc in
+    let read : IsRead g = word-read word (begins_colon word) g is in
+    subst AreRead same (ap₂ (λ (o : Option Given) (r : Option (List Given)). option_and_then (λ x. option_map (λ xs. x ∷ xs) r) o) read (others gs refl))
+
+values-read : (words : List Text) (values : List Given) → values_meant words ≡ Some values → AreRead values
+unfolding values_meant each_of
+values-read [] values e = let same : [] ≡ values = cc in subst AreRead same refl
+values-read (word ∷ words) values e = one-more word (meant_by word) (values_meant words) values refl (values-read words) e
+
+-- ---- the command
+
+abbrev made_in : Result Action UsageFault → List Command
+made_in (Ok (Run script)) = script.commands
+made_in _ = []
+
+abbrev first_or : Command → List Command → Command
+first_or other [] = other
+first_or other (c ∷ cs) = c
+
+abbrev requested : Command → Result Action UsageFault
+requested x = Ok (run x)
+
+abbrev made_of : Command → Result Command ScriptFault
+made_of x = Ok x
+
+run-of : (x y : Command) → requested x ≡ requested y → made_of x ≡ made_of y
+run-of x y e = ap (λ (r : Result Action UsageFault). made_of (first_or y (made_in r))) e
+
+abbrev named_in : Option Text → Text → PlaceName → ValueName
+named_in folder key name = record { place = record { name = name; folder = folder }; keys = keys_in key }
+
+abbrev by_words : Option Text → Text → Option ArgumentOperation → Option PlaceName → List Given → Result Action UsageFault
+by_words folder key o p values =
+    then_ok (ok_or o Usage) (λ operation.
+    then_ok (ok_or (option_map (named_in folder key) p) Usage) (λ name.
+    then_ok (then_ok (ok_or (Some values) NotCode) (λ values. ok_or (change_to operation values) Usage)) (λ change. Ok (run (commands.Argument name change)))))
+
+-- the values that an operation reads
+abbrev read_by : ArgumentOperation → List Given → List Given
+read_by operation.Set values = values
+read_by operation.Add values = values
+read_by operation.Delete values = []
+
+abbrev by_entry : ℕ → Option Text → Text → Option ArgumentOperation → Option PlaceName → (ArgumentOperation → Result (List Given) ScriptFault) → Result Command ScriptFault
+by_entry i folder key o p read =
+    then_ok (ok_or o (UnknownOperation i)) (λ operation.
+    then_ok (then_ok (ok_or p (BadField i (codes "id"))) (λ place. Ok (named_in folder key place))) (λ name.
+    then_ok (then_ok (read operation) (λ gs. ok_or (change_to operation gs) (BadField i (codes "values")))) (λ c. Ok (commands.Argument name c))))
+
+one-change : (i : ℕ) (name : ValueName) (c : Option ValueChange) (made : Command)
+    → then_ok (ok_or c Usage) (λ change. Ok (run (commands.Argument name change))) ≡ Ok (run made)
+    → then_ok (ok_or c (BadField i (codes "values"))) (λ change. Ok (commands.Argument name change)) ≡ Ok made
+one-change i name None made e = cc
+one-change i name (Some change) made e = run-of (commands.Argument name change) made e
+
+same-made : (i : ℕ) (folder : Option Text) (key : Text) (o : Option ArgumentOperation) (p : Option PlaceName) (values : List Given) (made : Command)
+    → by_words folder key o p values ≡ Ok (run made) → by_entry i folder key o p (λ operation. Ok (read_by operation values)) ≡ Ok made
+same-made i folder key None p values made e = cc
+same-made i folder key (Some o) None values made e = cc
+same-made i folder key (Some operation.Set) (Some name) values made e = one-change i (named_in folder key name) (change_to operation.Set values) made e
+same-made i folder key (Some operation.Add) (Some name) values made e = one-change i (named_in folder key name) (change_to operation.Add values) made e
+same-made i folder key (Some operation.Delete) (Some name) [] made e = one-change i (named_in folder key name) (change_to operation.Delete []) made e
+same-made i folder key (Some operation.Delete) (Some name) (g ∷ gs) made e = cc
+
+by-reads : (i : ℕ) (folder : Option Text) (key : Text) (o : Option ArgumentOperation) (p : Option PlaceName) (values : List Given) (made : Command)
+    → (read : ArgumentOperation → Result (List Given) ScriptFault) → ((operation : ArgumentOperation) → read operation ≡ Ok (read_by operation values))
+    → by_entry i folder key o p (λ operation. Ok (read_by operation values)) ≡ Ok made → by_entry i folder key o p read ≡ Ok made
+by-reads i folder key None p values made read each e = e
+by-reads i folder key (Some operation) None values made read each e = e
+by-reads i folder key (Some operation) (Some name) values made read each e =
+    ap (λ (r : Result (List Given) ScriptFault). then_ok (then_ok r (λ gs. ok_or (change_to operation gs) (BadField i (codes "values"))))
+    (λ c. Ok (commands.Argument (named_in folder key name) c))) (each operation) ∙ e
+
+of-words : (folder : Option Text) (rows : List Row) (values : List Given) (vs : Option (List Given)) (made : Command) → vs ≡ Some values
+    → then_ok (ok_or (argument_operation (word_at (codes "OPERATION") rows)) Usage) (λ operation.
+    then_ok (ok_or (option_map (named_in folder (word_at (codes "KEY") rows)) (place_named (word_at (codes "FUNCTION") rows) (word_at (codes "ID") rows))) Usage) (λ name.
+    then_ok (then_ok (ok_or vs NotCode) (λ values. ok_or (change_to operation values) Usage)) (λ change. Ok (run (commands.Argument name change)))))
+    ≡ Ok (run made)
+    → by_words folder (word_at (codes "KEY") rows) (argument_operation (word_at (codes "OPERATION") rows))
+    (place_named (word_at (codes "FUNCTION") rows) (word_at (codes "ID") rows)) values ≡ Ok (run made)
+of-words folder rows values vs made is e =
+    subst (λ (v : Option (List Given)). then_ok (ok_or (argument_operation (word_at (codes "OPERATION") rows)) Usage) (λ operation.
+    then_ok (ok_or (option_map (named_in folder (word_at (codes "KEY") rows)) (place_named (word_at (codes "FUNCTION") rows) (word_at (codes "ID") rows))) Usage) (λ name.
+    then_ok (then_ok (ok_or v NotCode) (λ values. ok_or (change_to operation values) Usage)) (λ change. Ok (run (commands.Argument name change)))))
+    ≡ Ok (run made)) is e
+
+entered : (i : ℕ) (folder : Option Text) (rows : List Row) (values : List Given) (made : Command)
+    → (read : ArgumentOperation → Result (List Given) ScriptFault) → ((operation : ArgumentOperation) → read operation ≡ Ok (read_by operation values))
+    → values_meant (words_at (codes "VALUE") rows) ≡ Some values → argument_action folder rows ≡ Ok (run made)
+    → by_entry i folder (word_at (codes "KEY") rows) (argument_operation (word_at (codes "OPERATION") rows))
+    (place_named (word_at (codes "FUNCTION") rows) (word_at (codes "ID") rows)) read ≡ Ok made
+unfolding argument_action
+entered i folder rows values made read each meant e =
+    by-reads i folder (word_at (codes "KEY") rows) _ _ values made read each
+    (same-made i folder (word_at (codes "KEY") rows) _ _ values made (of-words folder rows values (values_meant (words_at (codes "VALUE") rows)) made meant e))
+
+set-read : (i : ℕ) (rows : List Row) (values : List Given) → values_meant (words_at (codes "VALUE") rows) ≡ Some values
+    → ok_or (each_of given_value (items_of values)) (BadField i (codes "values")) ≡ Ok values
+set-read i rows values meant =
+    ap (λ (r : Option (List Given)). ok_or r (BadField i (codes "values"))) (values-read (words_at (codes "VALUE") rows) values meant)
+
+each-read : (i : ℕ) (folder : Option Text) (rows : List Row) (values : List Given) → values_meant (words_at (codes "VALUE") rows) ≡ Some values
+    → (operation : ArgumentOperation) → values_at i operation (entry_of_words folder rows values) ≡ Ok (read_by operation values)
+each-read i None rows values meant operation.Set = set-read i rows values meant
+each-read i None rows values meant operation.Add = set-read i rows values meant
+each-read i None rows values meant operation.Delete = refl
+each-read i (Some folder) rows values meant operation.Set = set-read i rows values meant
+each-read i (Some folder) rows values meant operation.Add = set-read i rows values meant
+each-read i (Some folder) rows values meant operation.Delete = refl
+
+pub entry-law : WordsMeanTheEntry
+unfolding entry_of argument_entry value_name
+entry-law i None rows values made meant e =
+    entered i None rows values made (λ o. values_at i o (entry_of_words None rows values)) (each-read i None rows values meant) meant e
+entry-law i (Some folder) rows values made meant e =
+    entered i (Some folder) rows values made (λ o. values_at i o (entry_of_words (Some folder) rows values)) (each-read i (Some folder) rows values meant) meant e

@@ -1,0 +1,47 @@
+-- The request of the words of `arg`, and of any subcommand in the folder that is named before it.
+use Rattle.std.specs.Prelude.{List, [], ◌∷◌, bytes_eq, codes, if◌then◌else◌, Option, Some, is_some, ok_or, option_and_then, option_map, Result, Ok, Err}
+use Rattle.clap.specs.Words.{Row, Text}
+use Rattle.meson_splice.specs.Patch.{then_ok}
+use Rattle.meson_steps.specs.GivenWords.{meant_by}
+use Rattle.meson_steps.specs.declared.argument.ValueChange.{ValueChange}
+use Rattle.meson_steps.specs.declared.argument.ValueName.{ValueName}
+use Rattle.meson_steps.specs.declared.command.Command.TheVariants as command
+use Rattle.meson_steps.specs.declared.given.Given.{Given}
+use Rattle.meson_json.specs.Arguments.{change_to, keys_in, place_named}
+use Rattle.meson_json.specs.Operations.{argument_operation}
+use Rattle.meson_json.specs.declared.names.ArgumentOperation.{ArgumentOperation}
+use Rattle.meson_command.specs.Actions.{action_of, run, word_at, words_at}
+use Rattle.meson_command.specs.declared.asked.Action.{Action}
+use Rattle.meson_command.specs.declared.fault.UsageFault.{UsageFault}
+use Rattle.meson_command.specs.declared.fault.UsageFault.TheVariants.{NotCode, Usage}
+
+-- ---- arg OPERATION FUNCTION ID KEY [VALUE]...
+
+-- the values of words, if each word is one
+unfoldable pub values_meant : List Text → Option (List Given)
+values_meant [] = Some []
+values_meant (word ∷ words) = option_and_then (λ value. option_map (λ values. value ∷ values) (values_meant words)) (meant_by word)
+
+-- what names the value, in the folder alone if one is named
+abbrev pub value_named : Option Text → List Row → Option ValueName
+value_named folder rows =
+    option_map (λ name. record { place = record { name = name; folder = folder }; keys = keys_in (word_at (codes "KEY") rows) })
+    (place_named (word_at (codes "FUNCTION") rows) (word_at (codes "ID") rows))
+
+-- the change that the operation and its words mean
+abbrev pub change_meant : ArgumentOperation → List Text → Result ValueChange UsageFault
+change_meant operation words = then_ok (ok_or (values_meant words) NotCode) (λ values. ok_or (change_to operation values) Usage)
+
+unfoldable pub argument_action : Option Text → List Row → Result Action UsageFault
+argument_action folder rows =
+    then_ok (ok_or (argument_operation (word_at (codes "OPERATION") rows)) Usage) (λ operation.
+    then_ok (ok_or (value_named folder rows) Usage) (λ name.
+    then_ok (change_meant operation (words_at (codes "VALUE") rows)) (λ change. Ok (run (command.Argument name change)))))
+
+-- ---- any subcommand
+
+-- a folder is named for `arg` alone
+unfoldable pub action_within : Option Text → Text → List Row → Result Action UsageFault
+action_within folder subcommand rows =
+    if bytes_eq subcommand (codes "arg") then argument_action folder rows
+    else (if is_some folder then Err Usage else action_of subcommand rows)

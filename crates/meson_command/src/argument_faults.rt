@@ -1,0 +1,218 @@
+//! What explains words of `arg` that are no request.
+
+use crate::choices::ARGUMENT_OPERATIONS;
+use crate::keys::{all_quoted, split_pair};
+use crate::shell::quoted;
+use crate::words::word_or;
+use clap::ArgMatches;
+use meson_json::Remarks;
+use meson_json::argument::place_named;
+use meson_lex::{Kind, items};
+use meson_steps::code::{is_expression, not_list};
+use meson_syntax::{Bracket, MAX_DEPTH, ParseFault, parse_list_within};
+use std::alloc::{AllocError, Global};
+
+/// The operation on a value that a word of another kind means.
+fn meant_operation(word: &str) -> Option<&'static str> {
+    match word {
+        "rm" | "del" | "unset" | "remove" => Some("delete"),
+        "add" | "replace" | "change" => Some("set"),
+        _ => None,
+    }
+}
+
+/// Explains that the operation of `arg` is not known.
+fn explain_operation(
+    alloc: Global,
+    remarks: &mut Remarks,
+    words: &ArgMatches<'_>,
+) -> Result<(), AllocError> {
+    let operation = word_or(words, "OPERATION", "");
+    let function = word_or(words, "FUNCTION", "");
+    if ARGUMENT_OPERATIONS.has(function) {
+        let operation = quoted(alloc, operation)?;
+        remarks.help(format!(in alloc;
+            "the operation goes before the function: meson_rewrite arg {function} {operation} .."
+        )?)?;
+    }
+    ARGUMENT_OPERATIONS.refuse(alloc, remarks, operation, meant_operation(operation))
+}
+
+/// Explains that the values of `arg` are more or fewer than its operation takes.
+fn explain_values(
+    alloc: Global,
+    remarks: &mut Remarks,
+    words: &ArgMatches<'_>,
+) -> Result<(), AllocError> {
+    let key = word_or(words, "KEY", "");
+    let Some(values) = words.get_strs("VALUE") else {
+        remarks.note(format!(in alloc; "{key} has no value")?)?;
+        split_pair(alloc, remarks, &[key])?;
+        return remarks.help_words(
+            alloc,
+            "set and add take one value or several; :[] is an empty array",
+        );
+    };
+    let function = quoted(alloc, word_or(words, "FUNCTION", ""))?;
+    let id = quoted(alloc, word_or(words, "ID", ""))?;
+    let shown = quoted(alloc, key)?;
+    remarks.note_words(alloc, "delete takes no values")?;
+    remarks.help(format!(in alloc;
+        "to delete it write: meson_rewrite arg delete {function} {id} {shown}"
+    )?)?;
+    let rest = all_quoted(alloc, values)?;
+    remarks.help(format!(in alloc;
+        "to change it write: meson_rewrite arg set {function} {id} {shown}{rest}"
+    )?)
+}
+
+/// Explains that the function and the id name no place.
+fn explain_place(alloc: Global, remarks: &mut Remarks, id: &str) -> Result<(), AllocError> {
+    remarks.note(format!(in alloc; "{id} is not FILE:LINE")?)?;
+    remarks.help_words(
+        alloc,
+        "the id of at is the name of a build file, a colon and a line from 1, as src/meson.build:12",
+    )
+}
+
+/// Explains that the operation or the place of `arg` is not known, or that its values are not as many as the operation takes.
+pub(crate) fn explain_argument(
+    alloc: Global,
+    remarks: &mut Remarks,
+    words: &ArgMatches<'_>,
+) -> Result<(), AllocError> {
+    let operation = word_or(words, "OPERATION", "");
+    if !ARGUMENT_OPERATIONS.has(operation) {
+        return explain_operation(alloc, remarks, words);
+    }
+    let id = word_or(words, "ID", "");
+    let place = place_named(alloc, word_or(words, "FUNCTION", ""), id)?;
+    if place.is_none() {
+        return explain_place(alloc, remarks, id);
+    }
+    let has_values = words.get_strs("VALUE").is_some();
+    if has_values == (operation == "delete") {
+        return explain_values(alloc, remarks, words);
+    }
+    Ok(())
+}
+
+/// Why a text is not code.
+#[derive(Clone, Copy)]
+enum Flaw {
+    /// It has no token.
+    Empty,
+    /// It has a comment, or a line that is continued.
+    Remark,
+    /// A blank is at one of its ends.
+    Blank,
+    /// It is a list of several expressions, or has a comma after one.
+    Several,
+    /// Its constructs nest too deep.
+    Deep,
+    /// It does not parse.
+    Unread,
+}
+
+/// Why a text is not code by its items.
+fn flaw_of_items(code: &str) -> Option<Flaw> {
+    if code.trim().is_empty() {
+        return Some(Flaw::Empty);
+    }
+    for item in items(code.as_bytes()) {
+        if let Ok(item) = item {
+            if matches!(item.kind, Kind::Comment | Kind::Continuation) {
+                return Some(Flaw::Remark);
+            }
+        }
+    }
+    if code.trim().len() < code.len() {
+        return Some(Flaw::Blank);
+    }
+    None
+}
+
+/// Why a text is not code.
+fn flaw_of(alloc: Global, code: &str) -> Result<Flaw, AllocError> {
+    if let Some(flaw) = flaw_of_items(code) {
+        return Ok(flaw);
+    }
+    let whole = format!(in alloc; "[{code}]")?;
+    match parse_list_within(
+        alloc,
+        whole.as_str().as_bytes(),
+        Bracket::Square,
+        MAX_DEPTH + 1,
+    ) {
+        Ok(_) => Ok(Flaw::Several),
+        Err(ParseFault::TooDeep(_)) => Ok(Flaw::Deep),
+        Err(fault) => {
+            not_list(fault)?;
+            Ok(Flaw::Unread)
+        }
+    }
+}
+
+/// What it says of a flaw, and what may be done about it.
+fn words_of(flaw: Flaw) -> (&'static str, &'static str) {
+    match flaw {
+        Flaw::Empty => (
+            "has nothing after its colon",
+            "write one expression after the colon, as :zlib",
+        ),
+        Flaw::Remark => (
+            "has a comment or a continued line",
+            "write the expression without it",
+        ),
+        Flaw::Blank => (
+            "has a blank before or after its expression",
+            "write the expression without it",
+        ),
+        Flaw::Several => (
+            "is more than one expression",
+            "write each as a word, as :a :b, or all as one array, as :[a, b]",
+        ),
+        Flaw::Deep => (
+            "nests too deep",
+            "a build file may nest 64 deep, with what is around the value",
+        ),
+        Flaw::Unread => (
+            "does not parse as one expression",
+            "a text in code has quotes, as \":get_option('bindir')\"",
+        ),
+    }
+}
+
+/// Explains that what is after the colon of a value is not one expression.
+pub(crate) fn explain_code(
+    alloc: Global,
+    remarks: &mut Remarks,
+    words: &ArgMatches<'_>,
+) -> Result<(), AllocError> {
+    for word in words.get_strs("VALUE").unwrap_or(&[]) {
+        let Some(code) = word.strip_prefix(":") else {
+            continue;
+        };
+        if is_expression(alloc, code)? {
+            continue;
+        }
+        let (note, help) = words_of(flaw_of(alloc, code)?);
+        remarks.note(format!(in alloc; "{word} {note}")?)?;
+        remarks.help_words(alloc, help)?;
+        return help_text(alloc, remarks, word);
+    }
+    Ok(())
+}
+
+/// Whether a byte stays as it is in quotes of a shell, and in a literal in them.
+fn is_kept(byte: u8) -> bool {
+    byte >= 32 && !b"\"$`!\\'".contains(&byte)
+}
+
+/// How the text is given that a word with a colon is.
+fn help_text(alloc: Global, remarks: &mut Remarks, word: &str) -> Result<(), AllocError> {
+    if !word.as_bytes().iter().all(|byte| is_kept(*byte)) {
+        return Ok(());
+    }
+    remarks.help(format!(in alloc; "for the text itself write \":'{word}'\"")?)
+}
