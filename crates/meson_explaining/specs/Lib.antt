@@ -12,5 +12,4 @@ pub mod Targets
 pub mod Unknown
 pub mod Laws
 pub mod NameLaws
-pub mod Warnings
 pub mod Excerpts

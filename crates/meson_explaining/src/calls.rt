@@ -21,7 +21,10 @@ fn spot_of(call: &HeldCall) -> Spot
 }
 
 /// The note of a call; more text may be added at its end.
-pub(crate) fn call_note(alloc: Global, more: &str, call: &HeldCall) -> Result<Note, AllocError>
+///
+/// # Errors
+/// Out of memory.
+pub fn call_note(alloc: Global, more: &str, call: &HeldCall) -> Result<Note, AllocError>
     ensures { IfOk result (λ note. note ≡ call_note more.now call.now) }
 {
     let words = call_words(alloc, call)?;
@@ -42,8 +45,11 @@ pub(crate) fn plain_note(text: String) -> Note
     }
 }
 
-/// Adds the note of each call.
-pub(crate) fn add_each(
+/// Adds the note of each call; more text may be added at the end of each.
+///
+/// # Errors
+/// Out of memory.
+pub fn add_each(
     alloc: Global,
     notes: &mut Vec<Note>,
     more: &str,
@@ -58,7 +64,10 @@ pub(crate) fn add_each(
 }
 
 /// Adds a note of how many there are, unless there are none.
-pub(crate) fn add_further(
+///
+/// # Errors
+/// Out of memory.
+pub fn add_further(
     alloc: Global,
     notes: &mut Vec<Note>,
     what: &str,
@@ -75,14 +84,17 @@ pub(crate) fn add_further(
 
 /// How a list of calls is reported: at most so many, what else is said of each, and what the others are called.
 #[derive(Clone, Copy)]
-pub(crate) struct Telling<'t> {
+pub struct Telling<'t> {
     pub most: usize,
     pub more: &'t str,
     pub others: &'t str,
 }
 
 /// Adds the notes of the first calls, and of how many others there are.
-pub(crate) fn add_few(
+///
+/// # Errors
+/// Out of memory.
+pub fn add_few(
     alloc: Global,
     notes: &mut Vec<Note>,
     telling: Telling<'_>,

@@ -2,7 +2,7 @@
 #![tactic(auto)]
 
 mod bad_names;
-mod calls;
+pub mod calls;
 mod excerpts;
 mod explaining;
 mod explanation;
@@ -13,17 +13,15 @@ mod names;
 mod nearest;
 mod printable;
 mod reasons;
-mod removals;
-mod side_effects;
-mod sources;
-mod subject;
-mod targets;
+pub mod removals;
+pub mod sources;
+pub mod subject;
+pub mod targets;
 mod unknown;
-mod values;
+pub mod values;
 
 pub use excerpts::{explain_fault, fault_lines};
 pub use explaining::explain;
 pub use explanation::{Explanation, Note, Spot};
 pub use lines::{explanation_lines, warning_lines};
 pub use names::meant_name;
-pub use side_effects::warnings;

@@ -34,7 +34,7 @@ pub(crate) struct Lost<'l> {
 }
 
 /// Whether a text is one of the names.
-pub(crate) fn is_one_of(names: &[Text], text: &str) -> bool
+pub fn is_one_of(names: &[Text], text: &str) -> bool
     ensures { result ≡ is_one_of names.now text.now }
 {
     names.iter().any(|name| name.get() == text)

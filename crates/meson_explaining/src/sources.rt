@@ -53,8 +53,11 @@ fn extras_of(
 }
 
 /// The sources of the target that an id names; none if it names no one target.
+///
+/// # Errors
+/// Out of memory.
 #[tactic(auto, unfolding(crate::specs::Sources::sources_at))]
-pub(crate) fn sources_at(
+pub fn sources_at(
     alloc: Global,
     project: &Project,
     id: &str,
@@ -92,7 +95,7 @@ fn has(items: &[SourceItem], name: &str) -> bool
 }
 
 /// Whether none of the items has this name.
-pub(crate) fn is_missing(items: &[SourceItem], name: &str) -> bool
+pub fn is_missing(items: &[SourceItem], name: &str) -> bool
     ensures { result ≡ is_missing items.now name.now }
 {
     !has(items, name)

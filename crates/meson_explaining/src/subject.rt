@@ -8,7 +8,7 @@ use meson_steps::command::Command;
 
 /// The kind of a call and the id that is to name it.
 #[derive(Clone, Copy)]
-pub(crate) struct Subject<'c> {
+pub struct Subject<'c> {
     pub role: Role,
     pub id: &'c str,
 }

@@ -68,8 +68,8 @@ pub(crate) fn folder_notes(
     Ok(notes)
 }
 
-/// Where the expression at a place is.
-fn span_at(project: &Project, place: &CallRef) -> Span
+/// Where the expression at a place is; the beginning of the file if no expression is there.
+pub fn span_at(project: &Project, place: &CallRef) -> Span
     ensures { result ≡ span_at (expression_at (trees_of project.now) place.now) }
 {
     project.reads();
@@ -141,7 +141,10 @@ fn add_reads(
 }
 
 /// The places where a variable is read, in file order and source order.
-fn reads_of(alloc: Global, project: &Project, name: &str) -> Result<Vec<CallRef>, AllocError>
+///
+/// # Errors
+/// Out of memory.
+pub fn reads_of(alloc: Global, project: &Project, name: &str) -> Result<Vec<CallRef>, AllocError>
     ensures { IfOk result (λ found. found.items ≡ read_in name.now (parts (trees_of project.now))) }
 {
     project.reads();

@@ -104,8 +104,11 @@ fn argument_notes(
     Ok(notes)
 }
 
-/// The notes of the values of a key in the call that an id names.
-pub(crate) fn value_notes(
+/// The notes of the values of a key in the call that an id names; none if it names no one call.
+///
+/// # Errors
+/// Out of memory.
+pub fn value_notes(
     alloc: Global,
     project: &Project,
     subject: Subject<'_>,

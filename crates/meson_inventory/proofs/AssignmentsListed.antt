@@ -78,6 +78,7 @@ all_gathered (keeper.Assignments a) ps comes =
 all_gathered (keeper.Notes found) ps comes = let all = comes ∙ gathered false [] ps in absurd (let no : ⊥ = cc in no)
 all_gathered (keeper.Setters setters) ps comes = let all = comes ∙ gathered false [] ps in absurd (let no : ⊥ = cc in no)
 all_gathered (keeper.Reads name found) ps comes = let all = comes ∙ gathered false [] ps in absurd (let no : ⊥ = cc in no)
+all_gathered (keeper.Lists found) ps comes = let all = comes ∙ gathered false [] ps in absurd (let no : ⊥ = cc in no)
 
 -- ---- each is the assignment
 

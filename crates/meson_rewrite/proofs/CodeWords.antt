@@ -47,6 +47,7 @@ of_usage usage.OddWords advice = inr (record { meaning = codes "odd words"; word
 of_usage usage.RepeatedKey advice = inr (record { meaning = codes "repeated key"; words = refl; one_word = refl })
 of_usage usage.Unsupported advice = inr (record { meaning = codes "unsupported"; words = refl; one_word = refl })
 of_usage usage.BadTitle advice = inr (record { meaning = codes "bad title"; words = refl; one_word = refl })
+of_usage usage.NotCode advice = inr (record { meaning = codes "not code"; words = refl; one_word = refl })
 of_usage usage.OutOfMemory advice = inl (refl, refl)
 
 -- of a file

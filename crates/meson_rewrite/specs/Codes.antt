@@ -27,6 +27,7 @@ usage_code usage.OddWords = codes "U2"
 usage_code usage.RepeatedKey = codes "U3"
 usage_code usage.Unsupported = codes "U4"
 usage_code usage.BadTitle = codes "U6"
+usage_code usage.NotCode = codes "U7"
 usage_code usage.OutOfMemory = memory_code
 
 abbrev pub script_code : ScriptFault → List ℕ

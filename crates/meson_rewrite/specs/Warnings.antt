@@ -6,7 +6,7 @@ use Rattle.serde_json.specs.Written.{compact_text}
 use Rattle.meson_calls.specs.Loading.{Loaded}
 use Rattle.meson_command.specs.declared.asked.Flags.{Flags}
 use Rattle.meson_explaining.specs.Lines.{warning_lines}
-use Rattle.meson_explaining.specs.Warnings.{warnings as warnings_of}
+use Rattle.meson_warnings.specs.Warnings.{warnings as warnings_of}
 use Rattle.meson_plan.specs.Performing.{Performs}
 use Rattle.meson_steps.specs.declared.command.Command.{Command}
 use Rattle.meson_steps.specs.declared.command.Done.{Done}

@@ -24,6 +24,7 @@ fn usage_code(fault: &UsageFault) -> &'static str
         UsageFault::RepeatedKey => "U3",
         UsageFault::Unsupported => "U4",
         UsageFault::BadTitle => "U6",
+        UsageFault::NotCode => "U7",
         UsageFault::OutOfMemory => MEMORY,
     }
 }

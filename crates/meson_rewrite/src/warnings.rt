@@ -10,9 +10,10 @@ use crate::notes::{Notes, PlacedNote, placed_notes};
 use crate::request::Step;
 use crate::said::Said;
 use meson_command::Flags;
-use meson_explaining::{warning_lines, warnings};
+use meson_explaining::warning_lines;
 use meson_plan::{Command, Project};
 use meson_splice::{Bytes, Many, Text};
+use meson_warnings::warnings;
 use std::alloc::{AllocError, Global};
 
 /// The warnings of a run.

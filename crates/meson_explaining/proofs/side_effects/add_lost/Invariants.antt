@@ -1,6 +1,0 @@
-use Rattle.std.proofs.Common.{◌≡◌, ◌++◌, drop, map}
-use Rattle.meson_explaining.specs.Warnings.{lost_note}
-use Rattle.meson_explaining.proofs.side_effects.add_lost.Given as goal
-
-abbrev pub invariant-loop-value : goal.invariant-loop-value
-invariant-loop-value l = l.notes.items ++ map lost_note (drop l.value-index l.values) ≡ l.initial.notes.items ++ map lost_note l.values

@@ -1,9 +1,0 @@
-use Rattle.std.proofs.Common.{◌≡◌, ◌++◌, drop}
-use Rattle.std.specs.Prelude.{flat_map}
-use Rattle.meson_explaining.specs.Warnings.{lost_value}
-use Rattle.meson_explaining.proofs.side_effects.lost_values.Given as goal
-
-abbrev pub invariant-loop-key : goal.invariant-loop-key
-invariant-loop-key l =
-    l.notes.items ++ flat_map (λ p. lost_value l.project l.subject.role l.subject.id.now p.0) (drop l.key-index l.pairs)
-    ≡ flat_map (λ p. lost_value l.project l.subject.role l.subject.id.now p.0) l.pairs

@@ -1,0 +1,90 @@
+//! What a command that is done changes though its words do not say so.
+
+ghost use Rattle.std.specs.Prelude.{◌≡◌, ◌++◌, IfOk, flat_map};
+ghost use Rattle.meson_warnings.specs.Additions.{into_call};
+ghost use Rattle.meson_warnings.specs.Overwrites.{lost_value};
+ghost use Rattle.meson_warnings.specs.SharedLists.{shared_by_adding};
+ghost use Rattle.meson_warnings.specs.UnsetNames.{unset_names};
+ghost use Rattle.meson_warnings.specs.Warnings.{warnings};
+
+use crate::additions::into_call;
+use crate::left_variables::left_variables;
+use crate::overwrites::lost_values;
+use crate::shared_lists::{shared_by_adding, shared_by_removing};
+use crate::unset_names::unset_names;
+use meson_explaining::Note;
+use meson_explaining::subject::Subject;
+use meson_plan::Project;
+use meson_splice::Text;
+use meson_steps::command::{Command, Setting};
+use std::alloc::{AllocError, Global};
+
+/// The warnings of `kwargs set`.
+fn warn_of_set(
+    alloc: Global,
+    project: &Project,
+    subject: Subject<'_>,
+    pairs: &[(Text, Setting)],
+) -> Result<Vec<Note>, AllocError>
+    ensures { let role = subject.entry.role in let id = subject.entry.id.now in
+        IfOk result (λ notes. notes.items ≡ flat_map (λ p. lost_value project.now role id p.0) pairs.now ++ unset_names project.now role id pairs.now) }
+{
+    let mut notes = lost_values(alloc, project, subject, pairs)?;
+    let mut more = unset_names(alloc, project, subject, pairs)?;
+    notes.append(&mut more)?;
+    Ok(notes)
+}
+
+/// The warnings of `target add`.
+fn warn_of_add(
+    alloc: Global,
+    project: &Project,
+    id: &str,
+    names: &[Text],
+) -> Result<Vec<Note>, AllocError>
+    ensures { IfOk result (λ notes. notes.items ≡ into_call project.now id.now names.now ++ shared_by_adding project.now id.now names.now) }
+{
+    let mut notes = into_call(alloc, project, id, names)?;
+    let mut more = shared_by_adding(alloc, project, id, names)?;
+    notes.append(&mut more)?;
+    Ok(notes)
+}
+
+/// What a command changes though its words do not say so, if it is done on the project. `kwargs set` writes over values that no words of a command can write
+/// again. `target add` writes a new source into the call, since some of its sources are not known. `target add` and `rm` change a list that other targets use.
+/// `kwargs set` and `add` write a variable that no build file sets. `rm_target` leaves variables that nothing reads then.
+///
+/// # Errors
+/// Out of memory.
+pub fn warnings(
+    alloc: Global,
+    project: &Project,
+    command: &Command,
+) -> Result<Vec<Note>, AllocError>
+    ensures { IfOk result (λ notes. notes.items ≡ warnings project.now command.now) }
+{
+    match command {
+        Command::KwargsSet { role, id, pairs } => {
+            let subject = Subject {
+                role: *role,
+                id: id.get(),
+            };
+            warn_of_set(alloc, project, subject, pairs.get())
+        }
+        Command::KwargsAdd { role, id, pairs } => {
+            let subject = Subject {
+                role: *role,
+                id: id.get(),
+            };
+            unset_names(alloc, project, subject, pairs.get())
+        }
+        Command::SourcesAdd { target, sources } => {
+            warn_of_add(alloc, project, target.get(), sources.get())
+        }
+        Command::SourcesRemove { target, sources } => {
+            shared_by_removing(alloc, project, target.get(), sources.get())
+        }
+        Command::TargetRemove { target } => left_variables(alloc, project, target.get()),
+        _ => Ok(Vec::new(alloc)),
+    }
+}
