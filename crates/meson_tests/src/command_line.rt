@@ -68,6 +68,10 @@ fn help_tells_words_and_an_example(rt: HostRuntime) {
             "Usage: meson_rewrite kwargs <OPERATION> <FUNCTION> <ID> [KEY VALUE]...",
         ),
         (
+            "T arg --help",
+            "Usage: meson_rewrite arg <OPERATION> <FUNCTION> <ID> <KEY> [VALUE]...",
+        ),
+        (
             "T default-options --help",
             "Usage: meson_rewrite default-options <OPERATION> [OPTION VALUE]...",
         ),
@@ -101,6 +105,7 @@ fn faults_of_usage_are_told(rt: HostRuntime) {
         ("T default-options set a 1 a 2", "U3 repeated key"),
         ("T --title \t undo", "U6 bad title"),
         ("T kwargs remove_regex target e", "U4 unsupported"),
+        ("T arg set target e k :a :", "U7 not code"),
     ];
     for (line, told) in lines {
         let Some(fault) = asked(&rt, alloc, line).err() else {
