@@ -37,6 +37,7 @@ subject (command.KwargsInfo r id) = (r, id)
 subject (command.OptionsSet pairs) = (role.Project, codes "/")
 subject (command.OptionsDelete names) = (role.Project, codes "/")
 subject (command.Argument name change) = (role.Project, codes "/")
+subject (command.ArgumentInfo name) = (role.Project, codes "/")
 
 abbrev pub only_help : List ℕ → Explanation
 only_help text = record { notes = []; help = text ∷ [] }
@@ -196,7 +197,7 @@ call_explanation l c refusal.TooDeep = too_deep
 call_explanation l c refusal.TooLarge = too_large
 call_explanation l c refusal.OutOfMemory = record { notes = []; help = [] }
 
--- of a change of a value
+-- of a change of a value, or where one is reported
 abbrev pub value_explanation : Refusal → Explanation
 value_explanation (refusal.Shared name) = shared
 value_explanation (refusal.OtherKind key) = other_kind
@@ -208,4 +209,5 @@ value_explanation _ = record { notes = []; help = [] }
 
 abbrev pub explanation : Loaded → Command → Refusal → Explanation
 explanation l (command.Argument name change) why = value_explanation why
+explanation l (command.ArgumentInfo name) why = value_explanation why
 explanation l c why = call_explanation l c why

@@ -278,11 +278,12 @@ pub fn explain(
 {
     match command {
         Command::Argument { .. } => explain_value(alloc, refusal),
+        Command::ArgumentInfo { .. } => explain_value(alloc, refusal),
         _ => explain_call(alloc, project, command, refusal),
     }
 }
 
-/// Why a change of a value is refused.
+/// Why a change of a value, or a report of one, is refused.
 fn explain_value(alloc: Global, refusal: &Refusal) -> Result<Explanation, AllocError>
     ensures { IfOk result (λ e. e ≡ value_explanation refusal.now) }
 {

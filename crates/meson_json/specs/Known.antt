@@ -32,6 +32,7 @@ used_members (command.KwargsInfo role id) = codes "function" ∷ codes "id" ∷ 
 used_members (command.OptionsSet pairs) = codes "options" ∷ []
 used_members (command.OptionsDelete names) = codes "options" ∷ []
 used_members (command.Argument name c) = value_members c
+used_members (command.ArgumentInfo name) = codes "function" ∷ codes "id" ∷ codes "key" ∷ codes "in" ∷ []
 
 -- one of these, or one that says which command it is
 abbrev pub is_known : Command → List ℕ → Bool

@@ -103,6 +103,18 @@ ValueEntries =
     × gives (codes "[{'type':'arg','operation':'set','function':'target','id':'e','key':'k','values':[1]}]") (Err (BadField 0 (codes "values")))
     × gives_known (codes "[{'type':'arg','operation':'delete','function':'target','id':'e','key':'k','values':[]}]") (Err (UnknownMember 0 (codes "values")))
 
+-- what is reported of a value; the key may be left out, and there are no values
+abbrev pub InfoEntries : Type 0
+InfoEntries =
+    stands_for (codes "[{'type':'arg','operation':'info','function':'target','id':'e','key':'c_args.0'}]")
+    (command.ArgumentInfo (at_keys (called callee.Target (codes "e")) (codes "c_args" ∷ codes "0" ∷ [])))
+    × stands_for (codes "[{'type':'arg','operation':'info','function':'project','id':'/','values':1}]") (command.ArgumentInfo (at_keys (name.Project (codes "/")) []))
+    × gives_known (codes "[{'type':'arg','operation':'info','function':'variable','id':'x','key':['a.b'],'in':'s'}]")
+    (Ok (command.ArgumentInfo (record { place = record { name = name.Variable (codes "x"); folder = Some (codes "s") }; keys = codes "a.b" ∷ [] }) ∷ []))
+    × gives (codes "[{'type':'arg','operation':'info','function':'target','id':'e','key':1}]") (Err (BadField 0 (codes "key")))
+    × gives (codes "[{'type':'arg','operation':'delete','function':'target','id':'e'}]") (Err (BadField 0 (codes "key")))
+    × gives_known (codes "[{'type':'arg','operation':'info','function':'target','id':'e','values':[]}]") (Err (UnknownMember 0 (codes "values")))
+
 -- entry by entry, and each in a fixed order
 abbrev pub Faults : Type 0
 Faults =

@@ -61,6 +61,9 @@ fn is_known(command: &Command, name: &str) -> bool
         Command::KwargsInfo { .. } => name == "function" || name == "id",
         Command::OptionsSet { .. } | Command::OptionsDelete { .. } => name == "options",
         Command::Argument { change, .. } => is_known_of_value(change, name),
+        Command::ArgumentInfo { .. } => {
+            name == "function" || name == "id" || name == "key" || name == "in"
+        }
     }
 }
 

@@ -34,12 +34,13 @@ pub(crate) enum OptionsOperation {
     Delete,
 }
 
-/// What is done to a value.
+/// What is done to a value, or reported of it.
 #[derive(Clone, Copy)]
 pub enum ArgumentOperation {
     Set,
     Add,
     Delete,
+    Info,
 }
 
 pub(crate) fn find_type(name: &str) -> Option<EntryType>
@@ -125,6 +126,8 @@ pub fn find_argument_operation(name: &str) -> Option<ArgumentOperation>
         Some(ArgumentOperation::Add)
     } else if name == "delete" {
         Some(ArgumentOperation::Delete)
+    } else if name == "info" {
+        Some(ArgumentOperation::Info)
     } else {
         None
     }

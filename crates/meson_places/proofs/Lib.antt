@@ -25,3 +25,4 @@ mod SlotsThere
 mod Standing
 mod ValueListsThere
 pub mod ValuesLeft
+pub mod ValuesThere

@@ -1,6 +1,6 @@
 -- A change of a value means one thing: the tree of code is that of its text, and what is read of a project are its files and trees.
 use Rattle.std.proofs.Common.{◌≡◌, ℕ, List, [], ◌∷◌, ◌++◌, map, Option, Some, None, Result, Ok, Err, refl, sym, ap, ap₂, ◌∙◌}
-use Rattle.std.specs.Prelude.{Bool, length, not, ◌&&◌, if◌then◌else◌}
+use Rattle.std.specs.Prelude.{Bool, length, not, ok_or, ◌&&◌, if◌then◌else◌}
 use Rattle.std.specs.List.{list_all}
 use Rattle.meson_lex.specs.declared.kinds.Span.{Span}
 use Rattle.meson_lex.specs.Located.{located}
@@ -15,7 +15,7 @@ use Rattle.meson_syntax.proofs.parsing.Steps.{some-injective}
 use Rattle.meson_edit.specs.Edits.{Replace, Written}
 use Rattle.meson_calls.specs.declared.call.CallRef.{CallRef}
 use Rattle.meson_calls.specs.declared.refusal.Refusal.{Refusal}
-use Rattle.meson_calls.specs.declared.refusal.Refusal.TheVariants.{OtherKind, TooDeep}
+use Rattle.meson_calls.specs.declared.refusal.Refusal.TheVariants.{NoSuchValue, OtherKind, TooDeep}
 use Rattle.meson_calls.specs.Finding.{only_one}
 use Rattle.meson_calls.specs.Loading.{Loaded, named_trees, project, trees}
 use Rattle.meson_calls.specs.Notes.{notes}
@@ -36,7 +36,8 @@ use Rattle.meson_steps.proofs.Bracketed.{complete}
 use Rattle.meson_places.specs.declared.slots.Slot.{Slot}
 use Rattle.meson_places.specs.declared.slots.Slot.TheVariants as slot
 use Rattle.meson_places.specs.Arguments.{MayBeMade, argument_steps, last_key, set_within, slot_steps}
-use Rattle.meson_places.specs.Changes.{added_to, element_child, set_there}
+use Rattle.meson_places.specs.Changes.{added_to, element_child, set_there, slot_place}
+use Rattle.meson_places.specs.NamedValues.{value_place}
 use Rattle.meson_places.specs.Names.{found_by_id, found_within, numbered_file, places_by_id, places_on, beginning_among, lists_among, project_there, searched, searched_file, the_place}
 use Rattle.meson_places.specs.Equality.{is_old, lists_say, says}
 use Rattle.meson_places.specs.NewElements.{add_steps, add_there, add_to_last, add_to_lone, add_to_value, add_to_whole, array_with, beside, fresh_written, lone_token}
@@ -168,6 +169,11 @@ module _ (p q : Loaded) (same_files : p.files ≡ q.files) (same_trees : trees p
   found_same (name.Project id) folder = by_id (name.Project id) folder
   found_same (name.Call f id) folder = by_id (name.Call f id) folder
   found_same (name.Variable id) folder = by_id (name.Variable id) folder
+
+  pub value_places_same : (n : ValueName) → value_place p n ≡ value_place q n
+  value_places_same n =
+      ap (λ r. then_ok r (λ x. then_ok (the_slot (project p) x n.keys) (λ s. ok_or (slot_place (project p) s) (NoSuchValue (last_key n.keys))))) (found_same n.place.name n.place.folder)
+      ∙ then_alike (the_place q n.place) _ _ (λ x. alike (λ fs ts. then_ok (the_slot (named_trees fs ts) x n.keys) (λ s. ok_or (slot_place (named_trees fs ts) s) (NoSuchValue (last_key n.keys)))))
 
   set_same : (g : Given) (w : Written (Expression Nowhere)) (key : List ℕ) (s : Slot) → set_within p g w key s ≡ set_within q g w key s
   set_same g w key (slot.Element list n) =

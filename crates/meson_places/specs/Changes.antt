@@ -34,6 +34,12 @@ slot_value p (slot.Element list n) = option_map (λ c. c.value) (element_child p
 slot_value p (slot.Absent list key) = None
 slot_value p (slot.Whole c) = expression_at p c
 
+-- and its place
+abbrev pub slot_place : {S : Type 0} → Project S → Slot → Option CallRef
+slot_place p (slot.Element list n) = option_map (λ c. child list c.number) (element_child p list n)
+slot_place p (slot.Absent list key) = None
+slot_place p (slot.Whole c) = Some c
+
 -- ---- set, where a value is there
 
 -- this many elements from a number on are removed, the last one first

@@ -27,6 +27,7 @@ use Rattle.meson_steps.specs.declared.given.Given.{Given}
 use Rattle.meson_places.specs.Arguments.{MayBeMade, argument_steps}
 use Rattle.meson_places.specs.Changes.{delete_steps, replaces_texts, set_steps, slot_value}
 use Rattle.meson_places.specs.Equality.{fresh, lists_say}
+use Rattle.meson_places.specs.NamedValues.{value_place}
 use Rattle.meson_places.specs.NewElements.{add_to_value, fresh_written}
 use Rattle.meson_places.specs.Several.{AllMayBeGiven}
 use Rattle.meson_places.specs.Slots.{number_in, the_slot}
@@ -78,6 +79,14 @@ SlotIsThere p (slot.Whole c) = (e : Expression Span) × (expression_at p c ≡ S
 -- the law: so it is of the slot that keys name
 abbrev pub SlotsAreThere : Type 0
 SlotsAreThere = (p : Project Span) (c : CallRef) (keys : List (List ℕ)) (s : Slot) → the_slot p c keys ≡ Ok s → SlotIsThere p s
+
+-- an expression is at the place
+abbrev pub IsExpressionAt : Project Span → CallRef → Type 0
+IsExpressionAt p c = (e : Expression Span) × (expression_at p c ≡ Some e)
+
+-- the law: so it is where the value is that a name names
+abbrev pub ValuesAreThere : Type 0
+ValuesAreThere = (l : Loaded) (n : ValueName) (c : CallRef) → value_place l n ≡ Ok c → IsExpressionAt (project l) c
 
 -- ---- values that are set
 

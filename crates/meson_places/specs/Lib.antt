@@ -1,6 +1,7 @@
 pub mod Arguments
 pub mod Changes
 pub mod Equality
+pub mod NamedValues
 pub mod Names
 pub mod NewElements
 pub mod Room

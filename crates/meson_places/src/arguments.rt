@@ -63,7 +63,7 @@ fn reads_change(change: &ValueChange)
 }
 
 /// The key that a refusal names: the last one, or `.` without keys.
-fn last_key(alloc: Global, keys: &[Text]) -> Result<Text, AllocError>
+pub(crate) fn last_key(alloc: Global, keys: &[Text]) -> Result<Text, AllocError>
     ensures last { IfOk result (λ key. key ≡ last_key keys.now) }
     ensures texts { All IsUtf8 keys.now }
 {

@@ -1,6 +1,6 @@
 //! Laws of places. The functions do nothing: what they ensure is the law.
 
-ghost use Rattle.meson_places.specs.Laws.{AddsToOneList, ArgumentStepsAreDoable, DeletesOneElement, FindsOneCall, KeepsKind, NewAreUnknown, SetsOneValue, SlotsAreThere};
+ghost use Rattle.meson_places.specs.Laws.{AddsToOneList, ArgumentStepsAreDoable, DeletesOneElement, FindsOneCall, KeepsKind, NewAreUnknown, SetsOneValue, SlotsAreThere, ValuesAreThere};
 
 /// What a search for a call finds is a call of the function, which has the name or is assigned to the variable. It is in the files that are searched, and no
 /// other call of the function there has the name.
@@ -11,6 +11,11 @@ pub fn finds_one_call()
 /// The slot that keys name is there: its value, or a call or a dictionary that does not have the last key.
 pub fn slots_are_there()
     ensures { SlotsAreThere }
+{}
+
+/// An expression is where the value is that a name names.
+pub fn values_are_there()
+    ensures { ValuesAreThere }
 {}
 
 /// Setting a value that keeps its kind sets the value of that slot, and leaves all else in the trees.

@@ -12,6 +12,7 @@ pub mod laws;
 mod lines;
 pub mod lookup;
 pub mod name;
+pub mod named_values;
 mod naming;
 mod new_elements;
 mod room;

@@ -5,13 +5,14 @@ use Rattle.meson_splice.specs.Patch.{then_ok}
 use Rattle.meson_calls.specs.declared.call.Role.{Role}
 use Rattle.meson_calls.specs.declared.refusal.Refusal.{Refusal}
 use Rattle.meson_calls.specs.Loading.{Loaded, IsProject, project}
+use Rattle.meson_steps.specs.declared.argument.ValueName.{ValueName}
 use Rattle.meson_steps.specs.declared.command.Command.{Command}
 use Rattle.meson_steps.specs.declared.command.Command.TheVariants as command
 use Rattle.meson_steps.specs.declared.command.Done.{Done}
 use Rattle.meson_steps.specs.Steps.{Step}
 use Rattle.meson_plan.specs.Performing.{MayRefuse, Performs}
 use Rattle.meson_plan.specs.Planning.{planned}
-use Rattle.meson_plan.specs.Listing.{target_listing, kwargs_listing}
+use Rattle.meson_plan.specs.Listing.{target_listing, kwargs_listing, value_listing}
 
 -- ---- A listing is made exactly if its info command can be planned, which has no steps, and it is refused in the same way.
 
@@ -42,3 +43,6 @@ TargetsListed = (l : Loaded) (id : List ℕ) → IsListedAs l (command.TargetInf
 
 abbrev pub CallsListed : Type 0
 CallsListed = (l : Loaded) (r : Role) (id : List ℕ) → IsListedAs l (command.KwargsInfo r id) (kwargs_listing l r id)
+
+abbrev pub ValuesListed : Type 0
+ValuesListed = (l : Loaded) (n : ValueName) → IsListedAs l (command.ArgumentInfo n) (value_listing l n)
