@@ -303,6 +303,22 @@ Listed =
     × wants (codes "--json list --of=") true
     × wants (codes "list --of test --json") false
 
+-- what is reported of a value; the key may be left out
+abbrev infos_in : Option (List ℕ) → PlaceName → List (List ℕ) → Action
+infos_in folder place keys = Info (command.ArgumentInfo (record { place = record { name = place; folder = folder }; keys = keys }))
+
+abbrev pub Infos : Type 0
+Infos =
+    asks (codes "arg info target e c_args.0") (in_place (infos_in None (target_of (codes "e")) (codes "c_args" ∷ codes "0" ∷ [])))
+    × asks (codes "arg info target e") (in_place (infos_in None (target_of (codes "e")) []))
+    × asks (codes "arg info variable x .") (in_place (infos_in None (name.Variable (codes "x")) []))
+    × asks (codes "--in src arg info target --help") (in_place (infos_in (Some (codes "src")) (target_of (codes "--help")) []))
+    × asks (codes "--texts t arg info at s/meson.build:12") (texted no_flags (codes "t") (infos_in None (name.Line (codes "s/meson.build") 12) []))
+    × asks (codes "arg info target e k v") (Err Usage)
+    × asks (codes "arg info target") (Err Usage)
+    × asks (codes "arg info at meson.build") (Err Usage)
+    × asks (codes "arg add target e") (Err Usage)
+
 -- what is listed, which scripts are meant, help and the version
 abbrev pub Other : Type 0
 Other =

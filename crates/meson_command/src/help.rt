@@ -118,7 +118,7 @@ Examples:
   meson_rewrite kwargs delete target harbor install x
   meson_rewrite kwargs info dependency zlib";
 
-pub(crate) const ARGUMENT: &str = "Set, add to or delete any value of a call or a variable";
+pub(crate) const ARGUMENT: &str = "Edit or list any value of a call or a variable";
 
 pub(crate) const BELOW_ARGUMENT: &str = "\
 Options of the program, before the subcommand (see meson_rewrite --help):
@@ -130,6 +130,8 @@ Operations:
   add     add the values that its list does not have yet, at the end; of a
           sum, to its last list; an absent key gets the array of them
   delete  remove the argument, entry or element; it takes no values
+  info    list the value, or the keys and values in it; it takes no values,
+          and without KEY lists the place itself
 
 Places, each a FUNCTION with its ID:
   target ID      a call that makes a target, by its name or variable
@@ -156,7 +158,7 @@ If it is refused:
   C3   several calls have the id: use --in FOLDER, the variable, or at FILE:LINE
   C9   the value has no list to add to: set the whole value by CODE
   C21  the value is of another kind: give CODE
-  C23  no argument or element has this number: count from 0
+  C23  no value has this key: see the keys with arg info
 
 Examples:
   meson_rewrite arg set target tide c_args -DTIDE -DPIER
@@ -165,7 +167,8 @@ Examples:
   meson_rewrite arg set dependency zlib version '>=1.3'
   meson_rewrite arg set project / license.0 Zlib
   meson_rewrite arg delete target harbor install
-  meson_rewrite --in src arg set target harbor install false";
+  meson_rewrite --in src arg set target harbor install false
+  meson_rewrite arg info target harbor";
 
 pub(crate) const PLACE_FUNCTION: &str = "Where the value is, see Places";
 
@@ -204,7 +207,7 @@ operation; man meson_rewrite lists their other members:
                    target_add, target_rm, info
   kwargs           set, add, remove, delete, info
   default_options  set, delete
-  arg              set, add, delete
+  arg              set, add, delete, info
 
 All commands are done, or none.
 The script is kept as a run even if it only lists (info). --dry-run leaves the
