@@ -22,7 +22,7 @@ mod SeveralDoable
 mod SlotSteps
 mod SlotsDoable
 mod SlotsThere
-mod Standing
+pub mod Standing
 mod ValueListsThere
 pub mod ValuesLeft
 pub mod ValuesThere

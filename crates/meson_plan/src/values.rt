@@ -1,8 +1,9 @@
 //! The value that a name names, and what is reported of it.
 
 ghost use Rattle.std.specs.Prelude.{◌≡◌, IfOk, Ok};
-ghost use Rattle.meson_calls.specs.Loading.{AreParsed, loaded_from};
+ghost use Rattle.meson_calls.specs.Loading.{AreParsed};
 ghost use Rattle.meson_calls.specs.Refusals.{RefusedAs};
+ghost use Rattle.meson_places.specs.Names.{loaded_in};
 ghost use Rattle.meson_plan.specs.Values.{found_at, the_value};
 
 use crate::project::Project;
@@ -31,7 +32,7 @@ fn found_at(
     place: &CallRef,
 ) -> Result<Option<FoundValue>, AllocError>
     requires { AreParsed sources.files.now sources.trees.now }
-    ensures { IfOk result (λ found. found ≡ found_at (loaded_from sources.files.now sources.trees.now) place.now) }
+    ensures { IfOk result (λ found. found ≡ found_at (loaded_in sources.entry) place.now) }
 {
     if place.file >= sources.trees.len() {
         return Ok(None);
