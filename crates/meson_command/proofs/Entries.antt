@@ -92,10 +92,13 @@ run-of x y e = ap (λ (r : Result Action UsageFault). made_of (first_or y (made_
 abbrev named_in : Option Text → Text → PlaceName → ValueName
 named_in folder key name = record { place = record { name = name; folder = folder }; keys = keys_in key }
 
+abbrev value_in : Option Text → List Text → PlaceName → ValueName
+value_in folder keys name = record { place = record { name = name; folder = folder }; keys = keys }
+
 abbrev by_words : Option Text → Option Text → Option ArgumentOperation → Option PlaceName → List Given → Result Action UsageFault
 by_words folder w o p values =
     then_ok (ok_or o Usage) (λ operation.
-    then_ok (ok_or (option_and_then (λ keys. option_map (λ name. record { place = record { name = name; folder = folder }; keys = keys }) p) (keys_meant operation w)) Usage) (λ name.
+    then_ok (ok_or (option_and_then (λ keys. option_map (value_in folder keys) p) (keys_meant operation w)) Usage) (λ name.
     then_ok (then_ok (ok_or (Some values) NotCode) (λ values. ok_or (command_to operation name values) Usage)) (λ c. Ok (requested operation c))))
 
 -- the values that an operation reads
