@@ -45,7 +45,11 @@ fn is_hidden(source: &[u8], arguments: &List) -> bool
 }
 
 /// The text of the first argument without a name, if that is a literal.
-pub(crate) fn name_of(alloc: Global, source: &[u8], arguments: &List) -> Result<Option<Text>, AllocError>
+pub(crate) fn name_of(
+    alloc: Global,
+    source: &[u8],
+    arguments: &List,
+) -> Result<Option<Text>, AllocError>
     requires { AreGood (listing_words (list_view source.now arguments.now) Bracket.Round) }
     ensures { (function : Source) → IfOk result (λ name. name ≡ first_literal (call_with function (list_view source.now arguments.now))) }
 {

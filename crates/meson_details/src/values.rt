@@ -95,18 +95,16 @@ fn contents(
 ///
 /// # Errors
 /// Out of memory.
-pub fn value_details(
-    alloc: Global,
-    source: &[u8],
-    value: &Expr,
-) -> Result<ValueDetails, AllocError>
+pub fn value_details(alloc: Global, source: &[u8], value: &Expr) -> Result<ValueDetails, AllocError>
     requires good { AreGood (expression_words (expr_view source.now value.now)) }
     requires texts { HasTexts source.now (expr_view source.now value.now) }
     ensures { IfOk result (λ d. d ≡ value_details source.now (expr_view source.now value.now)) }
 {
     match value {
         Expr::Call {
-            name, arguments, ..
+            name,
+            arguments,
+            ..
         } => Ok(ValueDetails::Call {
             function: name_text(alloc, text_of(source, *name))?,
             name: name_of(alloc, source, arguments)?,

@@ -53,10 +53,7 @@ fn content_value(alloc: Global, key: ArgumentKey, shown: Shown) -> Result<Value,
 }
 
 /// What is in a call, an array or a dictionary.
-fn contents_value(
-    alloc: Global,
-    contents: Many<(ArgumentKey, Shown)>,
-) -> Result<Value, AllocError>
+fn contents_value(alloc: Global, contents: Many<(ArgumentKey, Shown)>) -> Result<Value, AllocError>
     ensures { IfOk result (λ v. view v ≡ contents_data contents) }
 {
     let mut list = Vec::new(alloc);

@@ -55,11 +55,7 @@ fn found_at(
 ///
 /// # Errors
 /// The place or the value is not found, or out of memory.
-pub fn find_value(
-    alloc: Global,
-    project: &Project,
-    name: &ValueName,
-) -> Result<FoundValue, Refusal>
+pub fn find_value(alloc: Global, project: &Project, name: &ValueName) -> Result<FoundValue, Refusal>
     ensures found { IfOk result (λ v. the_value project.now name.now ≡ Ok v) }
     ensures refused { RefusedAs result (the_value project.now name.now) }
 {
