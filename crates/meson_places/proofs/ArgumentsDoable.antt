@@ -22,6 +22,7 @@ use Rattle.meson_places.specs.Laws.{ArgumentStepsAreDoable, SlotIsThere}
 use Rattle.meson_places.specs.Names.{the_place}
 use Rattle.meson_places.specs.Slots.{Child, absent_slot, at_number, elements_in, in_child, nth_child, number_in, slot_from, slot_in, the_slot}
 use Rattle.meson_places.proofs.NewElementsDoable.{add_doable}
+use Rattle.meson_places.proofs.SaidDoable.{remove_doable, replace_doable}
 use Rattle.meson_places.proofs.SeveralDoable.{set_all_doable}
 use Rattle.meson_places.proofs.SlotsDoable.{KeyIsText, delete_doable, set_within_doable}
 use Rattle.meson_places.proofs.SlotsThere.{slots_are_there}
@@ -65,6 +66,8 @@ slot_doable : (old : Loaded) → IsProject old → (key : List ℕ) (c : ValueCh
 slot_doable old is key (change.Set g) may s there text steps made = set_within_doable old is g may key s text steps made
 slot_doable old is key (change.SetAll gs) may s there text steps made = set_all_doable old is gs may key s text steps made
 slot_doable old is key (change.Add gs) may s there text steps made = add_doable old is gs may key s text steps made
+slot_doable old is key (change.Remove gs) may s there text steps made = remove_doable old is gs key s steps made
+slot_doable old is key (change.Replace was new) may s there text steps made = replace_doable old is was new may key s steps made
 slot_doable old is key change.Delete may s there text steps made = delete_doable old is s there steps made
 
 pub argument_steps_are_doable : ArgumentStepsAreDoable

@@ -3,12 +3,15 @@ mod ArgumentsDoable
 mod Around
 mod ArrayWritten
 mod DepthTexts
+mod ElementsEdited
 mod Found
+mod Frames
 mod FreshValues
 mod GivenWritten
 mod KeyedWritten
 mod ListElements
 mod ListStands
+mod ListsEdited
 mod ListsThere
 mod LoneValues
 mod Meant
@@ -17,6 +20,9 @@ mod Numbers
 pub mod OneMeaning
 mod Refused
 mod RoomFound
+mod SaidDoable
+mod SaidLeft
+mod SaidSteps
 mod SetValues
 mod SeveralDoable
 mod SlotSteps
@@ -24,4 +30,5 @@ mod SlotsDoable
 mod SlotsThere
 mod Standing
 mod ValueListsThere
+mod ValuesEdited
 pub mod ValuesLeft

@@ -3,19 +3,18 @@ use Rattle.std.proofs.Common.{◌≡◌, ℕ, List, [], ◌∷◌, ◌++◌, map
 use Rattle.std.specs.Prelude.{Bool, length, not, ◌&&◌, if◌then◌else◌}
 use Rattle.std.specs.List.{list_all}
 use Rattle.meson_lex.specs.declared.kinds.Span.{Span}
-use Rattle.meson_lex.specs.Located.{located}
 use Rattle.meson_splice.specs.declared.file_set.File as files
 use Rattle.meson_splice.specs.Files.{bytes_at}
 use Rattle.meson_splice.specs.Patch.{then_ok}
 use Rattle.meson_syntax.specs.declared.operator.Bracket.TheVariants as bracket
 use Rattle.meson_syntax.specs.ReadsList.{ReadsListWithin, list_items}
-use Rattle.meson_syntax.specs.Tree.{plain, no_arguments, argument, Expression, File, Listing, listing, Nowhere, erase, erase_expression, erase_listing}
+use Rattle.meson_syntax.specs.Tree.{plain, argument, Expression, File, Listing, listing, Nowhere, erase, erase_expression, erase_listing}
 use Rattle.meson_syntax.proofs.lists.Complete.{whole_list-complete}
 use Rattle.meson_syntax.proofs.parsing.Steps.{some-injective}
-use Rattle.meson_edit.specs.Edits.{Replace, Written}
+use Rattle.meson_edit.specs.Edits.{Remove, Replace, Written}
 use Rattle.meson_calls.specs.declared.call.CallRef.{CallRef}
 use Rattle.meson_calls.specs.declared.refusal.Refusal.{Refusal}
-use Rattle.meson_calls.specs.declared.refusal.Refusal.TheVariants.{OtherKind, TooDeep}
+use Rattle.meson_calls.specs.declared.refusal.Refusal.TheVariants.{NoSuchValue, NotLiteral, NotRemovable, OtherKind, ThereAlready, TooDeep}
 use Rattle.meson_calls.specs.Finding.{only_one}
 use Rattle.meson_calls.specs.Loading.{Loaded, named_trees, project, trees}
 use Rattle.meson_calls.specs.Notes.{notes}
@@ -40,6 +39,9 @@ use Rattle.meson_places.specs.Changes.{added_to, element_child, set_there}
 use Rattle.meson_places.specs.Names.{found_by_id, found_within, numbered_file, places_by_id, places_on, beginning_among, lists_among, project_there, searched, searched_file, the_place}
 use Rattle.meson_places.specs.Equality.{is_old, lists_say, says}
 use Rattle.meson_places.specs.NewElements.{add_steps, add_there, add_to_last, add_to_lone, add_to_value, add_to_whole, array_with, beside, fresh_written, lone_token}
+use Rattle.meson_places.specs.Removals.{remove_by, remove_from, remove_steps, remove_there, remove_whole, says_other}
+use Rattle.meson_places.specs.Replacements.{Exchange, exchange, exchange_steps, replace_by, replace_in, replace_there, replace_whole}
+use Rattle.meson_places.specs.SaidElements.{lists_edited, says_one}
 use Rattle.meson_places.specs.ValueLists.{ValueList, last_of, lists_of}
 use Rattle.meson_places.specs.Room.{has_room, list_in_trees}
 use Rattle.meson_places.specs.Several.{AllMayBeGiven, add_array, all_written, array_bytes, becomes_array, if_room_for, is_text_given, put_all, put_each, set_all, set_all_there}
@@ -142,6 +144,8 @@ steps_one : (l : Loaded) (key : List ℕ) (c : ValueChange) (m k : MayBeMade c) 
 steps_one l key (change.Set g) m k s = ap (λ w. set_within l g w key s) (one_written g m k)
 steps_one l key (change.SetAll gs) m k s = set_all_one l gs m k key s
 steps_one l key (change.Add gs) m k s = add_one l gs m k key s
+steps_one l key (change.Remove gs) m k s = refl
+steps_one l key (change.Replace old new) m k s = ap (λ w. exchange_steps l (record { old = old; new = new; written = w }) key s) (one_written new m k)
 steps_one l key change.Delete m k s = refl
 
 pub arguments_one : (l : Loaded) (n : ValueName) (c : ValueChange) (m k : MayBeMade c) → argument_steps l n c m ≡ argument_steps l n c k
@@ -235,10 +239,56 @@ module _ (p q : Loaded) (same_files : p.files ≡ q.files) (same_trees : trees p
   add_same gs may key (slot.Whole c) =
       ap (add_to_whole p gs may key c) (alike (λ fs ts. expression_at (named_trees fs ts) c)) ∙ add_whole_same gs may key c (expression_at (project q) c)
 
+  from_same : (gs : List Given) (key : List ℕ) (gone : Result (List Step) Refusal) (c : CallRef) (e : Expression Span) → remove_from p key gs gone c e ≡ remove_from q key gs gone c e
+  from_same gs key gone c e = ap (λ fs. remove_by key (bytes_at c.file fs) gs gone e (lists_of c e)) same_files
+
+  remove_same : (gs : List Given) (key : List ℕ) (s : Slot) → remove_steps p gs key s ≡ remove_steps q gs key s
+  remove_same gs key (slot.Element list n) = ap (remove_there p gs key list n) (alike (λ fs ts. element_child (named_trees fs ts) list n)) ∙ go (element_child (project q) list n)
+    where
+      go : (o : Option (Child Span)) → remove_there p gs key list n o ≡ remove_there q gs key list n o
+      go None = refl
+      go (Some v) = from_same gs key (Ok (step_in list (Remove list.path.steps n) ∷ [])) (child list v.number) v.value
+  remove_same gs key (slot.Absent list k) = refl
+  remove_same gs key (slot.Whole c) = ap (remove_whole p gs key c) (alike (λ fs ts. expression_at (named_trees fs ts) c)) ∙ go (expression_at (project q) c)
+    where
+      go : (o : Option (Expression Span)) → remove_whole p gs key c o ≡ remove_whole q gs key c o
+      go None = refl
+      go (Some e) = from_same gs key (Err NotRemovable) c e
+
+  in_same : (x : Exchange) (key : List ℕ) (a b : Result (List Step) Refusal) → a ≡ b → (c : CallRef) (e : Expression Span) → replace_in p key x a c e ≡ replace_in q key x b c e
+  in_same x key a b same c e = go (lists_of c e)
+    where
+      go : (ls : List (ValueList Span)) → replace_by p key (bytes_at c.file p.files) x a ls ≡ replace_by q key (bytes_at c.file q.files) x b ls
+      go [] = same
+      go (one ∷ more) =
+          let ls = one ∷ more in
+          alike (λ fs ts. if lists_say (bytes_at c.file fs) ls x.new then Err ThereAlready
+          else (if lists_say (bytes_at c.file fs) ls x.old then (if list_all (λ y. has_room x.written.node (list_in_trees (map erase ts) y.place)) ls
+          then Ok (lists_edited (Some x.written) (says_one (bytes_at c.file fs) (x.old ∷ [])) ls) else Err TooDeep) else Err (NoSuchValue key)))
+
+  exchange_same : (x : Exchange) (key : List ℕ) (s : Slot) → exchange_steps p x key s ≡ exchange_steps q x key s
+  exchange_same x key (slot.Element list n) = ap (replace_there p x key list n) (alike (λ fs ts. element_child (named_trees fs ts) list n)) ∙ go (element_child (project q) list n)
+    where
+      go : (o : Option (Child Span)) → replace_there p x key list n o ≡ replace_there q x key list n o
+      go None = refl
+      go (Some v) =
+          in_same x key _ _
+          (alike (λ fs ts. if says (bytes_at list.file fs) x.new v.value then Err ThereAlready
+          else (if says (bytes_at list.file fs) x.old v.value then (if has_room x.written.node (list_in_trees (map erase ts) list)
+          then Ok (step_in list (Replace list.path.steps n x.written) ∷ []) else Err TooDeep) else Err (says_other key v.value)))) (child list v.number) v.value
+  exchange_same x key (slot.Absent list k) = refl
+  exchange_same x key (slot.Whole c) = ap (replace_whole p x key c) (alike (λ fs ts. expression_at (named_trees fs ts) c)) ∙ go (expression_at (project q) c)
+    where
+      go : (o : Option (Expression Span)) → replace_whole p x key c o ≡ replace_whole q x key c o
+      go None = refl
+      go (Some e) = in_same x key (Err (NotLiteral key)) (Err (NotLiteral key)) refl c e
+
   slot_same : (key : List ℕ) (c : ValueChange) (may : MayBeMade c) (s : Slot) → slot_steps p key c may s ≡ slot_steps q key c may s
   slot_same key (change.Set g) may s = set_same g (written_given g may) key s
   slot_same key (change.SetAll gs) may s = all_same gs may key s
   slot_same key (change.Add gs) may s = add_same gs may key s
+  slot_same key (change.Remove gs) may s = remove_same gs key s
+  slot_same key (change.Replace old new) may s = exchange_same (exchange old new may) key s
   slot_same key change.Delete may s = refl
 
   pub arguments_same : (n : ValueName) (c : ValueChange) (may : MayBeMade c) → argument_steps p n c may ≡ argument_steps q n c may

@@ -1,5 +1,5 @@
 -- What a change of one value leaves.
-use Rattle.std.proofs.Common.{◌≡◌, ℕ, true, false, List, [], ◌∷◌, Option, Some, None, Result, Ok, Err, refl, sym, ap, ◌∙◌, subst, inl, inr}
+use Rattle.std.proofs.Common.{◌≡◌, ℕ, true, false, List, [], ◌∷◌, Option, Some, None, Result, Ok, Err, refl, ap, ◌∙◌, inl, inr}
 use Rattle.std.specs.Prelude.{Bool, ◌⊎◌, if◌then◌else◌}
 use Rattle.meson_lex.specs.declared.kinds.Span.{Span}
 use Rattle.meson_splice.specs.Files.{bytes_at}
@@ -9,7 +9,7 @@ use Rattle.meson_edit.specs.Edits.{Replace, Written}
 use Rattle.meson_calls.specs.declared.call.CallRef.{CallRef}
 use Rattle.meson_calls.specs.declared.refusal.Refusal.{Refusal}
 use Rattle.meson_calls.specs.declared.refusal.Refusal.TheVariants.{NotLiteral, TooDeep}
-use Rattle.meson_calls.specs.Loading.{Loaded, project}
+use Rattle.meson_calls.specs.Loading.{IsProject, Loaded, project}
 use Rattle.meson_calls.specs.Project.{child, expression_at}
 use Rattle.meson_steps.specs.declared.argument.ValueChange.{ValueChange}
 use Rattle.meson_steps.specs.declared.argument.ValueChange.TheVariants as change
@@ -34,6 +34,7 @@ use Rattle.meson_places.specs.Values.{written_given}
 use Rattle.meson_places.proofs.AddedValues.{adds_to_one_list}
 use Rattle.meson_places.proofs.ArgumentsDoable.{ok_then}
 use Rattle.meson_places.proofs.ListsThere.{element_there}
+use Rattle.meson_places.proofs.SaidLeft.{element_removed, element_replaced, whole_removed, whole_replaced}
 use Rattle.meson_places.proofs.SetValues.{deletes_one_element, keeps_kinds, set_one, sets_one_value}
 use Rattle.meson_places.proofs.SlotsThere.{slots_are_there}
 
@@ -112,25 +113,31 @@ module _ (l : Loaded) (gs : List Given) (may : AllMayBeGiven gs) (key : List ℕ
       go None is m = absurd (let no : ⊥ = cc in no)
       go (Some e) is m = record { may = may; value = e; is_value = is; added = one e (to_value c e is (Err (NotLiteral key)) ⊥ (λ h. let no : ⊥ = cc in no) m) }
 
-slot_left : (l : Loaded) (key : List ℕ) (c : ValueChange) (may : MayBeMade c) (s : Slot) (steps : List Step) (after : List Plain) → slot_steps l key c may s ≡ Ok steps
+slot_left : (l : Loaded) → IsProject l → (key : List ℕ) (c : ValueChange) (may : MayBeMade c) (s : Slot) (steps : List Step) (after : List Plain) → slot_steps l key c may s ≡ Ok steps
     → all_stepped steps (plain_trees l) ≡ Some after → SlotLeft l c s (plain_trees l) after
-slot_left l key (change.Set g) may (slot.Element list n) steps after made done = set_left l g may key list n steps after made done
-slot_left l key (change.Set g) may (slot.Absent list k) steps after made done = tt
-slot_left l key (change.Set g) may (slot.Whole p) steps after made done = tt
-slot_left l key (change.SetAll gs) may s steps after made done = tt
-slot_left l key (change.Add gs) may (slot.Element list n) steps after made done = element_left l gs may key steps after done list n made
-slot_left l key (change.Add gs) may (slot.Absent list k) steps after made done = tt
-slot_left l key (change.Add gs) may (slot.Whole c) steps after made done = whole_left l gs may key steps after done c made
-slot_left l key change.Delete may (slot.Element list n) steps after made done = deletes_one_element list n steps made (plain_trees l) after done
-slot_left l key change.Delete may (slot.Absent list k) steps after made done =
+slot_left l is key (change.Set g) may (slot.Element list n) steps after made done = set_left l g may key list n steps after made done
+slot_left l is key (change.Set g) may (slot.Absent list k) steps after made done = tt
+slot_left l is key (change.Set g) may (slot.Whole p) steps after made done = tt
+slot_left l is key (change.SetAll gs) may s steps after made done = tt
+slot_left l is key (change.Add gs) may (slot.Element list n) steps after made done = element_left l gs may key steps after done list n made
+slot_left l is key (change.Add gs) may (slot.Absent list k) steps after made done = tt
+slot_left l is key (change.Add gs) may (slot.Whole c) steps after made done = whole_left l gs may key steps after done c made
+slot_left l is key (change.Remove gs) may (slot.Element list n) steps after made done = element_removed l is steps after done gs key list n made
+slot_left l is key (change.Remove gs) may (slot.Absent list k) steps after made done = tt
+slot_left l is key (change.Remove gs) may (slot.Whole c) steps after made done = whole_removed l is steps after done gs key c made
+slot_left l is key (change.Replace was new) may (slot.Element list n) steps after made done = element_replaced l is steps after done was new may key list n made
+slot_left l is key (change.Replace was new) may (slot.Absent list k) steps after made done = tt
+slot_left l is key (change.Replace was new) may (slot.Whole c) steps after made done = whole_replaced l is steps after done was new may key c made
+slot_left l is key change.Delete may (slot.Element list n) steps after made done = deletes_one_element list n steps made (plain_trees l) after done
+slot_left l is key change.Delete may (slot.Absent list k) steps after made done =
     let none : [] ≡ steps = cc in
     let same : Some (plain_trees l) ≡ Some after = ap (λ ss. all_stepped ss (plain_trees l)) none ∙ done in
     cc
-slot_left l key change.Delete may (slot.Whole p) steps after made done = tt
+slot_left l is key change.Delete may (slot.Whole p) steps after made done = tt
 
-pub values_left : (l : Loaded) (n : ValueName) (c : ValueChange) (may : MayBeMade c) (steps : List Step) (after : List Plain) → argument_steps l n c may ≡ Ok steps
+pub values_left : (l : Loaded) → IsProject l → (n : ValueName) (c : ValueChange) (may : MayBeMade c) (steps : List Step) (after : List Plain) → argument_steps l n c may ≡ Ok steps
     → all_stepped steps (plain_trees l) ≡ Some after → ValueLeft l n c (plain_trees l) after
-values_left l n c may steps after made done =
+values_left l is n c may steps after made done =
     let p = ok_then (the_place l n.place) (λ q. then_ok (the_slot (project l) q n.keys) (λ s. slot_steps l (last_key n.keys) c may s)) steps made in
     let s = ok_then (the_slot (project l) p.0 n.keys) (λ t. slot_steps l (last_key n.keys) c may t) steps p.2 in
     record {
@@ -139,5 +146,5 @@ values_left l n c may steps after made done =
       named = s.0;
       is_named = s.1;
       is_there = slots_are_there (project l) p.0 n.keys s.0 s.1;
-      left = slot_left l (last_key n.keys) c may s.0 steps after s.2 done;
+      left = slot_left l is (last_key n.keys) c may s.0 steps after s.2 done;
     }

@@ -16,6 +16,8 @@ use Rattle.meson_steps.specs.declared.given.Given.{Given}
 use Rattle.meson_places.specs.Changes.{delete_steps, set_steps}
 use Rattle.meson_places.specs.Names.{the_place}
 use Rattle.meson_places.specs.NewElements.{add_steps}
+use Rattle.meson_places.specs.Removals.{remove_steps}
+use Rattle.meson_places.specs.Replacements.{exchange, exchange_steps}
 use Rattle.meson_places.specs.Room.{if_room}
 use Rattle.meson_places.specs.Several.{AllMayBeGiven, set_all}
 use Rattle.meson_places.specs.Slots.{the_slot}
@@ -37,17 +39,21 @@ slot_list (slot.Whole c) = c
 abbrev pub set_within : Loaded → Given → Written (Expression Nowhere) → (key : List ℕ) → Slot → Result (List Step) Refusal
 set_within l g w key s = then_ok (set_steps l g w key s) (if_room l (slot_list s) w.node)
 
--- the values of a change may be given
+-- the values that a change writes may be given
 abbrev pub MayBeMade : ValueChange → Type 0
 MayBeMade (change.Set g) = MayBeGiven g
 MayBeMade (change.SetAll gs) = AllMayBeGiven gs
 MayBeMade (change.Add gs) = AllMayBeGiven gs
+MayBeMade (change.Remove gs) = Unit {0}
+MayBeMade (change.Replace old new) = MayBeGiven new
 MayBeMade change.Delete = Unit {0}
 
 abbrev pub slot_steps : Loaded → (key : List ℕ) → (c : ValueChange) → MayBeMade c → Slot → Result (List Step) Refusal
 slot_steps l key (change.Set g) may s = set_within l g (written_given g may) key s
 slot_steps l key (change.SetAll gs) may s = set_all l gs may key s
 slot_steps l key (change.Add gs) may s = add_steps l gs may key s
+slot_steps l key (change.Remove gs) may s = remove_steps l gs key s
+slot_steps l key (change.Replace old new) may s = exchange_steps l (exchange old new may) key s
 slot_steps l key change.Delete may s = delete_steps s
 
 -- the steps that change the value of a name

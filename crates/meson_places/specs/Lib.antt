@@ -1,9 +1,13 @@
 pub mod Arguments
 pub mod Changes
 pub mod Equality
+pub mod Expressions
 pub mod Names
 pub mod NewElements
+pub mod Removals
+pub mod Replacements
 pub mod Room
+pub mod SaidElements
 pub mod Several
 pub mod ValueLists
 pub mod Values

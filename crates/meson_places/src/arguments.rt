@@ -16,6 +16,8 @@ use crate::changes::{delete_steps, set_steps};
 use crate::lookup::find_place;
 use crate::name::Sources;
 use crate::new_elements::add_steps;
+use crate::removals::remove_steps;
+use crate::replacements::{Pair, replace_steps};
 use crate::room::has_room;
 use crate::several::set_all;
 use crate::slots::{Slot, find_slot};
@@ -50,7 +52,7 @@ fn reads_all(values: &[Given])
     }
 }
 
-/// The same for the values of a change.
+/// The same for the values that a change writes.
 fn reads_change(change: &ValueChange)
     ensures { MayBeMade change.now }
 {
@@ -58,6 +60,8 @@ fn reads_change(change: &ValueChange)
         ValueChange::Set(given) => reads(given),
         ValueChange::SetAll(values) => reads_all(values.get()),
         ValueChange::Add(values) => reads_all(values.get()),
+        ValueChange::Remove(_) => {}
+        ValueChange::Replace { new, .. } => reads(new),
         ValueChange::Delete => {}
     }
 }
@@ -112,7 +116,7 @@ fn set_within(
 /// The steps that change the value of a slot.
 ///
 /// # Errors
-/// The faults of `set_within`, `set_all`, `add_steps` or `delete_steps`.
+/// The faults of `set_within`, `set_all`, `add_steps`, `remove_steps`, `replace_steps` or `delete_steps`.
 fn slot_steps(
     alloc: Global,
     sources: Sources<'_>,
@@ -128,6 +132,10 @@ fn slot_steps(
         ValueChange::Set(given) => set_within(alloc, sources, given, key, slot),
         ValueChange::SetAll(values) => set_all(alloc, sources, values.get(), key, slot),
         ValueChange::Add(values) => add_steps(alloc, sources, values.get(), key, slot),
+        ValueChange::Remove(values) => remove_steps(alloc, sources, values.get(), key, slot),
+        ValueChange::Replace { old, new } => {
+            replace_steps(alloc, sources, Pair { old, new }, key, slot)
+        }
         ValueChange::Delete => delete_steps(alloc, slot),
     }
 }

@@ -1,6 +1,6 @@
 //! Laws of places. The functions do nothing: what they ensure is the law.
 
-ghost use Rattle.meson_places.specs.Laws.{AddsToOneList, ArgumentStepsAreDoable, DeletesOneElement, FindsOneCall, KeepsKind, NewAreUnknown, SetsOneValue, SlotsAreThere};
+ghost use Rattle.meson_places.specs.Laws.{AddsToOneList, ArgumentStepsAreDoable, DeletesOneElement, FindsOneCall, KeepsKind, NewAreUnknown, RemovesWhatIsSaid, ReplacesWhatIsSaid, SetsOneValue, SlotsAreThere};
 
 /// What a search for a call finds is a call of the function, which has the name or is assigned to the variable. It is in the files that are searched, and no
 /// other call of the function there has the name.
@@ -36,6 +36,16 @@ pub fn adds_to_one_list()
 /// No element of a list of the value says one of them.
 pub fn new_are_unknown()
     ensures { NewAreUnknown }
+{}
+
+/// From the lists of a value exactly those elements are removed that say one of some values.
+pub fn removes_what_is_said()
+    ensures { RemovesWhatIsSaid }
+{}
+
+/// In the lists of a value exactly those elements that say a value become another one, each in its place.
+pub fn replaces_what_is_said()
+    ensures { ReplacesWhatIsSaid }
 {}
 
 /// The steps that change a value may be done one after another.

@@ -1,8 +1,8 @@
-use Rattle.std.proofs.Common.{◌≡◌, ◌+◌, ◌<◌, List, ◌∷◌, ◌++◌, get_or, length, map, sym, ap, ◌∙◌, arith, add-one}
+use Rattle.std.proofs.Common.{◌≡◌, ◌+◌, ◌<◌, ◌∷◌, ◌++◌, get_or, length, map, sym, ap, ◌∙◌, arith, add-one}
 use Rattle.std.proofs.lemmas.List.{get_or-map, length-map}
 use Rattle.meson_places.specs.Values.{given_bytes}
 use Rattle.meson_steps.proofs.Between.{next_behind}
-use Rattle.meson_places.proofs.new_elements.beside_bytes.Goals as goal
+use Rattle.meson_places.proofs.lone_values.beside_bytes.Goals as goal
 
 pub loop-i-preserved : goal.loop-i-preserved
 loop-i-preserved c =

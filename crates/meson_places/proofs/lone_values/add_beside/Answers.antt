@@ -12,7 +12,7 @@ use Rattle.meson_places.specs.Names.{loaded_in}
 use Rattle.meson_places.specs.NewElements.{array_with, beside}
 use Rattle.meson_places.specs.Room.{if_room}
 use Rattle.meson_places.specs.Values.{given_bytes}
-use Rattle.meson_places.proofs.new_elements.add_beside.Goals as goal
+use Rattle.meson_places.proofs.lone_values.add_beside.Goals as goal
 
 some_new : (l : Loaded) (list : CallRef) (n : ℕ) (old : Written (Expression Nowhere)) (ws : List (Written (Expression Nowhere))) (vs : List Given) → map (λ w. w.bytes) ws ≡ map given_bytes vs → (length vs ≡ 0 → ⊥)
     → beside l list n old ws ≡ if_room l list (array_with old ws).node (step_in list (Replace list.path.steps n (array_with old ws)) ∷ [])

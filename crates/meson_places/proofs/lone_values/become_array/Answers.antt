@@ -10,7 +10,7 @@ use Rattle.meson_places.specs.NewElements.{array_with}
 use Rattle.meson_places.specs.Room.{has_room, list_in_trees}
 use Rattle.meson_places.proofs.LoneValues.{value_text}
 use Rattle.meson_places.proofs.Meant.{room_deep, room_fits}
-use Rattle.meson_places.proofs.new_elements.become_array.Goals as goal
+use Rattle.meson_places.proofs.lone_values.become_array.Goals as goal
 
 pub returns-then-not-branch : goal.returns-then-not-branch
 returns-then-not-branch c = record {
