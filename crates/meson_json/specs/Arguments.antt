@@ -55,10 +55,20 @@ set_to [] = None
 set_to (g ∷ []) = Some (change.Set g)
 set_to (g ∷ h ∷ gs) = Some (change.SetAll (g ∷ h ∷ gs))
 
+-- one by another
+abbrev pub replaced_by : List Given → Option ValueChange
+replaced_by [] = None
+replaced_by (g ∷ []) = None
+replaced_by (old ∷ new ∷ []) = Some (change.Replace old new)
+replaced_by (g ∷ h ∷ k ∷ gs) = None
+
 -- the change of an operation with its values, if there are as many as it takes
 abbrev pub change_to : ArgumentOperation → List Given → Option ValueChange
 change_to operation.Set gs = set_to gs
 change_to operation.Add [] = None
 change_to operation.Add (g ∷ gs) = Some (change.Add (g ∷ gs))
+change_to operation.Remove [] = None
+change_to operation.Remove (g ∷ gs) = Some (change.Remove (g ∷ gs))
+change_to operation.Replace gs = replaced_by gs
 change_to operation.Delete [] = Some change.Delete
 change_to operation.Delete (g ∷ gs) = None

@@ -113,6 +113,8 @@ keys_of _ = None
 abbrev pub values_at : ℕ → ArgumentOperation → Data → Result (List Given) ScriptFault
 values_at i argument.Set d = given (λ v. option_and_then (each_of given_value) (as_array v)) i (codes "values") [] (get (codes "values") d)
 values_at i argument.Add d = given (λ v. option_and_then (each_of given_value) (as_array v)) i (codes "values") [] (get (codes "values") d)
+values_at i argument.Remove d = given (λ v. option_and_then (each_of given_value) (as_array v)) i (codes "values") [] (get (codes "values") d)
+values_at i argument.Replace d = given (λ v. option_and_then (each_of given_value) (as_array v)) i (codes "values") [] (get (codes "values") d)
 values_at i argument.Delete d = Ok []
 
 abbrev pub change_at : ℕ → ArgumentOperation → Data → Result ValueChange ScriptFault

@@ -1,7 +1,7 @@
 //! What names a value, and the changes of a value, by a script or on the command line.
 
 ghost use Rattle.std.specs.Prelude.{◌≡◌, IfOk};
-ghost use Rattle.meson_json.specs.Arguments.{callee_of, change_to, keys_in, line_named, place_named, set_to};
+ghost use Rattle.meson_json.specs.Arguments.{callee_of, change_to, keys_in, line_named, place_named, replaced_by, set_to};
 
 use crate::count::count_of;
 use crate::members::owned;
@@ -93,7 +93,20 @@ fn set_to(values: Vec<Given>) -> Option<ValueChange>
     values.pop().map(ValueChange::Set)
 }
 
-/// The change that an operation and its values mean: one or more of `set` and `add`, none of `delete`.
+/// The change that replaces a value by another one, if two are given.
+fn replaced_by(values: Vec<Given>) -> Option<ValueChange>
+    ensures { result ≡ replaced_by values.items }
+{
+    let mut values = values;
+    if values.len() != 2 {
+        return None;
+    }
+    let new = values.pop()?;
+    let old = values.pop()?;
+    Some(ValueChange::Replace { old, new })
+}
+
+/// The change that an operation and its values mean: one or more of `set`, `add` and `remove`, two of `replace`, none of `delete`.
 pub fn change_to(operation: ArgumentOperation, values: Vec<Given>) -> Option<ValueChange>
     ensures { result ≡ change_to operation values.items }
 {
@@ -101,6 +114,9 @@ pub fn change_to(operation: ArgumentOperation, values: Vec<Given>) -> Option<Val
         ArgumentOperation::Set => set_to(values),
         ArgumentOperation::Add if values.is_empty() => None,
         ArgumentOperation::Add => Some(ValueChange::Add(Many::of(values))),
+        ArgumentOperation::Remove if values.is_empty() => None,
+        ArgumentOperation::Remove => Some(ValueChange::Remove(Many::of(values))),
+        ArgumentOperation::Replace => replaced_by(values),
         ArgumentOperation::Delete if values.is_empty() => Some(ValueChange::Delete),
         ArgumentOperation::Delete => None,
     }

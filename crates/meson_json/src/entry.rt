@@ -257,6 +257,8 @@ fn values_at(
     match operation {
         ArgumentOperation::Set => given_at(alloc, index, entry),
         ArgumentOperation::Add => given_at(alloc, index, entry),
+        ArgumentOperation::Remove => given_at(alloc, index, entry),
+        ArgumentOperation::Replace => given_at(alloc, index, entry),
         ArgumentOperation::Delete => Ok(Vec::new(alloc)),
     }
 }

@@ -33,7 +33,11 @@ fn is_known_of_value(change: &ValueChange, name: &str) -> bool
         return true;
     }
     match change {
-        ValueChange::Set(_) | ValueChange::SetAll(_) | ValueChange::Add(_) => name == "values",
+        ValueChange::Set(_)
+        | ValueChange::SetAll(_)
+        | ValueChange::Add(_)
+        | ValueChange::Remove(_)
+        | ValueChange::Replace { .. } => name == "values",
         ValueChange::Delete => false,
     }
 }

@@ -39,6 +39,8 @@ pub(crate) enum OptionsOperation {
 pub enum ArgumentOperation {
     Set,
     Add,
+    Remove,
+    Replace,
     Delete,
 }
 
@@ -123,6 +125,10 @@ pub fn find_argument_operation(name: &str) -> Option<ArgumentOperation>
         Some(ArgumentOperation::Set)
     } else if name == "add" {
         Some(ArgumentOperation::Add)
+    } else if name == "remove" {
+        Some(ArgumentOperation::Remove)
+    } else if name == "replace" {
+        Some(ArgumentOperation::Replace)
     } else if name == "delete" {
         Some(ArgumentOperation::Delete)
     } else {
