@@ -102,6 +102,8 @@ by_words folder key o p values =
 abbrev read_by : ArgumentOperation → List Given → List Given
 read_by operation.Set values = values
 read_by operation.Add values = values
+read_by operation.Remove values = values
+read_by operation.Replace values = values
 read_by operation.Delete values = []
 
 abbrev by_entry : ℕ → Option Text → Text → Option ArgumentOperation → Option PlaceName → (ArgumentOperation → Result (List Given) ScriptFault) → Result Command ScriptFault
@@ -122,6 +124,8 @@ same-made i folder key None p values made e = cc
 same-made i folder key (Some o) None values made e = cc
 same-made i folder key (Some operation.Set) (Some name) values made e = one-change i (named_in folder key name) (change_to operation.Set values) made e
 same-made i folder key (Some operation.Add) (Some name) values made e = one-change i (named_in folder key name) (change_to operation.Add values) made e
+same-made i folder key (Some operation.Remove) (Some name) values made e = one-change i (named_in folder key name) (change_to operation.Remove values) made e
+same-made i folder key (Some operation.Replace) (Some name) values made e = one-change i (named_in folder key name) (change_to operation.Replace values) made e
 same-made i folder key (Some operation.Delete) (Some name) [] made e = one-change i (named_in folder key name) (change_to operation.Delete []) made e
 same-made i folder key (Some operation.Delete) (Some name) (g ∷ gs) made e = cc
 
@@ -166,9 +170,13 @@ each-read : (i : ℕ) (folder : Option Text) (rows : List Row) (values : List Gi
     → (operation : ArgumentOperation) → values_at i operation (entry_of_words folder rows values) ≡ Ok (read_by operation values)
 each-read i None rows values meant operation.Set = set-read i rows values meant
 each-read i None rows values meant operation.Add = set-read i rows values meant
+each-read i None rows values meant operation.Remove = set-read i rows values meant
+each-read i None rows values meant operation.Replace = set-read i rows values meant
 each-read i None rows values meant operation.Delete = refl
 each-read i (Some folder) rows values meant operation.Set = set-read i rows values meant
 each-read i (Some folder) rows values meant operation.Add = set-read i rows values meant
+each-read i (Some folder) rows values meant operation.Remove = set-read i rows values meant
+each-read i (Some folder) rows values meant operation.Replace = set-read i rows values meant
 each-read i (Some folder) rows values meant operation.Delete = refl
 
 pub entry-law : WordsMeanTheEntry

@@ -12,11 +12,15 @@ use meson_steps::code::{is_expression, not_list};
 use meson_syntax::{Bracket, MAX_DEPTH, ParseFault, parse_list_within};
 use std::alloc::{AllocError, Global};
 
+const TWO_VALUES: &str = "replace takes two values, the old one and the new one";
+
 /// The operation on a value that a word of another kind means.
 fn meant_operation(word: &str) -> Option<&'static str> {
     match word {
-        "rm" | "del" | "unset" | "remove" => Some("delete"),
-        "add" | "replace" | "change" => Some("set"),
+        "rm" => Some("remove"),
+        "del" | "unset" => Some("delete"),
+        "rename" => Some("replace"),
+        "change" => Some("set"),
         _ => None,
     }
 }
@@ -38,6 +42,28 @@ fn explain_operation(
     ARGUMENT_OPERATIONS.refuse(alloc, remarks, operation, meant_operation(operation))
 }
 
+/// Explains that `arg` has no values, and what its operation takes.
+fn explain_no_values(
+    alloc: Global,
+    remarks: &mut Remarks,
+    operation: &str,
+    key: &str,
+) -> Result<(), AllocError> {
+    remarks.note(format!(in alloc; "{key} has no value")?)?;
+    split_pair(alloc, remarks, &[key])?;
+    match operation {
+        "remove" => remarks.help_words(
+            alloc,
+            "remove takes one value or several; without values delete removes all of it",
+        ),
+        "replace" => remarks.help_words(alloc, TWO_VALUES),
+        _ => remarks.help_words(
+            alloc,
+            "set and add take one value or several; :[] is an empty array",
+        ),
+    }
+}
+
 /// Explains that the values of `arg` are more or fewer than its operation takes.
 fn explain_values(
     alloc: Global,
@@ -45,14 +71,13 @@ fn explain_values(
     words: &ArgMatches<'_>,
 ) -> Result<(), AllocError> {
     let key = word_or(words, "KEY", "");
+    let operation = word_or(words, "OPERATION", "");
     let Some(values) = words.get_strs("VALUE") else {
-        remarks.note(format!(in alloc; "{key} has no value")?)?;
-        split_pair(alloc, remarks, &[key])?;
-        return remarks.help_words(
-            alloc,
-            "set and add take one value or several; :[] is an empty array",
-        );
+        return explain_no_values(alloc, remarks, operation, key);
     };
+    if operation == "replace" {
+        return remarks.note_words(alloc, TWO_VALUES);
+    }
     let function = quoted(alloc, word_or(words, "FUNCTION", ""))?;
     let id = quoted(alloc, word_or(words, "ID", ""))?;
     let shown = quoted(alloc, key)?;
@@ -90,8 +115,13 @@ pub(crate) fn explain_argument(
     if place.is_none() {
         return explain_place(alloc, remarks, id);
     }
-    let has_values = words.get_strs("VALUE").is_some();
-    if has_values == (operation == "delete") {
+    let many = words.get_strs("VALUE").map_or(0, |values| values.len());
+    let fits = match operation {
+        "delete" => many == 0,
+        "replace" => many == 2,
+        _ => many > 0,
+    };
+    if !fits {
         return explain_values(alloc, remarks, words);
     }
     Ok(())
