@@ -57,7 +57,7 @@ module _ (c : CallRef) (many : ℕ) where
   path = c.path.steps
 
   -- the edit of an element behind all others
-  edit_behind : (t : Plain) (q : ListAt Nowhere) → list_at t path ≡ Some q → (new : Written (Argument Nowhere)) (i : ℕ) → length (elements q.list) ≡ i → (trees : List Plain) → nth trees c.file ≡ Some t
+  pub edit_behind : (t : Plain) (q : ListAt Nowhere) → list_at t path ≡ Some q → (new : Written (Argument Nowhere)) (i : ℕ) → length (elements q.list) ≡ i → (trees : List Plain) → nth trees c.file ≡ Some t
       → stepped (behind_all c i new) trees ≡ Some (slice_set trees c.file (q.back (with_elements q.list (elements q.list ++ new.node ∷ []))))
   edit_behind t q at_ new zero count trees is_tree =
       let xs = elements q.list in

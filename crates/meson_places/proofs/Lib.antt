@@ -7,6 +7,7 @@ mod Found
 mod FreshValues
 mod GivenWritten
 mod KeyedWritten
+mod KeysLeft
 mod ListElements
 mod ListStands
 mod ListsThere
@@ -15,6 +16,7 @@ mod Meant
 mod NewElementsDoable
 mod Numbers
 pub mod OneMeaning
+mod Pushed
 mod Refused
 mod RoomFound
 mod SetValues
@@ -25,3 +27,4 @@ mod SlotsThere
 mod Standing
 mod ValueListsThere
 pub mod ValuesLeft
+mod WithRoom

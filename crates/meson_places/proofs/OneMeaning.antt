@@ -35,7 +35,9 @@ use Rattle.meson_steps.specs.WrittenTexts.{array_of_values}
 use Rattle.meson_steps.proofs.Bracketed.{complete}
 use Rattle.meson_places.specs.declared.slots.Slot.{Slot}
 use Rattle.meson_places.specs.declared.slots.Slot.TheVariants as slot
-use Rattle.meson_places.specs.Arguments.{MayBeMade, argument_steps, last_key, set_within, slot_steps}
+use Rattle.meson_places.specs.Arguments.{MayBeMade, argument_steps, last_key, named_steps, set_within, slot_steps}
+use Rattle.meson_places.specs.TargetNames.{checked_name}
+use Rattle.meson_places.specs.Colons.{ends_among, ends_in_file}
 use Rattle.meson_places.specs.Changes.{added_to, element_child, set_there}
 use Rattle.meson_places.specs.Names.{found_by_id, found_within, numbered_file, places_by_id, places_on, beginning_among, lists_among, project_there, searched, searched_file, the_place}
 use Rattle.meson_places.specs.Equality.{is_old, lists_say, says}
@@ -98,7 +100,7 @@ module _ (l : Loaded) (gs : List Given) (m k : AllMayBeGiven gs) (key : List ℕ
 
   added_one : add_array l gs m key list ≡ add_array l gs k key list
   added_one =
-      ap (λ (ws : Values). then_ok (added_to (bytes_at list.file l.files) (record { bytes = array_bytes gs; node = array_node ws }) key list (expression_at (project l) list))
+      ap (λ (ws : Values). then_ok (added_to (bytes_at list.file l.files) (ends_in_file l list.file) (record { bytes = array_bytes gs; node = array_node ws }) key list (expression_at (project l) list))
       (λ steps. if has_room (array_node ws) (list_in_trees (plain_trees l) list) then Ok steps else Err TooDeep))
       (all_one gs m k)
 
@@ -146,7 +148,7 @@ steps_one l key change.Delete m k s = refl
 
 pub arguments_one : (l : Loaded) (n : ValueName) (c : ValueChange) (m k : MayBeMade c) → argument_steps l n c m ≡ argument_steps l n c k
 arguments_one l n c m k =
-    then_alike (the_place l n.place) _ _ (λ p. then_alike (the_slot (project l) p n.keys) _ _ (λ s. steps_one l (last_key n.keys) c m k s))
+    then_alike (the_place l n.place) _ _ (λ p. then_alike (the_slot (project l) p n.keys) _ _ (λ s. then_alike (checked_name (project l) (last_key n.keys) c s) _ _ (λ _. steps_one l (last_key n.keys) c m k s)))
 
 -- ---- the steps, by the files and trees of a project
 
@@ -173,7 +175,7 @@ module _ (p q : Loaded) (same_files : p.files ≡ q.files) (same_trees : trees p
   set_same g w key (slot.Element list n) =
       alike (λ fs ts. then_ok (set_there g w key list n (element_child (named_trees fs ts) list n)) (λ steps. if has_room w.node (list_in_trees (map erase ts) list) then Ok steps else Err TooDeep))
   set_same g w key (slot.Absent list k) =
-      alike (λ fs ts. then_ok (added_to (bytes_at list.file fs) w k list (expression_at (named_trees fs ts) list)) (λ steps. if has_room w.node (list_in_trees (map erase ts) list) then Ok steps else Err TooDeep))
+      alike (λ fs ts. then_ok (added_to (bytes_at list.file fs) (ends_among list.file (nth_file (named_trees fs ts) list.file)) w k list (expression_at (named_trees fs ts) list)) (λ steps. if has_room w.node (list_in_trees (map erase ts) list) then Ok steps else Err TooDeep))
   set_same g w key (slot.Whole c) = refl
 
   all_there_same : (gs : List Given) (may : AllMayBeGiven gs) (key : List ℕ) (list : CallRef) (n : ℕ) (o : Option (Child Span)) → set_all_there p gs may key list n o ≡ set_all_there q gs may key list n o
@@ -194,7 +196,7 @@ module _ (p q : Loaded) (same_files : p.files ≡ q.files) (same_trees : trees p
       ap (set_all_there p gs may key list n) (alike (λ fs ts. element_child (named_trees fs ts) list n)) ∙ all_there_same gs may key list n (element_child (project q) list n)
   all_same gs may key (slot.Absent list k) =
       let node = array_node (all_written gs may) in
-      alike (λ fs ts. then_ok (added_to (bytes_at list.file fs) (record { bytes = array_bytes gs; node = node }) k list (expression_at (named_trees fs ts) list))
+      alike (λ fs ts. then_ok (added_to (bytes_at list.file fs) (ends_among list.file (nth_file (named_trees fs ts) list.file)) (record { bytes = array_bytes gs; node = node }) k list (expression_at (named_trees fs ts) list))
       (λ steps. if has_room node (list_in_trees (map erase ts) list) then Ok steps else Err TooDeep))
   all_same gs may key (slot.Whole c) = refl
 
@@ -241,9 +243,14 @@ module _ (p q : Loaded) (same_files : p.files ≡ q.files) (same_trees : trees p
   slot_same key (change.Add gs) may s = add_same gs may key s
   slot_same key change.Delete may s = refl
 
+  named_same : (key : List ℕ) (c : ValueChange) (may : MayBeMade c) (s : Slot) → named_steps p key c may s ≡ named_steps q key c may s
+  named_same key c may s =
+      ap (λ r. then_ok r (λ _. slot_steps p key c may s)) (alike (λ fs ts. checked_name (named_trees fs ts) key c s))
+      ∙ then_alike (checked_name (project q) key c s) _ _ (λ _. slot_same key c may s)
+
   pub arguments_same : (n : ValueName) (c : ValueChange) (may : MayBeMade c) → argument_steps p n c may ≡ argument_steps q n c may
   arguments_same n c may =
-      ap (λ r. then_ok r (λ x. then_ok (the_slot (project p) x n.keys) (λ s. slot_steps p (last_key n.keys) c may s))) (found_same n.place.name n.place.folder)
+      ap (λ r. then_ok r (λ x. then_ok (the_slot (project p) x n.keys) (λ s. named_steps p (last_key n.keys) c may s))) (found_same n.place.name n.place.folder)
       ∙ then_alike (the_place q n.place) _ _ (λ x.
-      ap (λ r. then_ok r (λ s. slot_steps p (last_key n.keys) c may s)) (alike (λ fs ts. the_slot (named_trees fs ts) x n.keys))
-      ∙ then_alike (the_slot (project q) x n.keys) _ _ (λ s. slot_same (last_key n.keys) c may s))
+      ap (λ r. then_ok r (λ s. named_steps p (last_key n.keys) c may s)) (alike (λ fs ts. the_slot (named_trees fs ts) x n.keys))
+      ∙ then_alike (the_slot (project q) x n.keys) _ _ (λ s. named_same (last_key n.keys) c may s))

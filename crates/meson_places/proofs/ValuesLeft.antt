@@ -20,7 +20,8 @@ use Rattle.meson_steps.specs.ResultLimits.{plain_trees}
 use Rattle.meson_steps.specs.Steps.{Step, all_stepped, step_in}
 use Rattle.meson_places.specs.declared.slots.Slot.{Slot}
 use Rattle.meson_places.specs.declared.slots.Slot.TheVariants as slot
-use Rattle.meson_places.specs.Arguments.{MayBeMade, argument_steps, last_key, set_within, slot_steps}
+use Rattle.meson_places.specs.Arguments.{MayBeMade, argument_steps, last_key, named_steps, set_within, slot_steps}
+use Rattle.meson_places.specs.TargetNames.{checked_name}
 use Rattle.meson_places.specs.Changes.{element_child, set_steps}
 use Rattle.meson_places.specs.Equality.{lists_say, says}
 use Rattle.meson_places.specs.Effects.{AddedBeside, AddedTo, ElementAdded, IsBeside, WholeAdded, SetLeft, SlotLeft, ValueLeft}
@@ -34,15 +35,10 @@ use Rattle.meson_places.specs.Values.{written_given}
 use Rattle.meson_places.proofs.AddedValues.{adds_to_one_list}
 use Rattle.meson_places.proofs.ArgumentsDoable.{ok_then}
 use Rattle.meson_places.proofs.ListsThere.{element_there}
+use Rattle.meson_places.proofs.KeysLeft.{array_added, array_set, key_set}
 use Rattle.meson_places.proofs.SetValues.{deletes_one_element, keeps_kinds, set_one, sets_one_value}
 use Rattle.meson_places.proofs.SlotsThere.{slots_are_there}
-
-with_room : (l : Loaded) (list : CallRef) (e : Expression Nowhere) (some steps : List Step) → if_room l list e some ≡ Ok steps → some ≡ steps
-with_room l list e some steps is = go (has_room e (list_in_trees (plain_trees l) list)) is
-  where
-    go : (b : Bool) → (if b then Ok some else Err TooDeep) ≡ Ok steps → some ≡ steps
-    go true h = cc
-    go false h = absurd (let no : ⊥ = cc in no)
+use Rattle.meson_places.proofs.WithRoom.{with_room}
 
 -- a value that is there
 set_left : (l : Loaded) (g : Given) (may : MayBeGiven g) (key : List ℕ) (list : CallRef) (n : ℕ) (steps : List Step) (after : List Plain)
@@ -115,11 +111,13 @@ module _ (l : Loaded) (gs : List Given) (may : AllMayBeGiven gs) (key : List ℕ
 slot_left : (l : Loaded) (key : List ℕ) (c : ValueChange) (may : MayBeMade c) (s : Slot) (steps : List Step) (after : List Plain) → slot_steps l key c may s ≡ Ok steps
     → all_stepped steps (plain_trees l) ≡ Some after → SlotLeft l c s (plain_trees l) after
 slot_left l key (change.Set g) may (slot.Element list n) steps after made done = set_left l g may key list n steps after made done
-slot_left l key (change.Set g) may (slot.Absent list k) steps after made done = tt
+slot_left l key (change.Set g) may (slot.Absent list k) steps after made done = record { may = may; added = key_set l g may key list k steps after made done }
 slot_left l key (change.Set g) may (slot.Whole p) steps after made done = tt
-slot_left l key (change.SetAll gs) may s steps after made done = tt
+slot_left l key (change.SetAll gs) may (slot.Element list n) steps after made done = array_set l gs may steps after done key list n made
+slot_left l key (change.SetAll gs) may (slot.Absent list k) steps after made done = array_added l gs may steps after done list k made
+slot_left l key (change.SetAll gs) may (slot.Whole p) steps after made done = tt
 slot_left l key (change.Add gs) may (slot.Element list n) steps after made done = element_left l gs may key steps after done list n made
-slot_left l key (change.Add gs) may (slot.Absent list k) steps after made done = tt
+slot_left l key (change.Add gs) may (slot.Absent list k) steps after made done = array_added l gs may steps after done list k made
 slot_left l key (change.Add gs) may (slot.Whole c) steps after made done = whole_left l gs may key steps after done c made
 slot_left l key change.Delete may (slot.Element list n) steps after made done = deletes_one_element list n steps made (plain_trees l) after done
 slot_left l key change.Delete may (slot.Absent list k) steps after made done =
@@ -131,13 +129,14 @@ slot_left l key change.Delete may (slot.Whole p) steps after made done = tt
 pub values_left : (l : Loaded) (n : ValueName) (c : ValueChange) (may : MayBeMade c) (steps : List Step) (after : List Plain) → argument_steps l n c may ≡ Ok steps
     → all_stepped steps (plain_trees l) ≡ Some after → ValueLeft l n c (plain_trees l) after
 values_left l n c may steps after made done =
-    let p = ok_then (the_place l n.place) (λ q. then_ok (the_slot (project l) q n.keys) (λ s. slot_steps l (last_key n.keys) c may s)) steps made in
-    let s = ok_then (the_slot (project l) p.0 n.keys) (λ t. slot_steps l (last_key n.keys) c may t) steps p.2 in
+    let p = ok_then (the_place l n.place) (λ q. then_ok (the_slot (project l) q n.keys) (λ s. named_steps l (last_key n.keys) c may s)) steps made in
+    let s = ok_then (the_slot (project l) p.0 n.keys) (λ t. named_steps l (last_key n.keys) c may t) steps p.2 in
+    let u = ok_then (checked_name (project l) (last_key n.keys) c s.0) (λ _. slot_steps l (last_key n.keys) c may s.0) steps s.2 in
     record {
       place = p.0;
       is_place = p.1;
       named = s.0;
       is_named = s.1;
       is_there = slots_are_there (project l) p.0 n.keys s.0 s.1;
-      left = slot_left l (last_key n.keys) c may s.0 steps after s.2 done;
+      left = slot_left l (last_key n.keys) c may s.0 steps after u.2 done;
     }

@@ -19,6 +19,7 @@ use Rattle.meson_places.specs.NewElements.{add_steps}
 use Rattle.meson_places.specs.Room.{if_room}
 use Rattle.meson_places.specs.Several.{AllMayBeGiven, set_all}
 use Rattle.meson_places.specs.Slots.{the_slot}
+use Rattle.meson_places.specs.TargetNames.{checked_name}
 use Rattle.meson_steps.specs.GivenWords.{MayBeGiven}
 use Rattle.meson_places.specs.Values.{written_given}
 
@@ -50,7 +51,11 @@ slot_steps l key (change.SetAll gs) may s = set_all l gs may key s
 slot_steps l key (change.Add gs) may s = add_steps l gs may key s
 slot_steps l key change.Delete may s = delete_steps s
 
+-- the same, unless the value is a text that becomes the name of a target, and another target has that name
+abbrev pub named_steps : Loaded → (key : List ℕ) → (c : ValueChange) → MayBeMade c → Slot → Result (List Step) Refusal
+named_steps l key c may s = then_ok (checked_name (project l) key c s) (λ _. slot_steps l key c may s)
+
 -- the steps that change the value of a name
 abbrev pub argument_steps : Loaded → ValueName → (c : ValueChange) → MayBeMade c → Result (List Step) Refusal
 argument_steps l n c may =
-    then_ok (the_place l n.place) (λ p. then_ok (the_slot (project l) p n.keys) (λ s. slot_steps l (last_key n.keys) c may s))
+    then_ok (the_place l n.place) (λ p. then_ok (the_slot (project l) p n.keys) (λ s. named_steps l (last_key n.keys) c may s))

@@ -16,6 +16,7 @@ use Rattle.meson_places.specs.declared.slots.Slot.{Slot}
 use Rattle.meson_places.specs.declared.slots.Slot.TheVariants as slot
 use Rattle.meson_places.specs.Changes.{element_child}
 use Rattle.meson_places.specs.Equality.{lists_say, says}
+use Rattle.meson_places.specs.KeyEffects.{ArrayAdded, ArraySet, GivenAdded}
 use Rattle.meson_places.specs.Laws.{HasAlso, IsWithout, MaySet, SlotIs, SlotIsThere}
 use Rattle.meson_places.specs.Names.{the_place}
 use Rattle.meson_places.specs.NewElements.{array_with, fresh_written, lone_token}
@@ -65,7 +66,11 @@ pub record WholeAdded (old : Loaded) (gs : List Given) (c : CallRef) (before aft
 -- what a change leaves of a slot
 abbrev pub SlotLeft : Loaded → ValueChange → Slot → (before after : List Plain) → Type 0
 SlotLeft old (change.Set g) (slot.Element list n) before after = SetLeft old g list n before after
+SlotLeft old (change.Set g) (slot.Absent list key) before after = GivenAdded old g list key before after
+SlotLeft old (change.SetAll gs) (slot.Element list n) before after = ArraySet old gs list n before after
+SlotLeft old (change.SetAll gs) (slot.Absent list key) before after = ArrayAdded old gs list key before after
 SlotLeft old (change.Add gs) (slot.Element list n) before after = ElementAdded old gs list n before after
+SlotLeft old (change.Add gs) (slot.Absent list key) before after = ArrayAdded old gs list key before after
 SlotLeft old (change.Add gs) (slot.Whole c) before after = WholeAdded old gs c before after
 SlotLeft old change.Delete (slot.Element list n) before after = IsWithout list n before after
 SlotLeft old change.Delete (slot.Absent list key) before after = after ≡ before

@@ -28,7 +28,7 @@ use Rattle.meson_places.specs.Arguments.{MayBeMade, argument_steps}
 use Rattle.meson_places.specs.Changes.{delete_steps, replaces_texts, set_steps, slot_value}
 use Rattle.meson_places.specs.Equality.{fresh, lists_say}
 use Rattle.meson_places.specs.NewElements.{add_to_value, fresh_written}
-use Rattle.meson_places.specs.Several.{AllMayBeGiven}
+use Rattle.meson_places.specs.Several.{AllMayBeGiven, all_written}
 use Rattle.meson_places.specs.Slots.{number_in, the_slot}
 use Rattle.meson_places.specs.ValueLists.{ValueList, last_of, lists_of}
 use Rattle.meson_places.specs.Values.{keeps_kind}
@@ -157,6 +157,11 @@ AddsToOneList = (l : Loaded) (gs : List Given) (may : AllMayBeGiven gs) (otherwi
 -- the law: the new ones are not known
 abbrev pub NewAreUnknown : Type 0
 NewAreUnknown = (known : Given → Bool) (before gs : List Given) → list_all (λ g. not (known g)) (fresh known before gs) ≡ true
+
+-- the law: what is written for them is written for each of them
+abbrev pub NewAreWritten : Type 0
+NewAreWritten = (known : Given → Bool) (before gs : List Given) (may : AllMayBeGiven gs)
+    → (new : AllMayBeGiven (fresh known before gs)) × (fresh_written known before gs may ≡ all_written (fresh known before gs) new)
 
 -- ---- steps that may be done
 

@@ -1,5 +1,6 @@
 pub mod Arguments
 pub mod Changes
+pub mod Colons
 pub mod Equality
 pub mod Names
 pub mod NewElements
@@ -8,6 +9,8 @@ pub mod Several
 pub mod ValueLists
 pub mod Values
 pub mod Slots
+pub mod TargetNames
 pub mod Laws
 pub mod Effects
+pub mod KeyEffects
 pub mod inside

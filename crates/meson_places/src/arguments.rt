@@ -19,6 +19,7 @@ use crate::new_elements::add_steps;
 use crate::room::has_room;
 use crate::several::set_all;
 use crate::slots::{Slot, find_slot};
+use crate::target_names::checked_name;
 use meson_calls::{CallRef, Refusal};
 use meson_splice::Text;
 use meson_steps::argument::{ValueChange, ValueName};
@@ -135,7 +136,8 @@ fn slot_steps(
 /// The steps that change the value of a name. They may be done one after another on the project.
 ///
 /// # Errors
-/// The place or the value is not found; the change does not suit the value; the file would nest too deep; or out of memory.
+/// The place or the value is not found; another target has the name that a target gets; the change does not suit the value; the file would nest too deep; or out
+/// of memory.
 pub fn argument_steps(
     alloc: Global,
     sources: Sources<'_>,
@@ -153,5 +155,6 @@ pub fn argument_steps(
     let keys = name.keys.get();
     let slot = find_slot(alloc, sources, &place, keys)?;
     let key = last_key(alloc, keys)?;
+    checked_name(alloc, sources, &key, change, &slot)?;
     slot_steps(alloc, sources, &key, change, &slot)
 }

@@ -1,6 +1,6 @@
 //! Laws of places. The functions do nothing: what they ensure is the law.
 
-ghost use Rattle.meson_places.specs.Laws.{AddsToOneList, ArgumentStepsAreDoable, DeletesOneElement, FindsOneCall, KeepsKind, NewAreUnknown, SetsOneValue, SlotsAreThere};
+ghost use Rattle.meson_places.specs.Laws.{AddsToOneList, ArgumentStepsAreDoable, DeletesOneElement, FindsOneCall, KeepsKind, NewAreUnknown, NewAreWritten, SetsOneValue, SlotsAreThere};
 
 /// What a search for a call finds is a call of the function, which has the name or is assigned to the variable. It is in the files that are searched, and no
 /// other call of the function there has the name.
@@ -36,6 +36,11 @@ pub fn adds_to_one_list()
 /// No element of a list of the value says one of them.
 pub fn new_are_unknown()
     ensures { NewAreUnknown }
+{}
+
+/// What is written for the new ones is what is written for each of them.
+pub fn new_are_written()
+    ensures { NewAreWritten }
 {}
 
 /// The steps that change a value may be done one after another.

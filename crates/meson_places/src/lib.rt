@@ -18,6 +18,7 @@ mod room;
 mod several;
 pub mod slots;
 pub mod spans;
+mod target_names;
 mod value_lists;
 pub mod values;
 
