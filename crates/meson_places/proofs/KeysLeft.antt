@@ -1,22 +1,20 @@
 -- What a key leaves that was absent, and several values in the place of one.
-use Rattle.std.proofs.Common.{◌≡◌, ℕ, true, false, List, [], ◌∷◌, ◌++◌, length, map, Option, Some, None, Result, Ok, Err, refl, sym, ap, ◌∙◌}
+use Rattle.std.proofs.Common.{◌≡◌, ℕ, true, false, List, [], ◌∷◌, ◌++◌, length, Option, Some, None, Ok, Err, refl, sym, ap, ◌∙◌}
 use Rattle.std.specs.Prelude.{Bool, slice_set, if◌then◌else◌}
 use Rattle.std.proofs.lemmas.List.{length-map}
 use Rattle.meson_lex.specs.declared.kinds.Span.{Span}
 use Rattle.meson_splice.specs.Files.{bytes_at}
-use Rattle.meson_splice.specs.Patch.{then_ok}
 use Rattle.meson_syntax.specs.Paths.{ListIn, list_in}
 use Rattle.meson_syntax.specs.Tree.{Argument, Expression, array, call, dictionary, Nowhere, Plain, erase, erase_argument, erase_listing}
 use Rattle.meson_syntax.proofs.parsing.Steps.{some-injective}
 use Rattle.meson_edit.specs.Edits.{Replace, Written, elements, with_elements}
 use Rattle.meson_calls.specs.declared.call.CallRef.{CallRef}
-use Rattle.meson_calls.specs.declared.refusal.Refusal.{Refusal}
 use Rattle.meson_calls.specs.declared.refusal.Refusal.TheVariants.{BadName, OtherKind}
 use Rattle.meson_calls.specs.Loading.{Loaded, project}
 use Rattle.meson_calls.specs.Project.{child, expression_at}
 use Rattle.meson_calls.proofs.ExpressionsAt.{list_here}
 use Rattle.meson_steps.specs.ResultLimits.{plain_trees}
-use Rattle.meson_steps.specs.Steps.{Step, all_stepped, step_in, stepped}
+use Rattle.meson_steps.specs.Steps.{Step, all_stepped, step_in}
 use Rattle.meson_steps.specs.declared.given.Given.{Given}
 use Rattle.meson_steps.specs.GivenWords.{MayBeGiven}
 use Rattle.meson_steps.proofs.PlainTrees.{erased_elements, plain_place, tree_is}
@@ -30,7 +28,7 @@ use Rattle.meson_places.specs.Laws.{SlotIs}
 use Rattle.meson_places.specs.Room.{if_room}
 use Rattle.meson_places.specs.Several.{AllMayBeGiven, add_array, becomes_array, set_all, set_all_there, set_array, set_elements, written_array}
 use Rattle.meson_places.specs.Slots.{Child}
-use Rattle.meson_places.specs.Values.{given_node, is_array, is_identifier, written_given}
+use Rattle.meson_places.specs.Values.{given_node, is_identifier, written_given}
 use Rattle.meson_places.proofs.AddedValues.{edit_behind}
 use Rattle.meson_places.proofs.ArgumentsDoable.{ok_then}
 use Rattle.meson_places.proofs.SetValues.{one_step, set_one}

@@ -3,13 +3,12 @@ use Rattle.std.proofs.Common.{◌≡◌, ℕ, List, [], ◌∷◌, ◌++◌, map
 use Rattle.std.specs.Prelude.{Bool, length, not, ◌&&◌, if◌then◌else◌}
 use Rattle.std.specs.List.{list_all}
 use Rattle.meson_lex.specs.declared.kinds.Span.{Span}
-use Rattle.meson_lex.specs.Located.{located}
 use Rattle.meson_splice.specs.declared.file_set.File as files
 use Rattle.meson_splice.specs.Files.{bytes_at}
 use Rattle.meson_splice.specs.Patch.{then_ok}
 use Rattle.meson_syntax.specs.declared.operator.Bracket.TheVariants as bracket
 use Rattle.meson_syntax.specs.ReadsList.{ReadsListWithin, list_items}
-use Rattle.meson_syntax.specs.Tree.{plain, no_arguments, argument, Expression, File, Listing, listing, Nowhere, erase, erase_expression, erase_listing}
+use Rattle.meson_syntax.specs.Tree.{plain, argument, Expression, File, Listing, listing, Nowhere, erase, erase_expression, erase_listing}
 use Rattle.meson_syntax.proofs.lists.Complete.{whole_list-complete}
 use Rattle.meson_syntax.proofs.parsing.Steps.{some-injective}
 use Rattle.meson_edit.specs.Edits.{Replace, Written}

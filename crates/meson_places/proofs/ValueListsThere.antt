@@ -1,6 +1,6 @@
 -- The lists of a value that stands in a project stand there, each open for elements without a name.
-use Rattle.std.proofs.Common.{◌≡◌, ℕ, zero, suc, ◌+◌, ◌-◌, ◌≤◌, true, false, List, [], ◌∷◌, get_or, length, map, Option, Some, None, refl, sym, ap, ◌∙◌, subst, arith}
-use Rattle.std.specs.Prelude.{Bool, ◌&&◌, bytes_eq, codes, if◌then◌else◌, option_map}
+use Rattle.std.proofs.Common.{◌≡◌, ℕ, suc, ◌+◌, ◌-◌, ◌≤◌, true, false, List, [], ◌∷◌, get_or, length, map, Some, None, refl, sym, ap, ◌∙◌, subst, arith}
+use Rattle.std.specs.Prelude.{Bool, bytes_eq, codes, if◌then◌else◌}
 use Rattle.std.specs.List.{list_all}
 use Rattle.std.proofs.lemmas.Bool.{and_parts}
 use Rattle.meson_lex.specs.declared.kinds.Span.{Span}
@@ -9,7 +9,7 @@ use Rattle.meson_syntax.specs.declared.operator.Bracket.TheVariants as bracket
 use Rattle.meson_syntax.specs.Children.{an_expression}
 use Rattle.meson_syntax.specs.inside.Children.{expression_parts, operands_parts}
 use Rattle.meson_syntax.specs.Paths.{ListIn, list_in, nth}
-use Rattle.meson_syntax.specs.Tree.{Argument, Expression, array, call, row, Operands, no_operands, operand, Listing}
+use Rattle.meson_syntax.specs.Tree.{Argument, Expression, array, call, row, Operands, no_operands, operand}
 use Rattle.meson_syntax.proofs.parsing.Steps.{some-injective}
 use Rattle.meson_edit.specs.Edits.{elements}
 use Rattle.meson_calls.specs.declared.call.CallRef.{CallRef}

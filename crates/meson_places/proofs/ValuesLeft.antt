@@ -1,6 +1,6 @@
 -- What a change of one value leaves.
-use Rattle.std.proofs.Common.{◌≡◌, ℕ, true, false, List, [], ◌∷◌, Option, Some, None, Result, Ok, Err, refl, sym, ap, ◌∙◌, subst, inl, inr}
-use Rattle.std.specs.Prelude.{Bool, ◌⊎◌, if◌then◌else◌}
+use Rattle.std.proofs.Common.{◌≡◌, ℕ, List, [], ◌∷◌, Option, Some, None, Result, Ok, Err, refl, ap, ◌∙◌, inl, inr}
+use Rattle.std.specs.Prelude.{Bool, ◌⊎◌}
 use Rattle.meson_lex.specs.declared.kinds.Span.{Span}
 use Rattle.meson_splice.specs.Files.{bytes_at}
 use Rattle.meson_splice.specs.Patch.{then_ok}
@@ -8,7 +8,7 @@ use Rattle.meson_syntax.specs.Tree.{Expression, Nowhere, Plain, erase_expression
 use Rattle.meson_edit.specs.Edits.{Replace, Written}
 use Rattle.meson_calls.specs.declared.call.CallRef.{CallRef}
 use Rattle.meson_calls.specs.declared.refusal.Refusal.{Refusal}
-use Rattle.meson_calls.specs.declared.refusal.Refusal.TheVariants.{NotLiteral, TooDeep}
+use Rattle.meson_calls.specs.declared.refusal.Refusal.TheVariants.{NotLiteral}
 use Rattle.meson_calls.specs.Loading.{Loaded, project}
 use Rattle.meson_calls.specs.Project.{child, expression_at}
 use Rattle.meson_steps.specs.declared.argument.ValueChange.{ValueChange}
@@ -27,7 +27,7 @@ use Rattle.meson_places.specs.Equality.{lists_say, says}
 use Rattle.meson_places.specs.Effects.{AddedBeside, AddedTo, ElementAdded, IsBeside, WholeAdded, SetLeft, SlotLeft, ValueLeft}
 use Rattle.meson_places.specs.Names.{the_place}
 use Rattle.meson_places.specs.NewElements.{add_steps, add_there, add_to_last, add_to_lone, add_to_value, add_to_whole, array_with, beside, fresh_written, lone_token}
-use Rattle.meson_places.specs.Room.{has_room, if_room, list_in_trees}
+use Rattle.meson_places.specs.Room.{if_room}
 use Rattle.meson_places.specs.Several.{AllMayBeGiven}
 use Rattle.meson_places.specs.Slots.{Child, the_slot}
 use Rattle.meson_places.specs.ValueLists.{ValueList, last_of, lists_of}

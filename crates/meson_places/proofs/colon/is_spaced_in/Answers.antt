@@ -5,7 +5,7 @@ use Rattle.meson_lex.specs.declared.kinds.Span.{Span}
 use Rattle.meson_syntax.specs.Tree.{Argument, Expression}
 use Rattle.meson_syntax.specs.View.{args_view, expr_view}
 use Rattle.meson_edit.specs.Standing.{expression_span}
-use Rattle.meson_places.specs.Colons.{ends_before, ends_in_file, is_spaced, is_spaced_in, key_ends, last_end}
+use Rattle.meson_places.specs.Colons.{ends_before, ends_in_file, is_spaced, key_ends, last_end}
 use Rattle.meson_places.specs.Names.{loaded_in}
 use Rattle.meson_places.specs.Slots.{elements_in}
 use Rattle.meson_places.proofs.colon.is_spaced_in.Goals as goal

@@ -1,11 +1,10 @@
-use Rattle.std.proofs.Common.{◌≡◌, List, [], map, Some, Err, refl, sym, ap, ◌∙◌, subst}
+use Rattle.std.proofs.Common.{◌≡◌, [], map, Some, Err, refl, sym, ap, ◌∙◌, subst}
 use Rattle.std.specs.Prelude.{◌≢◌, MatchResult, option_map}
 use Rattle.meson_syntax.specs.Tree.{Expression, Nowhere, erase_expression}
 use Rattle.meson_syntax.specs.View.{expr_view}
 use Rattle.meson_edit.specs.Edits.{Written}
 use Rattle.meson_calls.specs.declared.refusal.Refusal.TheVariants.{OutOfMemory}
 use Rattle.meson_steps.specs.Meanings.{AreMeant}
-use Rattle.meson_steps.specs.declared.given.Given.{Given}
 use Rattle.meson_places.specs.Equality.{says}
 use Rattle.meson_places.specs.Names.{loaded_in}
 use Rattle.meson_places.specs.NewElements.{add_to_lone, beside, fresh_written, lone_token}
