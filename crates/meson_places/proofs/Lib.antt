@@ -8,6 +8,7 @@ mod FreshValues
 mod GivenWritten
 mod KeyedWritten
 mod KeysLeft
+mod LineRanges
 mod ListElements
 mod ListStands
 mod ListsThere
@@ -16,6 +17,7 @@ mod Meant
 mod NewElementsDoable
 mod Numbers
 pub mod OneMeaning
+mod OnLines
 mod Pushed
 mod Refused
 mod RoomFound

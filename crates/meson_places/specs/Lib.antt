@@ -11,6 +11,7 @@ pub mod Values
 pub mod Slots
 pub mod TargetNames
 pub mod Laws
+pub mod LineLaws
 pub mod Effects
 pub mod KeyEffects
 pub mod inside

@@ -1,11 +1,18 @@
 //! Laws of places. The functions do nothing: what they ensure is the law.
 
 ghost use Rattle.meson_places.specs.Laws.{AddsToOneList, ArgumentStepsAreDoable, DeletesOneElement, FindsOneCall, KeepsKind, NewAreUnknown, NewAreWritten, SetsOneValue, SlotsAreThere};
+ghost use Rattle.meson_places.specs.LineLaws.{FindsOnLine};
 
 /// What a search for a call finds is a call of the function, which has the name or is assigned to the variable. It is in the files that are searched, and no
 /// other call of the function there has the name.
 pub fn finds_one_call()
     ensures { FindsOneCall }
+{}
+
+/// What a line finds is a call whose opening bracket is on that line of that file, or the value of an assignment that begins on it, and all else that begins on it
+/// is in it. Where nothing begins on it, it is the first array or dictionary that opens on it.
+pub fn finds_on_line()
+    ensures { FindsOnLine }
 {}
 
 /// The slot that keys name is there: its value, or a call or a dictionary that does not have the last key.
