@@ -34,7 +34,7 @@ use Rattle.meson_places.proofs.ValueListsThere as there
 abbrev nodes : List (Written (Expression Nowhere)) → List (Argument Nowhere)
 nodes ws = map plain (map (λ w. w.node) ws)
 
-set_twice : {X : Type 0} (xs : List X) (i : ℕ) (a b : X) → slice_set (slice_set xs i a) i b ≡ slice_set xs i b
+pub set_twice : {X : Type 0} (xs : List X) (i : ℕ) (a b : X) → slice_set (slice_set xs i a) i b ≡ slice_set xs i b
 set_twice [] i a b = refl
 set_twice (x ∷ xs) zero a b = refl
 set_twice (x ∷ xs) (suc i) a b = ap (λ l. x ∷ l) (set_twice xs i a b)

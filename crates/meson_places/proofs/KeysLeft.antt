@@ -31,6 +31,8 @@ use Rattle.meson_places.specs.Slots.{Child}
 use Rattle.meson_places.specs.Values.{given_node, is_identifier, written_given}
 use Rattle.meson_places.proofs.AddedValues.{edit_behind}
 use Rattle.meson_places.proofs.ArgumentsDoable.{ok_then}
+use Rattle.meson_places.proofs.ElementsLeft.{elements_set}
+use Rattle.meson_places.proofs.ListsThere.{element_there}
 use Rattle.meson_places.proofs.SetValues.{one_step, set_one}
 use Rattle.meson_places.proofs.WithRoom.{with_room}
 
@@ -116,6 +118,8 @@ module _ (l : Loaded) (gs : List Given) (may : AllMayBeGiven gs) (steps : List S
         may = may;
         value = v;
         is_value = is;
+        elements = λ some array_there. elements_set l (child list v.number) v.value (element_there (project l) list n v is).at_child array_there after gs may key steps
+            (sym (ap (λ b. if b then set_elements l gs may key (child list v.number) v.value else set_array l gs may key list n v.value) array_there) ∙ m) done some;
         now = λ other. became v.value (becomes_array gs v.value)
             (sym (ap (λ b. if b then set_elements l gs may key (child list v.number) v.value else set_array l gs may key list n v.value) other) ∙ m);
       }

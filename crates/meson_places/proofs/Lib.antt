@@ -1,8 +1,10 @@
 mod AddedValues
 mod ArgumentsDoable
 mod Around
+mod ArrayLeft
 mod ArrayWritten
 mod DepthTexts
+mod ElementsLeft
 mod Found
 mod FreshValues
 mod GivenWritten

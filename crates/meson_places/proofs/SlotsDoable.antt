@@ -57,7 +57,7 @@ nth_within [] n within = absurd (omega (arith, within))
 nth_within (y ∷ ys) zero within = (y, refl)
 nth_within (y ∷ ys) (suc n) within = nth_within ys n (omega (arith, within))
 
-one_fewer : {A : Type 0} (ys : List A) (n : ℕ) → n < length ys → length (take n ys ++ drop (suc n) ys) ≡ length ys - 1
+pub one_fewer : {A : Type 0} (ys : List A) (n : ℕ) → n < length ys → length (take n ys ++ drop (suc n) ys) ≡ length ys - 1
 one_fewer [] n within = absurd (omega (arith, within))
 one_fewer (y ∷ ys) zero within = omega arith
 one_fewer (y ∷ ys) (suc n) within = let below : n < length ys = omega (arith, within) in omega (arith, one_fewer ys n below, below)

@@ -1,5 +1,5 @@
 -- What a change of one value leaves.
-use Rattle.std.proofs.Common.{◌≡◌, ℕ, List, [], ◌∷◌, Option, Some, None, Result, Ok, Err, refl, ap, ◌∙◌, inl, inr}
+use Rattle.std.proofs.Common.{◌≡◌, ℕ, List, [], ◌∷◌, Option, Some, None, Result, Ok, Err, refl, ap, ◌∙◌, inl, inr, sym}
 use Rattle.std.specs.Prelude.{Bool, ◌⊎◌}
 use Rattle.meson_lex.specs.declared.kinds.Span.{Span}
 use Rattle.meson_splice.specs.Files.{bytes_at}
@@ -22,7 +22,7 @@ use Rattle.meson_places.specs.declared.slots.Slot.{Slot}
 use Rattle.meson_places.specs.declared.slots.Slot.TheVariants as slot
 use Rattle.meson_places.specs.Arguments.{MayBeMade, argument_steps, last_key, named_steps, set_within, slot_steps}
 use Rattle.meson_places.specs.TargetNames.{checked_name}
-use Rattle.meson_places.specs.Changes.{element_child, set_steps}
+use Rattle.meson_places.specs.Changes.{element_child, set_steps, set_there}
 use Rattle.meson_places.specs.Equality.{lists_say, says}
 use Rattle.meson_places.specs.Effects.{AddedBeside, AddedTo, ElementAdded, IsBeside, WholeAdded, SetLeft, SlotLeft, ValueLeft}
 use Rattle.meson_places.specs.Names.{the_place}
@@ -35,6 +35,7 @@ use Rattle.meson_places.specs.Values.{written_given}
 use Rattle.meson_places.proofs.AddedValues.{adds_to_one_list}
 use Rattle.meson_places.proofs.ArgumentsDoable.{ok_then}
 use Rattle.meson_places.proofs.ListsThere.{element_there}
+use Rattle.meson_places.proofs.ElementsLeft.{text_alone}
 use Rattle.meson_places.proofs.KeysLeft.{array_added, array_set, key_set}
 use Rattle.meson_places.proofs.SetValues.{deletes_one_element, keeps_kinds, set_one, sets_one_value}
 use Rattle.meson_places.proofs.SlotsThere.{slots_are_there}
@@ -48,7 +49,12 @@ set_left l g may key list n steps after made done =
     let s = ok_then (set_steps l g w key (slot.Element list n)) (if_room l list w.node) steps made in
     let is : set_steps l g w key (slot.Element list n) ≡ Ok steps = s.1 ∙ ap Ok (with_room l list w.node s.0 steps s.2) in
     let m = keeps_kinds l g w key list n steps is in
-    record { may_set = m; may = may; now = λ kept. sets_one_value l g w key list n m.value m.is_value kept steps is (plain_trees l) after done }
+    record {
+      may_set = m;
+      may = may;
+      now = λ kept. sets_one_value l g w key list n m.value m.is_value kept steps is (plain_trees l) after done;
+      alone = λ v there other texts. text_alone l g w key list n steps after done v there (sym (ap (set_there g w key list n) there) ∙ is) other texts;
+    }
 
 -- values that are added
 module _ (l : Loaded) (gs : List Given) (may : AllMayBeGiven gs) (key : List ℕ) (steps : List Step) (after : List Plain) (done : all_stepped steps (plain_trees l) ≡ Some after) where

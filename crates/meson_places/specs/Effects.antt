@@ -1,5 +1,5 @@
 -- What is there after a change of one value: the value that was named, and all else as it was.
-use Rattle.std.specs.Prelude.{◌≡◌, ◌⊎◌, ℕ, true, List, [], ◌∷◌, map, Some, Ok}
+use Rattle.std.specs.Prelude.{◌≡◌, ◌⊎◌, ℕ, true, false, List, [], ◌∷◌, map, Some, Ok}
 use Rattle.meson_lex.specs.declared.kinds.Span.{Span}
 use Rattle.meson_splice.specs.Files.{bytes_at}
 use Rattle.meson_syntax.specs.Tree.{Expression, Nowhere, Plain, erase_expression}
@@ -14,7 +14,8 @@ use Rattle.meson_steps.specs.declared.given.Given.{Given}
 use Rattle.meson_steps.specs.GivenWords.{MayBeGiven}
 use Rattle.meson_places.specs.declared.slots.Slot.{Slot}
 use Rattle.meson_places.specs.declared.slots.Slot.TheVariants as slot
-use Rattle.meson_places.specs.Changes.{element_child}
+use Rattle.meson_places.specs.ArrayEffects.{HasValues}
+use Rattle.meson_places.specs.Changes.{element_child, replaces_texts}
 use Rattle.meson_places.specs.Equality.{lists_say, says}
 use Rattle.meson_places.specs.KeyEffects.{ArrayAdded, ArraySet, GivenAdded}
 use Rattle.meson_places.specs.Laws.{HasAlso, IsWithout, MaySet, SlotIs, SlotIsThere}
@@ -25,11 +26,14 @@ use Rattle.meson_places.specs.Slots.{Child, the_slot}
 use Rattle.meson_places.specs.ValueLists.{ValueList, last_of, lists_of}
 use Rattle.meson_places.specs.Values.{given_node, keeps_kind}
 
--- A value that was there may be set to the given one. Where it keeps its kind, that is the value now, and all else is as it was.
+-- A value that was there may be set to the given one. Where it keeps its kind, that is the value now, and all else is as it was. Where a text takes the place of
+-- an array of texts, it is the only element of the array.
 pub record SetLeft (old : Loaded) (g : Given) (list : CallRef) (n : ℕ) (before after : List Plain) : Type 0 where
   pub may_set : MaySet old g list n
   pub may : MayBeGiven g
   pub now : keeps_kind g may_set.value ≡ true → SlotIs list n (given_node g may) before after
+  pub alone : (v : Child Span) → element_child (project old) list n ≡ Some v → keeps_kind g v.value ≡ false → replaces_texts g v.value ≡ true
+      → HasValues (child list v.number) (given_node g may ∷ []) before after
 
 -- The last list of a value has also the new ones.
 pub record AddedTo (old : Loaded) (gs : List Given) (may : AllMayBeGiven gs) (c : CallRef) (e : Expression Span) (before after : List Plain) : Type 0 where

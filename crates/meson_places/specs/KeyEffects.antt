@@ -1,21 +1,22 @@
 -- What is there after a value is set or added at a key that was absent, and after several values take the place of one.
-use Rattle.std.specs.Prelude.{◌≡◌, ℕ, false, List, [], ◌∷◌, ◌++◌, Some}
+use Rattle.std.specs.Prelude.{◌≡◌, ℕ, ◌≤◌, true, false, List, [], ◌∷◌, ◌++◌, length, map, Some}
 use Rattle.meson_lex.specs.declared.kinds.Span.{Span}
 use Rattle.meson_syntax.specs.Paths.{ListAt, list_at, nth}
 use Rattle.meson_syntax.specs.Tree.{Argument, plain, named, pair, Expression, Nowhere, Plain, bare_name}
 use Rattle.meson_edit.specs.Edits.{elements, with_elements}
 use Rattle.meson_calls.specs.declared.call.CallRef.{CallRef}
 use Rattle.meson_calls.specs.Loading.{Loaded, project}
-use Rattle.meson_calls.specs.Project.{expression_at}
+use Rattle.meson_calls.specs.Project.{child, expression_at}
 use Rattle.meson_steps.specs.Steps.{changed_at}
 use Rattle.meson_steps.specs.WrittenTexts.{string_of}
 use Rattle.meson_steps.specs.declared.given.Given.{Given}
 use Rattle.meson_steps.specs.GivenWords.{MayBeGiven}
 use Rattle.meson_places.specs.declared.elements.ListKind.{ListKind}
 use Rattle.meson_places.specs.declared.elements.ListKind.TheVariants as kind
+use Rattle.meson_places.specs.ArrayEffects.{HasValues}
 use Rattle.meson_places.specs.Changes.{element_child}
 use Rattle.meson_places.specs.Laws.{SlotIs}
-use Rattle.meson_places.specs.Several.{AllMayBeGiven, written_array}
+use Rattle.meson_places.specs.Several.{AllMayBeGiven, all_written, written_array}
 use Rattle.meson_places.specs.Slots.{Child, list_kind}
 use Rattle.meson_places.specs.Values.{given_node, is_array}
 
@@ -51,9 +52,10 @@ pub record ArrayAdded (old : Loaded) (gs : List Given) (list : CallRef) (key : L
   pub may : AllMayBeGiven gs
   pub added : KeyAdded old list key (written_array gs may).node before after
 
--- A value that is no array is the array of these values now.
+-- An array has elements with exactly these values now, if there are any, and another value is the array of them.
 pub record ArraySet (old : Loaded) (gs : List Given) (list : CallRef) (n : ℕ) (before after : List Plain) : Type 0 where
   pub may : AllMayBeGiven gs
   pub value : Child Span
   pub is_value : element_child (project old) list n ≡ Some value
+  pub elements : 1 ≤ length gs → is_array value.value ≡ true → HasValues (child list value.number) (map (λ w. w.node) (all_written gs may)) before after
   pub now : is_array value.value ≡ false → SlotIs list n (written_array gs may).node before after

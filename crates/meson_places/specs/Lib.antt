@@ -1,4 +1,5 @@
 pub mod Arguments
+pub mod ArrayEffects
 pub mod Changes
 pub mod Colons
 pub mod Equality
