@@ -10,6 +10,7 @@ mod FreshValues
 mod GivenWritten
 mod KeyedWritten
 mod KeysLeft
+mod LastKeys
 mod LineRanges
 mod ListElements
 mod ListStands

@@ -2,6 +2,7 @@ pub mod Arguments
 pub mod ArrayEffects
 pub mod Changes
 pub mod Colons
+pub mod ColonLaws
 pub mod Equality
 pub mod Names
 pub mod NewElements

@@ -1,6 +1,7 @@
 //! Laws of places. The functions do nothing: what they ensure is the law.
 
 ghost use Rattle.meson_places.specs.Laws.{AddsToOneList, ArgumentStepsAreDoable, DeletesOneElement, FindsOneCall, KeepsKind, NewAreUnknown, NewAreWritten, SetsOneValue, SlotsAreThere};
+ghost use Rattle.meson_places.specs.ColonLaws.{TakesLastColon};
 ghost use Rattle.meson_places.specs.LineLaws.{FindsOnLine};
 
 /// What a search for a call finds is a call of the function, which has the name or is assigned to the variable. It is in the files that are searched, and no
@@ -28,6 +29,11 @@ pub fn sets_one_value()
 /// A value that is there is set only where the given one is of its kind, or a text for an array of texts, or code.
 pub fn keeps_kind()
     ensures { KeepsKind }
+{}
+
+/// The key whose colon a list without keys takes is before the list, and no other key before it comes later.
+pub fn takes_last_colon()
+    ensures { TakesLastColon }
 {}
 
 /// Deleting a slot removes that argument, entry or element, and leaves all else in the trees.
