@@ -2,7 +2,7 @@
 //! JSON and as lines.
 #![tactic(auto)]
 
-mod assignments;
+pub mod assignments;
 pub mod holdings;
 mod info;
 mod inventory;

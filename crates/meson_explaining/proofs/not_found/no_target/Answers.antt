@@ -3,8 +3,8 @@ use Rattle.std.specs.Prelude.{codes}
 use Rattle.std.proofs.lemmas.Result.{IfOk-weaker}
 use Rattle.meson_calls.specs.declared.call.Role.TheVariants as role
 use Rattle.meson_inventory.specs.declared.holdings.Holdings.{Holdings}
-use Rattle.meson_explaining.specs.Explaining.{missing_notes, not_found}
-use Rattle.meson_explaining.proofs.explaining.no_target.Goals as goal
+use Rattle.meson_explaining.specs.NotFound.{missing_notes, not_found}
+use Rattle.meson_explaining.proofs.not_found.no_target.Goals as goal
 
 pub returns : goal.returns
 returns c =
