@@ -44,7 +44,7 @@ subject (command.Argument name change) = (role.Project, codes "/")
 
 abbrev pub ambiguous_help : Role → List ℕ
 ambiguous_help role.Project = codes "use --sourcedir FOLDER with the folder of one of them"
-ambiguous_help _ = codes "use a variable as the id, or --sourcedir FOLDER with the folder of one of them"
+ambiguous_help _ = codes "use a variable as the id, or --sourcedir FOLDER with the folder of one of them; arg at FILE:LINE names the call on a line"
 
 abbrev pub ambiguous : Loaded → Role → List ℕ → Explanation
 ambiguous l r id = record {

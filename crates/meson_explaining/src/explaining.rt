@@ -48,7 +48,7 @@ fn ambiguous_help(role: Role) -> &'static str
     match role {
         Role::Project => "use --sourcedir FOLDER with the folder of one of them",
         Role::Target | Role::Dependency => {
-            "use a variable as the id, or --sourcedir FOLDER with the folder of one of them"
+            "use a variable as the id, or --sourcedir FOLDER with the folder of one of them; arg at FILE:LINE names the call on a line"
         }
     }
 }
