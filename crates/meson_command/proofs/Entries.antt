@@ -1,7 +1,7 @@
 -- Words of `arg` mean the command of an entry.
 use Rattle.std.proofs.Common.{◌≡◌, ◌∙◌, ◌∷◌, ℕ, Bool, true, false, List, [], Option, Some, None, Result, Ok, Err, bytes_eq, codes, refl, sym, ap, ap₂, subst}
-use Rattle.std.specs.Prelude.{if◌then◌else◌, ok_or, option_and_then, option_map}
-use Rattle.clap.specs.Words.{Row, Text}
+use Rattle.std.specs.Prelude.{if◌then◌else◌, ok_or, option_and_then, option_map, unwrap_or}
+use Rattle.clap.specs.Words.{Row, Text, first_of}
 use Rattle.meson_splice.specs.Patch.{then_ok}
 use Rattle.meson_steps.specs.Code.{code_of, is_code}
 use Rattle.meson_steps.specs.GivenWords.{after_first, begins_colon, meant_by}
@@ -12,7 +12,7 @@ use Rattle.meson_steps.specs.declared.command.Command.{Command}
 use Rattle.meson_steps.specs.declared.command.Command.TheVariants as commands
 use Rattle.meson_steps.specs.declared.given.Given.{Given}
 use Rattle.meson_steps.specs.declared.given.Given.TheVariants as given
-use Rattle.meson_json.specs.Arguments.{change_to, keys_in, place_named}
+use Rattle.meson_json.specs.Arguments.{change_to, command_to, keys_in, place_named}
 use Rattle.meson_json.specs.Each.{each_of}
 use Rattle.meson_json.specs.Operations.{argument_operation}
 use Rattle.meson_json.specs.Scripts.{argument_entry, entry_of, value_name, values_at}
@@ -22,7 +22,7 @@ use Rattle.meson_json.specs.declared.fault.ScriptFault.TheVariants.{BadField, Un
 use Rattle.meson_json.specs.declared.names.ArgumentOperation.{ArgumentOperation}
 use Rattle.meson_json.specs.declared.names.ArgumentOperation.TheVariants as operation
 use Rattle.meson_command.specs.Actions.{run, word_at, words_at}
-use Rattle.meson_command.specs.Arguments.{argument_action, values_meant}
+use Rattle.meson_command.specs.Arguments.{argument_action, keys_meant, requested, value_named, values_meant}
 use Rattle.meson_command.specs.Entries.{WordsMeanTheEntry, data_of, entry_of_words, items_of}
 use Rattle.meson_command.specs.declared.asked.Action.{Action}
 use Rattle.meson_command.specs.declared.asked.Action.TheVariants.{Run}
@@ -80,50 +80,77 @@ abbrev first_or : Command → List Command → Command
 first_or other [] = other
 first_or other (c ∷ cs) = c
 
-abbrev requested : Command → Result Action UsageFault
-requested x = Ok (run x)
+abbrev a_run : Command → Result Action UsageFault
+a_run x = Ok (run x)
 
 abbrev made_of : Command → Result Command ScriptFault
 made_of x = Ok x
 
-run-of : (x y : Command) → requested x ≡ requested y → made_of x ≡ made_of y
+run-of : (x y : Command) → a_run x ≡ a_run y → made_of x ≡ made_of y
 run-of x y e = ap (λ (r : Result Action UsageFault). made_of (first_or y (made_in r))) e
 
 abbrev named_in : Option Text → Text → PlaceName → ValueName
 named_in folder key name = record { place = record { name = name; folder = folder }; keys = keys_in key }
 
-abbrev by_words : Option Text → Text → Option ArgumentOperation → Option PlaceName → List Given → Result Action UsageFault
-by_words folder key o p values =
+abbrev value_in : Option Text → List Text → PlaceName → ValueName
+value_in folder keys name = record { place = record { name = name; folder = folder }; keys = keys }
+
+abbrev by_words : Option Text → Option Text → Option ArgumentOperation → Option PlaceName → List Given → Result Action UsageFault
+by_words folder w o p values =
     then_ok (ok_or o Usage) (λ operation.
-    then_ok (ok_or (option_map (named_in folder key) p) Usage) (λ name.
-    then_ok (then_ok (ok_or (Some values) NotCode) (λ values. ok_or (change_to operation values) Usage)) (λ change. Ok (run (commands.Argument name change)))))
+    then_ok (ok_or (option_and_then (λ keys. option_map (value_in folder keys) p) (keys_meant operation w)) Usage) (λ name.
+    then_ok (then_ok (ok_or (Some values) NotCode) (λ values. ok_or (command_to operation name values) Usage)) (λ c. Ok (requested operation c))))
 
 -- the values that an operation reads
 abbrev read_by : ArgumentOperation → List Given → List Given
 read_by operation.Set values = values
 read_by operation.Add values = values
+read_by operation.Remove values = values
+read_by operation.Replace values = values
 read_by operation.Delete values = []
+read_by operation.Info values = []
 
 abbrev by_entry : ℕ → Option Text → Text → Option ArgumentOperation → Option PlaceName → (ArgumentOperation → Result (List Given) ScriptFault) → Result Command ScriptFault
 by_entry i folder key o p read =
     then_ok (ok_or o (UnknownOperation i)) (λ operation.
     then_ok (then_ok (ok_or p (BadField i (codes "id"))) (λ place. Ok (named_in folder key place))) (λ name.
-    then_ok (then_ok (read operation) (λ gs. ok_or (change_to operation gs) (BadField i (codes "values")))) (λ c. Ok (commands.Argument name c))))
+    then_ok (read operation) (λ gs. ok_or (command_to operation name gs) (BadField i (codes "values")))))
 
 one-change : (i : ℕ) (name : ValueName) (c : Option ValueChange) (made : Command)
-    → then_ok (ok_or c Usage) (λ change. Ok (run (commands.Argument name change))) ≡ Ok (run made)
-    → then_ok (ok_or c (BadField i (codes "values"))) (λ change. Ok (commands.Argument name change)) ≡ Ok made
+    → then_ok (ok_or (option_map (commands.Argument name) c) Usage) (λ k. Ok (run k)) ≡ Ok (run made)
+    → ok_or (option_map (commands.Argument name) c) (BadField i (codes "values")) ≡ Ok made
 one-change i name None made e = cc
 one-change i name (Some change) made e = run-of (commands.Argument name change) made e
 
-same-made : (i : ℕ) (folder : Option Text) (key : Text) (o : Option ArgumentOperation) (p : Option PlaceName) (values : List Given) (made : Command)
-    → by_words folder key o p values ≡ Ok (run made) → by_entry i folder key o p (λ operation. Ok (read_by operation values)) ≡ Ok made
-same-made i folder key None p values made e = cc
-same-made i folder key (Some o) None values made e = cc
-same-made i folder key (Some operation.Set) (Some name) values made e = one-change i (named_in folder key name) (change_to operation.Set values) made e
-same-made i folder key (Some operation.Add) (Some name) values made e = one-change i (named_in folder key name) (change_to operation.Add values) made e
-same-made i folder key (Some operation.Delete) (Some name) [] made e = one-change i (named_in folder key name) (change_to operation.Delete []) made e
-same-made i folder key (Some operation.Delete) (Some name) (g ∷ gs) made e = cc
+-- what is reported is no run
+no-run : (folder w : Option Text) (p : Option PlaceName) (values : List Given) (made : Command) → by_words folder w (Some operation.Info) p values ≡ Ok (run made) → ⊥
+no-run folder None None values made e = let none : ⊥ = cc in none
+no-run folder None (Some name) [] made e = let none : ⊥ = cc in none
+no-run folder None (Some name) (g ∷ gs) made e = let none : ⊥ = cc in none
+no-run folder (Some key) None values made e = let none : ⊥ = cc in none
+no-run folder (Some key) (Some name) [] made e = let none : ⊥ = cc in none
+no-run folder (Some key) (Some name) (g ∷ gs) made e = let none : ⊥ = cc in none
+
+same-made : (i : ℕ) (folder w : Option Text) (o : Option ArgumentOperation) (p : Option PlaceName) (values : List Given) (made : Command)
+    → by_words folder w o p values ≡ Ok (run made) → by_entry i folder (unwrap_or w []) o p (λ operation. Ok (read_by operation values)) ≡ Ok made
+same-made i folder w None p values made e = cc
+same-made i folder w (Some operation.Info) p values made e = absurd (no-run folder w p values made e)
+same-made i folder None (Some operation.Set) p values made e = cc
+same-made i folder None (Some operation.Add) p values made e = cc
+same-made i folder None (Some operation.Remove) p values made e = cc
+same-made i folder None (Some operation.Replace) p values made e = cc
+same-made i folder None (Some operation.Delete) p values made e = cc
+same-made i folder (Some key) (Some operation.Set) None values made e = cc
+same-made i folder (Some key) (Some operation.Add) None values made e = cc
+same-made i folder (Some key) (Some operation.Remove) None values made e = cc
+same-made i folder (Some key) (Some operation.Replace) None values made e = cc
+same-made i folder (Some key) (Some operation.Delete) None values made e = cc
+same-made i folder (Some key) (Some operation.Set) (Some name) values made e = one-change i (named_in folder key name) (change_to operation.Set values) made e
+same-made i folder (Some key) (Some operation.Add) (Some name) values made e = one-change i (named_in folder key name) (change_to operation.Add values) made e
+same-made i folder (Some key) (Some operation.Remove) (Some name) values made e = one-change i (named_in folder key name) (change_to operation.Remove values) made e
+same-made i folder (Some key) (Some operation.Replace) (Some name) values made e = one-change i (named_in folder key name) (change_to operation.Replace values) made e
+same-made i folder (Some key) (Some operation.Delete) (Some name) [] made e = one-change i (named_in folder key name) (change_to operation.Delete []) made e
+same-made i folder (Some key) (Some operation.Delete) (Some name) (g ∷ gs) made e = cc
 
 by-reads : (i : ℕ) (folder : Option Text) (key : Text) (o : Option ArgumentOperation) (p : Option PlaceName) (values : List Given) (made : Command)
     → (read : ArgumentOperation → Result (List Given) ScriptFault) → ((operation : ArgumentOperation) → read operation ≡ Ok (read_by operation values))
@@ -131,20 +158,19 @@ by-reads : (i : ℕ) (folder : Option Text) (key : Text) (o : Option ArgumentOpe
 by-reads i folder key None p values made read each e = e
 by-reads i folder key (Some operation) None values made read each e = e
 by-reads i folder key (Some operation) (Some name) values made read each e =
-    ap (λ (r : Result (List Given) ScriptFault). then_ok (then_ok r (λ gs. ok_or (change_to operation gs) (BadField i (codes "values"))))
-    (λ c. Ok (commands.Argument (named_in folder key name) c))) (each operation) ∙ e
+    ap (λ (r : Result (List Given) ScriptFault). then_ok r (λ gs. ok_or (command_to operation (named_in folder key name) gs) (BadField i (codes "values")))) (each operation) ∙ e
 
 of-words : (folder : Option Text) (rows : List Row) (values : List Given) (vs : Option (List Given)) (made : Command) → vs ≡ Some values
     → then_ok (ok_or (argument_operation (word_at (codes "OPERATION") rows)) Usage) (λ operation.
-    then_ok (ok_or (option_map (named_in folder (word_at (codes "KEY") rows)) (place_named (word_at (codes "FUNCTION") rows) (word_at (codes "ID") rows))) Usage) (λ name.
-    then_ok (then_ok (ok_or vs NotCode) (λ values. ok_or (change_to operation values) Usage)) (λ change. Ok (run (commands.Argument name change)))))
+    then_ok (ok_or (value_named folder operation rows) Usage) (λ name.
+    then_ok (then_ok (ok_or vs NotCode) (λ values. ok_or (command_to operation name values) Usage)) (λ c. Ok (requested operation c))))
     ≡ Ok (run made)
-    → by_words folder (word_at (codes "KEY") rows) (argument_operation (word_at (codes "OPERATION") rows))
+    → by_words folder (first_of (codes "KEY") rows) (argument_operation (word_at (codes "OPERATION") rows))
     (place_named (word_at (codes "FUNCTION") rows) (word_at (codes "ID") rows)) values ≡ Ok (run made)
 of-words folder rows values vs made is e =
     subst (λ (v : Option (List Given)). then_ok (ok_or (argument_operation (word_at (codes "OPERATION") rows)) Usage) (λ operation.
-    then_ok (ok_or (option_map (named_in folder (word_at (codes "KEY") rows)) (place_named (word_at (codes "FUNCTION") rows) (word_at (codes "ID") rows))) Usage) (λ name.
-    then_ok (then_ok (ok_or v NotCode) (λ values. ok_or (change_to operation values) Usage)) (λ change. Ok (run (commands.Argument name change)))))
+    then_ok (ok_or (value_named folder operation rows) Usage) (λ name.
+    then_ok (then_ok (ok_or v NotCode) (λ values. ok_or (command_to operation name values) Usage)) (λ c. Ok (requested operation c))))
     ≡ Ok (run made)) is e
 
 entered : (i : ℕ) (folder : Option Text) (rows : List Row) (values : List Given) (made : Command)
@@ -155,7 +181,7 @@ entered : (i : ℕ) (folder : Option Text) (rows : List Row) (values : List Give
 unfolding argument_action
 entered i folder rows values made read each meant e =
     by-reads i folder (word_at (codes "KEY") rows) _ _ values made read each
-    (same-made i folder (word_at (codes "KEY") rows) _ _ values made (of-words folder rows values (values_meant (words_at (codes "VALUE") rows)) made meant e))
+    (same-made i folder (first_of (codes "KEY") rows) _ _ values made (of-words folder rows values (values_meant (words_at (codes "VALUE") rows)) made meant e))
 
 set-read : (i : ℕ) (rows : List Row) (values : List Given) → values_meant (words_at (codes "VALUE") rows) ≡ Some values
     → ok_or (each_of given_value (items_of values)) (BadField i (codes "values")) ≡ Ok values
@@ -166,10 +192,16 @@ each-read : (i : ℕ) (folder : Option Text) (rows : List Row) (values : List Gi
     → (operation : ArgumentOperation) → values_at i operation (entry_of_words folder rows values) ≡ Ok (read_by operation values)
 each-read i None rows values meant operation.Set = set-read i rows values meant
 each-read i None rows values meant operation.Add = set-read i rows values meant
+each-read i None rows values meant operation.Remove = set-read i rows values meant
+each-read i None rows values meant operation.Replace = set-read i rows values meant
 each-read i None rows values meant operation.Delete = refl
+each-read i None rows values meant operation.Info = refl
 each-read i (Some folder) rows values meant operation.Set = set-read i rows values meant
 each-read i (Some folder) rows values meant operation.Add = set-read i rows values meant
+each-read i (Some folder) rows values meant operation.Remove = set-read i rows values meant
+each-read i (Some folder) rows values meant operation.Replace = set-read i rows values meant
 each-read i (Some folder) rows values meant operation.Delete = refl
+each-read i (Some folder) rows values meant operation.Info = refl
 
 pub entry-law : WordsMeanTheEntry
 unfolding entry_of argument_entry value_name

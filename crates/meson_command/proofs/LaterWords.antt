@@ -8,13 +8,14 @@ use Rattle.meson_steps.specs.declared.argument.Callee.TheVariants as callee
 use Rattle.meson_steps.specs.declared.argument.PlaceName.TheVariants as name
 use Rattle.meson_steps.specs.declared.argument.ValueChange.{ValueChange}
 use Rattle.meson_steps.specs.declared.argument.ValueChange.TheVariants as change
+use Rattle.meson_steps.specs.declared.argument.ValueName.{ValueName}
 use Rattle.meson_steps.specs.declared.command.Command.TheVariants as commands
 use Rattle.meson_steps.specs.declared.given.Given.{Given}
 use Rattle.meson_steps.specs.declared.given.Given.TheVariants as given
-use Rattle.meson_json.specs.Arguments.{change_to, keys_in}
+use Rattle.meson_json.specs.Arguments.{command_to, keys_in}
 use Rattle.meson_json.specs.declared.names.ArgumentOperation.TheVariants as operation
 use Rattle.meson_command.specs.Actions.{action_of, run}
-use Rattle.meson_command.specs.Arguments.{action_within, argument_action, values_meant}
+use Rattle.meson_command.specs.Arguments.{action_within, argument_action, requested, values_meant}
 use Rattle.meson_command.specs.Asking.{asked_from, no_flags}
 use Rattle.meson_command.specs.Program.{argument, command, default_options, history, kwargs, list, program, redo, target, undo}
 use Rattle.meson_command.specs.Rows.{CodeIsExpressionOrRefused, LaterWordsArePlain}
@@ -24,21 +25,25 @@ use Rattle.meson_command.specs.declared.fault.UsageFault.{UsageFault}
 use Rattle.meson_command.specs.declared.fault.UsageFault.TheVariants.{NotCode, Usage}
 
 -- what is made of one word is made of its value
-one-value : (o : Option Given) (f : ValueChange → Action) (g : Action → Result Asked UsageFault)
-    → then_ok (then_ok (then_ok (ok_or (option_and_then (λ value. option_map (λ values. value ∷ values) (Some [])) o) NotCode) (λ values. ok_or (change_to operation.Set values) Usage)) (λ c. Ok (f c))) g
-    ≡ then_ok (ok_or o NotCode) (λ value. g (f (change.Set value)))
-one-value None f g = refl
-one-value (Some value) f g = refl
+one-value : (o : Option Given) (n : ValueName) (g : Action → Result Asked UsageFault)
+    → then_ok (then_ok (then_ok (ok_or (option_and_then (λ value. option_map (λ values. value ∷ values) (Some [])) o) NotCode) (λ values. ok_or (command_to operation.Set n values) Usage))
+    (λ c. Ok (requested operation.Set c))) g
+    ≡ then_ok (ok_or o NotCode) (λ value. g (run (commands.Argument n (change.Set value))))
+one-value None n g = refl
+one-value (Some value) n g = refl
+
+abbrev value_of : List ℕ → List ℕ → ValueName
+value_of id key = record { place = record { name = name.Call callee.Target id; folder = None }; keys = keys_in key }
 
 abbrev changed : List ℕ → List ℕ → ValueChange → Action
-changed id key c = run (commands.Argument (record { place = record { name = name.Call callee.Target id; folder = None }; keys = keys_in key }) c)
+changed id key c = run (commands.Argument (value_of id key) c)
 
 abbrev in_place : Action → Result Asked UsageFault
 in_place a = Ok (record { dir = None; title = []; flags = no_flags; texts = None; action = a })
 
 pub later-law : LaterWordsArePlain
 unfolding clap_on_literals program target kwargs argument default_options command undo redo history list asked_from action_within argument_action values_meant
-later-law id key word = one-value (meant_by word) (changed id key) in_place
+later-law id key word = one-value (meant_by word) (value_of id key) in_place
 
 pub code-law : CodeIsExpressionOrRefused
 code-law code =

@@ -5,7 +5,7 @@ use Rattle.clap.specs.Words.{Row, Text, first_of}
 use Rattle.meson_calls.specs.declared.call.Role.{Role}
 use Rattle.meson_splice.specs.Patch.{then_ok}
 use Rattle.meson_command.specs.Actions.{action_of, count_in, kwargs_action, history_by, kwargs_by, has_flag, list_by, list_with, options_action, options_by, is_json, other_action, script_action, target_action, target_by, target_words, undo_of, unknown_members, word_at, words_at}
-use Rattle.meson_command.specs.Arguments.{action_within, argument_action, change_meant, value_named}
+use Rattle.meson_command.specs.Arguments.{action_within, argument_action, command_meant, requested, value_named}
 use Rattle.meson_command.specs.Asking.{asked_from, is_dry, names_no_folder, texts_fit, title_in, with_texts, with_title, without_help_text, without_text}
 use Rattle.meson_command.specs.declared.asked.Action.{Action}
 use Rattle.meson_command.specs.declared.asked.Action.TheVariants as action
@@ -18,6 +18,9 @@ use Rattle.meson_command.specs.Operations.{options_word}
 use Rattle.meson_command.specs.Pairs.{lone_names, pairs_of}
 use Rattle.meson_command.specs.declared.fault.UsageFault.TheVariants.{Usage, BadTitle}
 use Rattle.meson_json.specs.declared.member_check.UnknownMembers.{UnknownMembers}
+use Rattle.meson_steps.specs.declared.command.Command.{Command}
+use Rattle.meson_json.specs.declared.names.ArgumentOperation.{ArgumentOperation}
+use Rattle.meson_json.specs.declared.names.ArgumentOperation.TheVariants as argument
 use Rattle.meson_json.specs.declared.names.KwargsOperation.{KwargsOperation}
 use Rattle.meson_json.specs.declared.names.KwargsOperation.TheVariants as kwargs
 use Rattle.meson_command.specs.declared.operations.OptionsWord.{OptionsWord}
@@ -140,12 +143,20 @@ action-plain name rows =
     (either (bytes_eq name (codes "history")) _ _ (history-plain (first_of (codes "N") rows))
     (either (bytes_eq name (codes "list")) _ _ (list_with-plain (first_of (codes "FUNCTION") rows) (has_flag (codes "json") rows) (has_flag (codes "sums") rows)) (err Usage))))))))
 
+requested-plain : (o : ArgumentOperation) (c : Command) → IsPlain (requested o c)
+requested-plain argument.Info c = tt
+requested-plain argument.Set c = tt
+requested-plain argument.Add c = tt
+requested-plain argument.Remove c = tt
+requested-plain argument.Replace c = tt
+requested-plain argument.Delete c = tt
+
 argument-plain : (folder : Option Text) (rows : List Row) → Answers IsPlain (argument_action folder rows)
 unfolding argument_action
 argument-plain folder rows =
     after (ok_or (argument_operation (word_at (codes "OPERATION") rows)) Usage) _ (λ operation.
-    after (ok_or (value_named folder rows) Usage) _ (λ name.
-    after (change_meant operation (words_at (codes "VALUE") rows)) _ (λ change. ok _ tt)))
+    after (ok_or (value_named folder operation rows) Usage) _ (λ name.
+    after (command_meant operation name (words_at (codes "VALUE") rows)) _ (λ c. ok _ (requested-plain operation c))))
 
 within-plain : (folder : Option Text) (name : Text) (rows : List Row) → Answers IsPlain (action_within folder name rows)
 unfolding action_within

@@ -1,6 +1,6 @@
 -- Where help and the version are answered, and where the usage is wrong though clap takes the words.
 use Rattle.std.proofs.Common.{◌≡◌, ◌≢◌, ◌∙◌, ◌∷◌, ◌||◌, ◌&&◌, ◌==◌, length, ◌⊎◌, inl, inr, ℕ, Bool, true, false, not, List, [], Option, Some, None, Result, Ok, Err, is_some, bytes_eq, codes, refl, sym, ap, arith}
-use Rattle.std.specs.Prelude.{find, option_map, unwrap_or, if◌then◌else◌, ok_or}
+use Rattle.std.specs.Prelude.{find, option_and_then, option_map, unwrap_or, if◌then◌else◌, ok_or}
 use Rattle.std.specs.List.{list_any}
 use Rattle.std.proofs.lemmas.Bool.Decides.{nat_tests}
 use Rattle.std.proofs.lemmas.Slice.Eq.{bytes_eq-Decides}
@@ -14,18 +14,20 @@ use Rattle.clap.specs.Words.{Row, Text, fault_of, first_of, matches_of, subcomma
 use Rattle.clap.specs.declared.error.kind.ErrorKind.TheVariants.{DisplayHelp, DisplayVersion}
 use Rattle.meson_calls.specs.declared.call.Role.{Role}
 use Rattle.meson_splice.specs.Patch.{then_ok}
-use Rattle.meson_command.specs.Actions.{action_of, count_in, history_by, kwargs_action, kwargs_by, list_by, list_with, listing_of, options_action, options_by, other_action, run, target_action, undo_of, word_at, words_at}
-use Rattle.meson_command.specs.Arguments.{action_within, argument_action, change_meant, value_named, values_meant}
+use Rattle.meson_command.specs.Actions.{action_of, count_in, history_by, kwargs_action, kwargs_by, list_by, list_with, listing_of, options_action, options_by, other_action, target_action, undo_of, word_at, words_at}
+use Rattle.meson_command.specs.Arguments.{action_within, argument_action, command_meant, keys_meant, requested, value_named, values_meant}
 use Rattle.meson_command.specs.Asking.{answer, asked_from, asked_of, help, is_dry, names_no_folder, texts_fit, title_in, version, with_texts, with_title}
 use Rattle.meson_json.specs.Counts.{count_of}
 use Rattle.meson_command.specs.Laws.{FolderIsMisused, HelpWhereAsked, IsNoArgument, IsNoCount, IsUnknown, TextsAreMisused, UsageMeansUnknown, VersionWhereAsked}
 use Rattle.meson_json.specs.Titles.{is_title}
-use Rattle.meson_json.specs.Arguments.{change_to, keys_in, place_named}
+use Rattle.meson_json.specs.Arguments.{change_to, command_to, keys_left_out, place_named}
 use Rattle.meson_json.specs.Operations.{argument_operation, kwargs_operation, role_of}
 use Rattle.meson_json.specs.declared.names.ArgumentOperation.{ArgumentOperation}
+use Rattle.meson_json.specs.declared.names.ArgumentOperation.TheVariants as of_argument
 use Rattle.meson_steps.specs.declared.argument.PlaceName.{PlaceName}
 use Rattle.meson_steps.specs.declared.argument.ValueChange.{ValueChange}
 use Rattle.meson_steps.specs.declared.argument.ValueName.{ValueName}
+use Rattle.meson_steps.specs.declared.command.Command.{Command}
 use Rattle.meson_steps.specs.declared.command.Command.TheVariants as commands
 use Rattle.meson_steps.specs.declared.given.Given.{Given}
 use Rattle.meson_command.specs.Operations.{operation_of_word, options_word}
@@ -273,46 +275,60 @@ unknown name rows k e =
 -- ---- which of the words of `arg` is unknown
 
 -- the number of values is wrong, as each of them is code or another word
-other-values : (o : ArgumentOperation) (vs : Option (List Given)) → then_ok (ok_or vs NotCode) (λ values. ok_or (change_to o values) Usage) ≡ Err Usage
+other-values : (o : ArgumentOperation) (name : ValueName) (vs : Option (List Given)) → then_ok (ok_or vs NotCode) (λ values. ok_or (command_to o name values) Usage) ≡ Err Usage
     → (values : List Given) × (vs ≡ Some values) × (change_to o values ≡ None)
-other-values o None e = cc
-other-values o (Some values) e = (values, refl, of_values (change_to o values) e)
+other-values o name None e = cc
+other-values o name (Some values) e = (values, refl, of_values o e)
   where
-    of_values : (c : Option ValueChange) → ok_or c Usage ≡ Err Usage → c ≡ None
-    of_values None e = refl
-    of_values (Some change) e = cc
+    no_change : (c : Option ValueChange) → ok_or (option_map (commands.Argument name) c) Usage ≡ Err Usage → c ≡ None
+    no_change None e = refl
+    no_change (Some change) e = cc
 
-after_change : (r : Result ValueChange UsageFault) (f : ValueChange → Action) → then_ok r (λ c. Ok (f c)) ≡ Err Usage → r ≡ Err Usage
-after_change (Ok c) f e = cc
-after_change (Err fault) f e = let at : fault ≡ Usage = cc in ap (λ (u : UsageFault). Err u) at
+    of_values : (o : ArgumentOperation) → ok_or (command_to o name values) Usage ≡ Err Usage → change_to o values ≡ None
+    of_values of_argument.Info e = refl
+    of_values of_argument.Set e = no_change (change_to of_argument.Set values) e
+    of_values of_argument.Add e = no_change (change_to of_argument.Add values) e
+    of_values of_argument.Remove e = no_change (change_to of_argument.Remove values) e
+    of_values of_argument.Replace e = no_change (change_to of_argument.Replace values) e
+    of_values of_argument.Delete e = no_change (change_to of_argument.Delete values) e
 
-abbrev named_in : Option Text → Text → Option PlaceName → Option ValueName
-named_in folder key o = option_map (λ name. record { place = record { name = name; folder = folder }; keys = keys_in key }) o
+after_command : (r : Result Command UsageFault) (f : Command → Action) → then_ok r (λ c. Ok (f c)) ≡ Err Usage → r ≡ Err Usage
+after_command (Ok c) f e = cc
+after_command (Err fault) f e = let at : fault ≡ Usage = cc in ap (λ (u : UsageFault). Err u) at
 
-no_place : (o : Option PlaceName) (folder : Option Text) (key : Text) → named_in folder key o ≡ None → o ≡ None
-no_place None folder key e = refl
-no_place (Some name) folder key e = cc
+abbrev named_in : Option Text → Option (List Text) → Option PlaceName → Option ValueName
+named_in folder ks o = option_and_then (λ keys. option_map (λ name. record { place = record { name = name; folder = folder }; keys = keys }) o) ks
+
+no_keys : (folder : Option Text) (name : PlaceName) (ks : Option (List Text)) → named_in folder ks (Some name) ≡ None → ks ≡ None
+no_keys folder name None e = refl
+no_keys folder name (Some keys) e = cc
 
 argument-unknown : (folder : Option Text) (rows : List Row) → argument_action folder rows ≡ Err Usage → IsNoArgument rows
 unfolding argument_action
 argument-unknown folder rows e = by_operation (argument_operation (word_at (codes "OPERATION") rows)) refl e
   where
-    by_name_of : (o : ArgumentOperation) → argument_operation (word_at (codes "OPERATION") rows) ≡ Some o → (n : Option ValueName) → value_named folder rows ≡ n
-        → then_ok (ok_or n Usage) (λ name. then_ok (change_meant o (words_at (codes "VALUE") rows)) (λ change. Ok (run (commands.Argument name change)))) ≡ Err Usage
+    unnamed : (o : ArgumentOperation) → argument_operation (word_at (codes "OPERATION") rows) ≡ Some o → (w : Option Text) → first_of (codes "KEY") rows ≡ w
+        → (p : Option PlaceName) → place_named (word_at (codes "FUNCTION") rows) (word_at (codes "ID") rows) ≡ p → named_in folder (keys_meant o w) p ≡ None → IsNoArgument rows
+    unnamed o of w has None is e = inr (inl is)
+    unnamed o of None has (Some name) is e = inr (inr (inl (o, of, has, no_keys folder name (keys_left_out o) e)))
+    unnamed o of (Some word) has (Some name) is e = cc
+
+    by_name_of : (o : ArgumentOperation) → argument_operation (word_at (codes "OPERATION") rows) ≡ Some o → (n : Option ValueName) → value_named folder o rows ≡ n
+        → then_ok (ok_or n Usage) (λ name. then_ok (command_meant o name (words_at (codes "VALUE") rows)) (λ c. Ok (requested o c))) ≡ Err Usage
         → IsNoArgument rows
-    by_name_of o of None is e = inr (inl (no_place (place_named (word_at (codes "FUNCTION") rows) (word_at (codes "ID") rows)) folder (word_at (codes "KEY") rows) is))
+    by_name_of o of None is e = unnamed o of (first_of (codes "KEY") rows) refl (place_named (word_at (codes "FUNCTION") rows) (word_at (codes "ID") rows)) refl is
     by_name_of o of (Some name) is e =
-        let changed = after_change (change_meant o (words_at (codes "VALUE") rows)) (λ change. run (commands.Argument name change)) e in
-        let given = other-values o (values_meant (words_at (codes "VALUE") rows)) changed in
-        inr (inr (o, given.0, of, given.1, given.2))
+        let meant = after_command (command_meant o name (words_at (codes "VALUE") rows)) (requested o) e in
+        let given = other-values o name (values_meant (words_at (codes "VALUE") rows)) meant in
+        inr (inr (inr (o, given.0, of, given.1, given.2)))
 
     by_operation : (o : Option ArgumentOperation) → argument_operation (word_at (codes "OPERATION") rows) ≡ o
         → then_ok (ok_or o Usage) (λ operation.
-        then_ok (ok_or (value_named folder rows) Usage) (λ name.
-        then_ok (change_meant operation (words_at (codes "VALUE") rows)) (λ change. Ok (run (commands.Argument name change))))) ≡ Err Usage
+        then_ok (ok_or (value_named folder operation rows) Usage) (λ name.
+        then_ok (command_meant operation name (words_at (codes "VALUE") rows)) (λ c. Ok (requested operation c)))) ≡ Err Usage
         → IsNoArgument rows
     by_operation None of e = inl of
-    by_operation (Some o) of e = by_name_of o of (value_named folder rows) refl e
+    by_operation (Some o) of e = by_name_of o of (value_named folder o rows) refl e
 
 -- ---- in the folder that is named
 

@@ -1,42 +1,54 @@
 -- The request of the words of `arg`, and of any subcommand in the folder that is named before it.
-use Rattle.std.specs.Prelude.{List, [], ◌∷◌, bytes_eq, codes, if◌then◌else◌, Option, Some, is_some, ok_or, option_and_then, option_map, Result, Ok, Err}
-use Rattle.clap.specs.Words.{Row, Text}
+use Rattle.std.specs.Prelude.{List, [], ◌∷◌, bytes_eq, codes, if◌then◌else◌, Option, Some, None, is_some, ok_or, option_and_then, option_map, Result, Ok, Err}
+use Rattle.clap.specs.Words.{Row, Text, first_of}
 use Rattle.meson_splice.specs.Patch.{then_ok}
 use Rattle.meson_steps.specs.GivenWords.{meant_by}
-use Rattle.meson_steps.specs.declared.argument.ValueChange.{ValueChange}
 use Rattle.meson_steps.specs.declared.argument.ValueName.{ValueName}
-use Rattle.meson_steps.specs.declared.command.Command.TheVariants as command
+use Rattle.meson_steps.specs.declared.command.Command.{Command}
 use Rattle.meson_steps.specs.declared.given.Given.{Given}
-use Rattle.meson_json.specs.Arguments.{change_to, keys_in, place_named}
+use Rattle.meson_json.specs.Arguments.{command_to, keys_in, keys_left_out, place_named}
 use Rattle.meson_json.specs.Operations.{argument_operation}
 use Rattle.meson_json.specs.declared.names.ArgumentOperation.{ArgumentOperation}
+use Rattle.meson_json.specs.declared.names.ArgumentOperation.TheVariants as operation
 use Rattle.meson_command.specs.Actions.{action_of, run, word_at, words_at}
 use Rattle.meson_command.specs.declared.asked.Action.{Action}
+use Rattle.meson_command.specs.declared.asked.Action.TheVariants.{Info}
 use Rattle.meson_command.specs.declared.fault.UsageFault.{UsageFault}
 use Rattle.meson_command.specs.declared.fault.UsageFault.TheVariants.{NotCode, Usage}
 
--- ---- arg OPERATION FUNCTION ID KEY [VALUE]...
+-- ---- arg OPERATION FUNCTION ID [KEY [VALUE]...]
 
 -- the values of words, if each word is one
 unfoldable pub values_meant : List Text → Option (List Given)
 values_meant [] = Some []
 values_meant (word ∷ words) = option_and_then (λ value. option_map (λ values. value ∷ values) (values_meant words)) (meant_by word)
 
--- what names the value, in the folder alone if one is named
-abbrev pub value_named : Option Text → List Row → Option ValueName
-value_named folder rows =
-    option_map (λ name. record { place = record { name = name; folder = folder }; keys = keys_in (word_at (codes "KEY") rows) })
-    (place_named (word_at (codes "FUNCTION") rows) (word_at (codes "ID") rows))
+-- the keys of a word, or where there is no word
+abbrev pub keys_meant : ArgumentOperation → Option Text → Option (List Text)
+keys_meant operation None = keys_left_out operation
+keys_meant operation (Some word) = Some (keys_in word)
 
--- the change that the operation and its words mean
-abbrev pub change_meant : ArgumentOperation → List Text → Result ValueChange UsageFault
-change_meant operation words = then_ok (ok_or (values_meant words) NotCode) (λ values. ok_or (change_to operation values) Usage)
+-- what names the value, in the folder alone if one is named
+abbrev pub value_named : Option Text → ArgumentOperation → List Row → Option ValueName
+value_named folder operation rows =
+    option_and_then (λ keys. option_map (λ name. record { place = record { name = name; folder = folder }; keys = keys })
+    (place_named (word_at (codes "FUNCTION") rows) (word_at (codes "ID") rows)))
+    (keys_meant operation (first_of (codes "KEY") rows))
+
+-- the command that the operation, the name of the value and further words mean
+abbrev pub command_meant : ArgumentOperation → ValueName → List Text → Result Command UsageFault
+command_meant operation name words = then_ok (ok_or (values_meant words) NotCode) (λ values. ok_or (command_to operation name values) Usage)
+
+-- what is reported is no run
+abbrev pub requested : ArgumentOperation → Command → Action
+requested operation.Info c = Info c
+requested o c = run c
 
 unfoldable pub argument_action : Option Text → List Row → Result Action UsageFault
 argument_action folder rows =
     then_ok (ok_or (argument_operation (word_at (codes "OPERATION") rows)) Usage) (λ operation.
-    then_ok (ok_or (value_named folder rows) Usage) (λ name.
-    then_ok (change_meant operation (words_at (codes "VALUE") rows)) (λ change. Ok (run (command.Argument name change)))))
+    then_ok (ok_or (value_named folder operation rows) Usage) (λ name.
+    then_ok (command_meant operation name (words_at (codes "VALUE") rows)) (λ c. Ok (requested operation c))))
 
 -- ---- any subcommand
 

@@ -6,7 +6,7 @@ use Rattle.clap.specs.declared.error.kind.ErrorKind.TheVariants.{DisplayHelp, Di
 use Rattle.meson_command.specs.Actions.{has_flag, options_by, word_at, words_at}
 use Rattle.meson_command.specs.Arguments.{action_within, values_meant}
 use Rattle.meson_command.specs.Asking.{asked_by, help, is_dry, names_no_folder, only_asks, only_shows, texts_fit, version, wants_json}
-use Rattle.meson_json.specs.Arguments.{change_to, place_named}
+use Rattle.meson_json.specs.Arguments.{change_to, keys_left_out, place_named}
 use Rattle.meson_json.specs.Operations.{argument_operation, kwargs_operation, role_of}
 use Rattle.meson_json.specs.declared.names.ArgumentOperation.{ArgumentOperation}
 use Rattle.meson_steps.specs.declared.given.Given.{Given}
@@ -68,19 +68,25 @@ AsksForTwo rows = (has_flag (codes "sums") rows ≡ true) × ((has_flag (codes "
 abbrev pub NamesNoFunction : List Row → Type 0
 NamesNoFunction rows = first_of (codes "FUNCTION") rows ≡ Some []
 
+-- the key of `arg` is missing, and its operation needs one
+abbrev pub HasNoKey : List Row → Type 0
+HasNoKey rows =
+    (operation : ArgumentOperation) × (argument_operation (word_at (codes "OPERATION") rows) ≡ Some operation)
+    × (first_of (codes "KEY") rows ≡ None) × (keys_left_out operation ≡ None)
+
 -- the values of `arg` are not as many as its operation takes
 abbrev pub HasOtherValues : List Row → Type 0
 HasOtherValues rows =
     (operation : ArgumentOperation) × (values : List Given) × (argument_operation (word_at (codes "OPERATION") rows) ≡ Some operation)
     × (values_meant (words_at (codes "VALUE") rows) ≡ Some values) × (change_to operation values ≡ None)
 
--- the operation of `arg` is unknown, its function and id name no place, or its values are not as many as it takes
+-- the operation of `arg` is unknown, its function and id name no place, its key is missing, or its values are not as many as it takes
 abbrev pub IsNoArgument : List Row → Type 0
 IsNoArgument rows =
     (argument_operation (word_at (codes "OPERATION") rows) ≡ None)
-    ⊎ ((place_named (word_at (codes "FUNCTION") rows) (word_at (codes "ID") rows) ≡ None) ⊎ HasOtherValues rows)
+    ⊎ ((place_named (word_at (codes "FUNCTION") rows) (word_at (codes "ID") rows) ≡ None) ⊎ (HasNoKey rows ⊎ HasOtherValues rows))
 
--- the subcommand's operation, function, id or number is not valid, the values of `arg` are not as many as it takes, or two listings are requested or one of a function without a name
+-- the subcommand's operation, function, id or number is not valid, the key of `arg` is missing, its values are not as many as it takes, or two listings are requested or one of a function without a name
 abbrev pub IsUnknown : Text → List Row → Type 0
 IsUnknown subcommand rows =
     ((subcommand ≡ codes "target") × (operation_of_word (word_at (codes "OPERATION") rows) ≡ None))

@@ -14,6 +14,10 @@ required_word id = record (new_rule id) { required = true; action = Some action.
 abbrev pub ending_word : Text → Rule
 ending_word id = record (required_word id) { trailing_var_arg = true }
 
+-- a word that may be left out
+abbrev pub word : Text → Rule
+word id = record (new_rule id) { action = Some action.Set }
+
 -- any number of words
 abbrev pub many : Text → Rule
 many id = record (new_rule id) { action = Some action.Append }
@@ -59,10 +63,10 @@ unfoldable pub kwargs : App
 kwargs = of_words (new_app (codes "kwargs")) (required_word (codes "OPERATION") ∷ required_word (codes "FUNCTION") ∷ required_word (codes "ID")
     ∷ many (codes "KEY VALUE") ∷ help ∷ [])
 
--- arg OPERATION FUNCTION ID KEY [VALUE]...
+-- arg OPERATION FUNCTION ID [KEY [VALUE]...]
 unfoldable pub argument : App
 argument = of_words (new_app (codes "arg")) (required_word (codes "OPERATION") ∷ ending_word (codes "FUNCTION") ∷ required_word (codes "ID")
-    ∷ required_word (codes "KEY") ∷ many (codes "VALUE") ∷ help ∷ [])
+    ∷ word (codes "KEY") ∷ many (codes "VALUE") ∷ help ∷ [])
 
 -- default-options OPERATION [OPTION VALUE]...
 unfoldable pub default_options : App

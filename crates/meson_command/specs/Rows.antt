@@ -142,6 +142,10 @@ Values =
     × asks (codes "arg set -- target e k v") (in_place (changed (target_of (codes "e")) (codes "k" ∷ []) (change.Set (given.Text (codes "v")))))
     × asks (codes "arg set project / license.0 MIT")
     (in_place (changed (name.Project (codes "/")) (codes "license" ∷ codes "0" ∷ []) (change.Set (given.Text (codes "MIT")))))
+    × asks (codes "arg remove target e c_args -DX true")
+    (in_place (changed (target_of (codes "e")) (codes "c_args" ∷ []) (change.Remove (given.Text (codes "-DX") ∷ given.Switch true ∷ []))))
+    × asks (codes "arg replace target e c_args -DX -DY")
+    (in_place (changed (target_of (codes "e")) (codes "c_args" ∷ []) (change.Replace (given.Text (codes "-DX")) (given.Text (codes "-DY")))))
     × asks (codes "arg delete target e install") (in_place (changed (target_of (codes "e")) (codes "install" ∷ []) change.Delete))
     × asks (codes "arg delete target --help -x") (in_place (changed (target_of (codes "--help")) (codes "-x" ∷ []) change.Delete))
     × asks (codes "arg delete variable x .") (in_place (changed (name.Variable (codes "x")) [] change.Delete))
@@ -155,6 +159,9 @@ Values =
     × asks (codes "arg --help") (Ok help)
     × asks (codes "arg set --help") (Ok help)
     × asks (codes "arg set target e k") (Err Usage)
+    × asks (codes "arg remove target e k") (Err Usage)
+    × asks (codes "arg replace target e k v") (Err Usage)
+    × asks (codes "arg replace target e k u v w") (Err Usage)
     × asks (codes "arg delete target e k v") (Err Usage)
     × asks (codes "arg delete target e") (Err Usage)
     × asks (codes "arg delete target --help") (Err Usage)
@@ -302,6 +309,22 @@ Listed =
     × asks (codes "history --of test") (Err Usage)
     × wants (codes "--json list --of=") true
     × wants (codes "list --of test --json") false
+
+-- what is reported of a value; the key may be left out
+abbrev infos_in : Option (List ℕ) → PlaceName → List (List ℕ) → Action
+infos_in folder place keys = Info (command.ArgumentInfo (record { place = record { name = place; folder = folder }; keys = keys }))
+
+abbrev pub Infos : Type 0
+Infos =
+    asks (codes "arg info target e c_args.0") (in_place (infos_in None (target_of (codes "e")) (codes "c_args" ∷ codes "0" ∷ [])))
+    × asks (codes "arg info target e") (in_place (infos_in None (target_of (codes "e")) []))
+    × asks (codes "arg info variable x .") (in_place (infos_in None (name.Variable (codes "x")) []))
+    × asks (codes "--in src arg info target --help") (in_place (infos_in (Some (codes "src")) (target_of (codes "--help")) []))
+    × asks (codes "--texts t arg info at s/meson.build:12") (texted no_flags (codes "t") (infos_in None (name.Line (codes "s/meson.build") 12) []))
+    × asks (codes "arg info target e k v") (Err Usage)
+    × asks (codes "arg info target") (Err Usage)
+    × asks (codes "arg info at meson.build") (Err Usage)
+    × asks (codes "arg add target e") (Err Usage)
 
 -- what is listed, which scripts are meant, help and the version
 abbrev pub Other : Type 0

@@ -1,20 +1,20 @@
-//! `arg OPERATION FUNCTION ID KEY [VALUE]...`.
+//! `arg OPERATION FUNCTION ID [KEY [VALUE]...]`.
 
 ghost use Rattle.std.specs.Prelude.{◌≡◌, ◌≢◌, Err, IfErr, IfOk, None, Ok, Some, codes, option_map};
 ghost use Rattle.clap.specs.Words.{found_of, rows_of};
 ghost use Rattle.meson_command.specs.Actions.{words_at};
-ghost use Rattle.meson_command.specs.Arguments.{argument_action, change_meant, value_named, values_meant};
+ghost use Rattle.meson_command.specs.Arguments.{argument_action, command_meant, keys_meant, value_named, values_meant};
 ghost use Rattle.meson_command.specs.declared.fault.UsageFault.TheVariants.{NotCode, OutOfMemory};
 
 use crate::asked::Action;
 use crate::fault::UsageFault;
 use crate::words::{run, word_or, words_at};
 use clap::ArgMatches;
-use meson_json::argument::{change_to, keys_in, place_named};
+use meson_json::argument::{command_to, keys_in, keys_left_out, place_named};
 use meson_json::names::{ArgumentOperation, find_argument_operation};
 use meson_json::owned;
-use meson_splice::Text;
-use meson_steps::argument::{Search, ValueChange, ValueName};
+use meson_splice::{Many, Text};
+use meson_steps::argument::{Search, ValueName};
 use meson_steps::command::Command;
 use meson_steps::given::{Given, given_of};
 use std::alloc::{AllocError, Global};
@@ -45,15 +45,32 @@ fn folder_named(alloc: Global, folder: Option<&str>) -> Result<Option<Text>, All
     }
 }
 
-/// What names the value, if the function and the id name a place.
+/// The keys of a word, or where there is no word.
+fn keys_meant(
+    alloc: Global,
+    operation: ArgumentOperation,
+    word: Option<&str>,
+) -> Result<Option<Many<Text>>, AllocError>
+    ensures { IfOk result (λ ks. ks ≡ keys_meant operation (option_map (λ w. w.now) word.entry)) }
+{
+    match word {
+        Some(word) => Ok(Some(keys_in(alloc, word)?)),
+        None => Ok(keys_left_out(alloc, operation)),
+    }
+}
+
+/// What names the value, if the operation can do without a key that is missing, and the function and the id name a place.
 fn value_named(
     alloc: Global,
     folder: Option<&str>,
+    operation: ArgumentOperation,
     matches: &ArgMatches<'_>,
 ) -> Result<Option<ValueName>, AllocError>
-    ensures { IfOk result (λ n. n ≡ value_named (option_map (λ w. w.now) folder.entry) (rows_of (found_of matches.now))) }
+    ensures { IfOk result (λ n. n ≡ value_named (option_map (λ w. w.now) folder.entry) operation (rows_of (found_of matches.now))) }
 {
-    let keys = keys_in(alloc, word_or(matches, "KEY", ""))?;
+    let Some(keys) = keys_meant(alloc, operation, matches.get_str("KEY"))? else {
+        return Ok(None);
+    };
     let folder = folder_named(alloc, folder)?;
     let function = word_or(matches, "FUNCTION", "");
     let Some(name) = place_named(alloc, function, word_or(matches, "ID", ""))? else {
@@ -63,20 +80,21 @@ fn value_named(
     Ok(Some(ValueName { place, keys }))
 }
 
-/// The change that the operation and its words mean.
-fn change_meant(
+/// The command that the operation, the name of the value and further words mean.
+fn command_meant(
     alloc: Global,
     operation: ArgumentOperation,
+    name: ValueName,
     matches: &ArgMatches<'_>,
-) -> Result<ValueChange, UsageFault>
-    ensures ok { IfOk result (λ c. change_meant operation (words_at (codes "VALUE") (rows_of (found_of matches.now))) ≡ Ok c) }
+) -> Result<Command, UsageFault>
+    ensures ok { IfOk result (λ c. command_meant operation name (words_at (codes "VALUE") (rows_of (found_of matches.now))) ≡ Ok c) }
     ensures refused { IfErr result (λ e. e ≢ OutOfMemory
-        → change_meant operation (words_at (codes "VALUE") (rows_of (found_of matches.now))) ≡ Err e) }
+        → command_meant operation name (words_at (codes "VALUE") (rows_of (found_of matches.now))) ≡ Err e) }
 {
     let words = words_at(alloc, matches, "VALUE")?;
     let values = values_meant(alloc, words.get())?;
-    match change_to(operation, values) {
-        Some(change) => Ok(change),
+    match command_to(operation, name, values) {
+        Some(command) => Ok(command),
         None => Err(UsageFault::Usage),
     }
 }
@@ -84,7 +102,8 @@ fn change_meant(
 /// The request of the words of `arg`, in the folder alone if one is named.
 ///
 /// # Errors
-/// The operation is unknown; the function and the id name no place; a value is not code; the values are not as many as the operation takes.
+/// The operation is unknown; it needs a key that is missing; the function and the id name no place; a value is not code; or the values are not as many as the
+/// operation takes.
 #[tactic(auto, unfolding(crate::specs::Arguments::argument_action))]
 pub(crate) fn argument_action(
     alloc: Global,
@@ -98,9 +117,12 @@ pub(crate) fn argument_action(
     let Some(operation) = find_argument_operation(word_or(matches, "OPERATION", "")) else {
         return Err(UsageFault::Usage);
     };
-    let Some(name) = value_named(alloc, folder, matches)? else {
+    let Some(name) = value_named(alloc, folder, operation, matches)? else {
         return Err(UsageFault::Usage);
     };
-    let change = change_meant(alloc, operation, matches)?;
-    run(alloc, Command::Argument { name, change })
+    let command = command_meant(alloc, operation, name, matches)?;
+    match operation {
+        ArgumentOperation::Info => Ok(Action::Info(command)),
+        _ => run(alloc, command),
+    }
 }

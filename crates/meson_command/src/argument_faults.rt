@@ -12,11 +12,20 @@ use meson_steps::code::{is_expression, not_list};
 use meson_syntax::{Bracket, MAX_DEPTH, ParseFault, parse_list_within};
 use std::alloc::{AllocError, Global};
 
+/// What a key is.
+pub(crate) const KEY_HELP: &str =
+    "KEY is a keyword, a number from 0 or the text of an entry; . is the place itself";
+
+const TWO_VALUES: &str = "replace takes two values, the old one and the new one";
+
 /// The operation on a value that a word of another kind means.
 fn meant_operation(word: &str) -> Option<&'static str> {
     match word {
-        "rm" | "del" | "unset" | "remove" => Some("delete"),
-        "add" | "replace" | "change" => Some("set"),
+        "rm" => Some("remove"),
+        "del" | "unset" => Some("delete"),
+        "rename" => Some("replace"),
+        "change" => Some("set"),
+        "get" | "show" | "list" => Some("info"),
         _ => None,
     }
 }
@@ -38,6 +47,28 @@ fn explain_operation(
     ARGUMENT_OPERATIONS.refuse(alloc, remarks, operation, meant_operation(operation))
 }
 
+/// Explains that `arg` has no values, and what its operation takes.
+fn explain_no_values(
+    alloc: Global,
+    remarks: &mut Remarks,
+    operation: &str,
+    key: &str,
+) -> Result<(), AllocError> {
+    remarks.note(format!(in alloc; "{key} has no value")?)?;
+    split_pair(alloc, remarks, &[key])?;
+    match operation {
+        "remove" => remarks.help_words(
+            alloc,
+            "remove takes one value or several; without values delete removes all of it",
+        ),
+        "replace" => remarks.help_words(alloc, TWO_VALUES),
+        _ => remarks.help_words(
+            alloc,
+            "set and add take one value or several; :[] is an empty array",
+        ),
+    }
+}
+
 /// Explains that the values of `arg` are more or fewer than its operation takes.
 fn explain_values(
     alloc: Global,
@@ -45,25 +76,40 @@ fn explain_values(
     words: &ArgMatches<'_>,
 ) -> Result<(), AllocError> {
     let key = word_or(words, "KEY", "");
+    let operation = word_or(words, "OPERATION", "");
     let Some(values) = words.get_strs("VALUE") else {
-        remarks.note(format!(in alloc; "{key} has no value")?)?;
-        split_pair(alloc, remarks, &[key])?;
-        return remarks.help_words(
-            alloc,
-            "set and add take one value or several; :[] is an empty array",
-        );
+        return explain_no_values(alloc, remarks, operation, key);
     };
+    if operation == "replace" {
+        return remarks.note_words(alloc, TWO_VALUES);
+    }
     let function = quoted(alloc, word_or(words, "FUNCTION", ""))?;
     let id = quoted(alloc, word_or(words, "ID", ""))?;
     let shown = quoted(alloc, key)?;
-    remarks.note_words(alloc, "delete takes no values")?;
+    let operation = word_or(words, "OPERATION", "");
+    let verb = if operation == "info" {
+        "list"
+    } else {
+        "delete"
+    };
+    remarks.note(format!(in alloc; "{operation} takes no values")?)?;
     remarks.help(format!(in alloc;
-        "to delete it write: meson_rewrite arg delete {function} {id} {shown}"
+        "to {verb} it write: meson_rewrite arg {operation} {function} {id} {shown}"
     )?)?;
     let rest = all_quoted(alloc, values)?;
     remarks.help(format!(in alloc;
         "to change it write: meson_rewrite arg set {function} {id} {shown}{rest}"
     )?)
+}
+
+/// Explains that the key is missing.
+fn explain_no_key(alloc: Global, remarks: &mut Remarks) -> Result<(), AllocError> {
+    remarks.note_words(
+        alloc,
+        "the following required arguments were not provided: <KEY>",
+    )?;
+    ARGUMENT_OPERATIONS.list(alloc, remarks)?;
+    remarks.help_words(alloc, KEY_HELP)
 }
 
 /// Explains that the function and the id name no place.
@@ -75,7 +121,7 @@ fn explain_place(alloc: Global, remarks: &mut Remarks, id: &str) -> Result<(), A
     )
 }
 
-/// Explains that the operation or the place of `arg` is not known, or that its values are not as many as the operation takes.
+/// Explains that the operation or the place of `arg` is not known, that its key is missing, or that its values are not as many as the operation takes.
 pub(crate) fn explain_argument(
     alloc: Global,
     remarks: &mut Remarks,
@@ -90,8 +136,16 @@ pub(crate) fn explain_argument(
     if place.is_none() {
         return explain_place(alloc, remarks, id);
     }
-    let has_values = words.get_strs("VALUE").is_some();
-    if has_values == (operation == "delete") {
+    if words.get_str("KEY").is_none() && operation != "info" {
+        return explain_no_key(alloc, remarks);
+    }
+    let many = words.get_strs("VALUE").map_or(0, |values| values.len());
+    let fits = match operation {
+        "delete" | "info" => many == 0,
+        "replace" => many == 2,
+        _ => many > 0,
+    };
+    if !fits {
         return explain_values(alloc, remarks, words);
     }
     Ok(())

@@ -35,7 +35,7 @@ pub(crate) const FUNCTIONS: Choice = Choice {
 pub(crate) const ARGUMENT_OPERATIONS: Choice = Choice {
     of: "arg",
     what: "operations",
-    words: &["set", "add", "delete"],
+    words: &["set", "add", "remove", "replace", "delete", "info"],
 };
 
 /// The operations of `default-options`.

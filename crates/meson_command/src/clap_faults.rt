@@ -1,5 +1,6 @@
 //! What explains words that clap does not take.
 
+use crate::argument_faults::KEY_HELP;
 use crate::choices::{
     ARGUMENT_OPERATIONS, FUNCTIONS, KWARGS_OPERATIONS, OPTIONS_OPERATIONS, TARGET_OPERATIONS,
 };
@@ -198,10 +199,7 @@ fn help_missing(
         }
         Some(Subcommand::Argument) => {
             ARGUMENT_OPERATIONS.list(alloc, remarks)?;
-            remarks.help_words(
-                alloc,
-                "KEY is a keyword, a number from 0 or the text of an entry; . is the place itself",
-            )
+            remarks.help_words(alloc, KEY_HELP)
         }
         Some(Subcommand::DefaultOptions) => OPTIONS_OPERATIONS.list(alloc, remarks),
         _ => Ok(()),

@@ -118,7 +118,7 @@ Examples:
   meson_rewrite kwargs delete target harbor install x
   meson_rewrite kwargs info dependency zlib";
 
-pub(crate) const ARGUMENT: &str = "Set, add to or delete any value of a call or a variable";
+pub(crate) const ARGUMENT: &str = "Edit or list any value of a call or a variable";
 
 pub(crate) const BELOW_ARGUMENT: &str = "\
 Options of the program, before the subcommand (see meson_rewrite --help):
@@ -129,7 +129,13 @@ Operations:
           keyword or entry is inserted after the others
   add     add the values that its list does not have yet, at the end; of a
           sum, to its last list; an absent key gets the array of them
+  remove  remove each element of its lists that is one of the values; a value
+          without a list goes with its argument or entry, if it is the value
+  replace  takes two values, OLD and NEW: put NEW in the place of each element
+          of its lists, or of the value without a list, that is OLD
   delete  remove the argument, entry or element; it takes no values
+  info    list the value, or the keys and values in it; it takes no values,
+          and without KEY lists the place itself
 
 Places, each a FUNCTION with its ID:
   target ID      a call that makes a target, by its name or variable
@@ -154,18 +160,24 @@ CODE anything.
 
 If it is refused:
   C3   several calls have the id: use --in FOLDER, the variable, or at FILE:LINE
-  C9   the value has no list to add to: set the whole value by CODE
+  C9   the value has no list: set the whole value by CODE
+  C12  an assigned value can't be removed, only elements of its list
   C21  the value is of another kind: give CODE
-  C23  no argument or element has this number: count from 0
+  C22  the new value is there already: remove the old one
+  C23  no value has this key: see the keys with arg info; or nothing is the
+       value to remove or to replace: a text is no CODE, as zlib or :zlib
 
 Examples:
   meson_rewrite arg set target tide c_args -DTIDE -DPIER
   meson_rewrite arg add target harbor c_args -DHARBOR
+  meson_rewrite arg remove dependency zlib version '<2'
+  meson_rewrite arg replace target tide dependencies :zlib :zlib_ng
   meson_rewrite arg set target harbor install_dir \":get_option('bindir')\"
   meson_rewrite arg set dependency zlib version '>=1.3'
   meson_rewrite arg set project / license.0 Zlib
   meson_rewrite arg delete target harbor install
-  meson_rewrite --in src arg set target harbor install false";
+  meson_rewrite --in src arg set target harbor install false
+  meson_rewrite arg info target harbor";
 
 pub(crate) const PLACE_FUNCTION: &str = "Where the value is, see Places";
 
@@ -204,7 +216,7 @@ operation; man meson_rewrite lists their other members:
                    target_add, target_rm, info
   kwargs           set, add, remove, delete, info
   default_options  set, delete
-  arg              set, add, delete
+  arg              set, add, delete, info
 
 All commands are done, or none.
 The script is kept as a run even if it only lists (info). --dry-run leaves the

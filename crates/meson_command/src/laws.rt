@@ -3,12 +3,13 @@
 ghost use Rattle.meson_command.specs.Entries.{WordsMeanTheEntry};
 ghost use Rattle.meson_command.specs.Laws.{HelpWhereAsked, JsonWhereWanted, OddWordsAreOdd, PairsAreTheWords, UnsetIsDelete, UsageMeansUnknown, VersionWhereAsked};
 ghost use Rattle.meson_command.specs.Laws.{TextsWriteNothing};
-ghost use Rattle.meson_command.specs.Rows.{CodeIsExpressionOrRefused, Done, Flagged, Json, LaterWordsArePlain, Listed, Other, Refused, Shown, Texts, Titled, Values};
+ghost use Rattle.meson_command.specs.Rows.{CodeIsExpressionOrRefused, Done, Flagged, Infos, Json, LaterWordsArePlain, Listed, Other, Refused, Shown, Texts, Titled, Values};
 
 /// The requests of some command lines.
 pub fn rows()
     ensures done { Done }
     ensures values { Values }
+    ensures infos { Infos }
     ensures titled { Titled }
     ensures shown { Shown }
     ensures json { Json }
@@ -54,8 +55,8 @@ pub fn texts_write_nothing()
 {}
 
 /// Words that clap takes are wrong usage only in these cases: the folder is empty, an operation or a function is unknown, a number is not valid, two listings
-/// are requested or one of a function without a name, the function and the id of `arg` name no place, its values are not as many as its operation takes, a
-/// folder is named for another subcommand, or texts are named for what writes or would read standard input, too.
+/// are requested or one of a function without a name, the function and the id of `arg` name no place, its key is missing, its values are not as many as its
+/// operation takes, a folder is named for another subcommand, or texts are named for what writes or would read standard input, too.
 pub fn usage_means_unknown()
     ensures { UsageMeansUnknown }
 {}

@@ -2,7 +2,7 @@
 
 ghost use Rattle.std.specs.Prelude.{◌≡◌, IfOk, false};
 ghost use Rattle.clap.specs.Words.{App, app_of, new_app, rule_of, with_rule, with_subcommand};
-ghost use Rattle.meson_command.specs.Program.{IsToldToClap, argument, command, default_options, ending_word, flag, help, history, kwargs, list, many, required_word, option, own_words, program, redo, short_flag, short_option, target, undo, version, with_alias};
+ghost use Rattle.meson_command.specs.Program.{IsToldToClap, argument, command, default_options, ending_word, flag, help, history, kwargs, list, many, required_word, option, own_words, program, redo, short_flag, short_option, target, undo, version, with_alias, word};
 
 use crate::help;
 use clap::{Arg, ArgAction, Command};
@@ -43,6 +43,19 @@ fn with_one<'h>(
     ensures { (a : App) → IfOk command.entry (IsToldToClap a) → IfOk result (IsToldToClap (with_rule a (required_word name.entry.now))) }
 {
     let arg = Arg::new(alloc, name).required(true).action(ArgAction::Set);
+    with_arg(command, arg.help(about))
+}
+
+/// With a word that may be left out.
+fn with_optional<'h>(
+    alloc: Global,
+    command: Result<Command<'h>, AllocError>,
+    name: &'h str,
+    about: &'h str,
+) -> Result<Command<'h>, AllocError>
+    ensures { (a : App) → IfOk command.entry (IsToldToClap a) → IfOk result (IsToldToClap (with_rule a (word name.entry.now))) }
+{
+    let arg = Arg::new(alloc, name).action(ArgAction::Set);
     with_arg(command, arg.help(about))
 }
 
@@ -199,7 +212,7 @@ fn argument<'h>(alloc: Global) -> Result<Command<'h>, AllocError>
     let command = with_one(alloc, command, "OPERATION", "What to do, see Operations");
     let command = with_ending(alloc, command, "FUNCTION", help::PLACE_FUNCTION);
     let command = with_one(alloc, command, "ID", "Which call or variable, see Places");
-    let command = with_one(alloc, command, "KEY", "Which value of it, see Keys");
+    let command = with_optional(alloc, command, "KEY", "Which value of it, see Keys");
     let command = with_many(alloc, command, "VALUE", "What it becomes, see Values");
     with_help(alloc, command)
 }

@@ -4,4 +4,5 @@ mod CalledNames
 mod ChangedKeys
 mod EachShown
 mod GoodWords
+mod ValueParts
 mod ValuesAreTexts

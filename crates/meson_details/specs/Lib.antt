@@ -2,3 +2,4 @@ pub mod Called
 pub mod Details
 pub mod Once
 pub mod ValueTexts
+pub mod Values

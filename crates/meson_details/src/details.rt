@@ -31,3 +31,30 @@ pub enum Shown {
     /// Anything else, by its text in the file.
     Opaque(Text),
 }
+
+/// What leads from a call, an array or a dictionary to a value in it.
+#[derive(Debug, Drop)]
+pub enum ArgumentKey {
+    /// The number of an argument without a name or of an element, counted from 0.
+    Number(usize),
+    /// The name of a keyword argument, or the text of an entry's key.
+    Text(Text),
+    /// The key of an entry that is not a literal, by its text in the file.
+    Code(Text),
+}
+
+/// What is reported of a value.
+#[derive(Debug, Drop)]
+pub enum ValueDetails {
+    /// A call, with its arguments in their order.
+    Call {
+        function: Text,
+        /// The text of its first argument without a name, if that is a literal.
+        name: Option<Text>,
+        arguments: Many<(ArgumentKey, Shown)>,
+    },
+    /// An array or a dictionary, by what is in it, in its order.
+    List(Many<(ArgumentKey, Shown)>),
+    /// Any other value.
+    Other(Shown),
+}

@@ -5,5 +5,6 @@ pub mod called;
 mod details;
 pub mod duplicates;
 pub mod showing;
+pub mod values;
 
-pub use details::{Head, Shown};
+pub use details::{ArgumentKey, Head, Shown, ValueDetails};

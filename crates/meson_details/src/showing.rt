@@ -29,7 +29,7 @@ use meson_syntax::{Arg, Bracket, Expr, List};
 use std::alloc::{AllocError, Global};
 
 /// The text of an identifier.
-fn name_text(alloc: Global, name: &[u8]) -> Result<Text, AllocError>
+pub(crate) fn name_text(alloc: Global, name: &[u8]) -> Result<Text, AllocError>
     requires { IsIdentifier name.now }
     ensures { IfOk result (λ text. text ≡ name.now) }
 {
@@ -45,7 +45,11 @@ fn is_hidden(source: &[u8], arguments: &List) -> bool
 }
 
 /// The text of the first argument without a name, if that is a literal.
-fn name_of(alloc: Global, source: &[u8], arguments: &List) -> Result<Option<Text>, AllocError>
+pub(crate) fn name_of(
+    alloc: Global,
+    source: &[u8],
+    arguments: &List,
+) -> Result<Option<Text>, AllocError>
     requires { AreGood (listing_words (list_view source.now arguments.now) Bracket.Round) }
     ensures { (function : Source) → IfOk result (λ name. name ≡ first_literal (call_with function (list_view source.now arguments.now))) }
 {
@@ -137,7 +141,7 @@ fn variables_in(
 }
 
 /// A value by its text in the file.
-fn opaque(alloc: Global, source: &[u8], value: &Expr) -> Result<Text, AllocError>
+pub(crate) fn opaque(alloc: Global, source: &[u8], value: &Expr) -> Result<Text, AllocError>
     requires { IsUtf8 (source_text source.now (expr_view source.now value.now)) }
     ensures { IfOk result (λ text. text ≡ source_text source.now (expr_view source.now value.now)) }
 {
@@ -166,7 +170,7 @@ fn shown_array(
 }
 
 /// The value of a keyword argument.
-fn shown_value(alloc: Global, source: &[u8], value: &Expr) -> Result<Shown, AllocError>
+pub(crate) fn shown_value(alloc: Global, source: &[u8], value: &Expr) -> Result<Shown, AllocError>
     requires good { AreGood (expression_words (expr_view source.now value.now)) }
     requires text { IsUtf8 (source_text source.now (expr_view source.now value.now)) }
     ensures { IfOk result (λ s. s ≡ shown_value source.now (expr_view source.now value.now)) }

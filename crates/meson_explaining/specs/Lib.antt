@@ -1,5 +1,10 @@
 pub mod Notes
 pub mod Nearest
+pub mod NotFound
+pub mod Stated
+pub mod ArgumentPlaces
+pub mod ArgumentValues
+pub mod Arguments
 pub mod Explaining
 pub mod Lines
 pub mod Keys
@@ -10,6 +15,8 @@ pub mod BadNames
 pub mod Removals
 pub mod Targets
 pub mod Unknown
+pub mod Ways
+pub mod Written
 pub mod Laws
 pub mod NameLaws
 pub mod Excerpts

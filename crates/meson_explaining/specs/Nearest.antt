@@ -1,15 +1,19 @@
 -- The calls whose names are nearest to an id, by the number of edits from one to the other.
 use Rattle.std.specs.Prelude.{ℕ, zero, suc, ◌+◌, ◌/◌, ◌==◌, nat_eq, nat_lt, Bool, false, if◌then◌else◌, List, [], ◌++◌, filter, length, map, take}
 use Rattle.std.specs.Prelude.{Option, Some, None, option_and_then}
-use Rattle.std.specs.Str.{chars}
+use Rattle.std.specs.Str.{chars, str_to_ascii_lowercase}
 use Rattle.strsim.specs.Edits.{levenshtein_row}
 use Rattle.meson_inventory.specs.declared.holdings.HeldCall.{HeldCall}
 use Rattle.meson_explaining.specs.declared.explanation.Note.{Note}
 use Rattle.meson_explaining.specs.Notes.{call_note}
 
 -- how many edits lead from one text to the other: their Levenshtein distance
+abbrev pub distance : List ℕ → List ℕ → ℕ
+distance x y = levenshtein_row nat_eq (chars x) (chars y) (length (chars y))
+
+-- the same, where the case of ASCII letters does not count
 abbrev pub edits : List ℕ → List ℕ → ℕ
-edits x y = levenshtein_row nat_eq (chars x) (chars y) (length (chars y))
+edits x y = distance (str_to_ascii_lowercase x) (str_to_ascii_lowercase y)
 
 -- names of more than 100 bytes are too long
 abbrev pub is_long : List ℕ → Bool

@@ -1,8 +1,12 @@
 -- Notes of names that cannot be removed from a target: they are in no list, or are not among what is known of it.
-use Rattle.std.specs.Prelude.{ℕ, ◌-◌, Bool, ◌&&◌, List, [], ◌∷◌, ◌++◌, bytes_eq, codes, filter, find, is_none, length, map, take, Option, Some, None}
+use Rattle.std.specs.Prelude.{ℕ, ◌-◌, ◌==◌, Bool, true, false, ◌&&◌, List, [], ◌∷◌, ◌++◌, bytes_eq, codes, filter, find, is_none, length, map, take}
+use Rattle.std.specs.Prelude.{Option, Some, None, Result, Ok, Err}
 use Rattle.std.specs.List.{list_any}
-use Rattle.meson_calls.specs.Loading.{Loaded}
+use Rattle.meson_calls.specs.Loading.{Loaded, project}
+use Rattle.meson_calls.specs.declared.call.CallRef.{CallRef}
 use Rattle.meson_calls.specs.declared.call.Role.TheVariants as role
+use Rattle.meson_calls.specs.declared.refusal.Refusal.{Refusal}
+use Rattle.meson_plan.specs.Details.{target_place}
 use Rattle.meson_inventory.specs.Holdings.{calls_held, subdirs_held}
 use Rattle.meson_inventory.specs.declared.holdings.HeldCall.{HeldCall}
 use Rattle.meson_steps.specs.declared.command.Command.{Command}
@@ -12,6 +16,7 @@ use Rattle.meson_explaining.specs.Notes.{call_note, few_notes, further, plain_no
 use Rattle.meson_explaining.specs.Sources.{close_notes, extras_at, is_missing, sources_at}
 use Rattle.meson_explaining.specs.Unknown.{unknown_arguments}
 use Rattle.meson_explaining.specs.Values.{value_notes}
+use Rattle.meson_explaining.specs.Written.{written_notes}
 use Rattle.meson_explaining.specs.declared.explanation.Explanation.{Explanation}
 use Rattle.meson_explaining.specs.declared.explanation.Note.{Note}
 
@@ -62,14 +67,26 @@ setter_notes l =
 abbrev pub not_known_notes : Loaded → List ℕ → List ℕ → List SourceItem → List (List ℕ) → List Note
 not_known_notes l target key items names =
     let name = find (is_missing items) names in
-    unknown_notes name
+    unknown_notes name ++ written_notes l name
     ++ (close_notes items name ++ (unknown_arguments l target key ++ (value_notes l role.Target target (codes "kwargs") ++ setter_notes l)))
 
+-- the root file is the first of the files, and no folder of its own leaves anything out
+abbrev pub is_in_root : Result CallRef Refusal → Bool
+is_in_root (Err e) = false
+is_in_root (Ok c) = c.file == 0
+
+abbrev pub element_help : List ℕ
+element_help = codes "arg delete at FILE:LINE NUMBER removes an element, counted from 0, of the list that is set on that line"
+
+abbrev pub folder_help : Bool → List ℕ
+folder_help true = codes "--sourcedir does not help, since the target is in the root file; info counts what is not known"
+folder_help false = codes "--sourcedir with the folder of the target leaves out what other folders set; info counts what is not known"
+
+abbrev pub not_known_help : Loaded → List ℕ → List (List ℕ)
+not_known_help l target = element_help ∷ folder_help (is_in_root (target_place (project l) target)) ∷ []
+
 abbrev pub not_known : Loaded → List ℕ → List ℕ → List SourceItem → List (List ℕ) → Explanation
-not_known l target key items names = record {
-  notes = not_known_notes l target key items names;
-  help = codes "--sourcedir with the folder of the target leaves out what other folders set; info counts what is not known" ∷ [];
-}
+not_known l target key items names = record { notes = not_known_notes l target key items names; help = not_known_help l target }
 
 abbrev pub unresolved : Loaded → Command → Explanation
 unresolved l (command.SourcesRemove target names) = not_known l target (codes "sources") (sources_at l target) names

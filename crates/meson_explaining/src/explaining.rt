@@ -1,14 +1,15 @@
 //! Why a command is refused, in words for people.
 
-ghost use Rattle.std.specs.Prelude.{◌≡◌, ◌∷◌, [], IfOk, filter, is_none, length, option_map};
+ghost use Rattle.std.specs.Prelude.{◌≡◌, ◌∷◌, [], IfOk, option_map};
 ghost use Rattle.meson_explaining.specs.Sources.{source_notes};
-ghost use Rattle.meson_explaining.specs.Explaining.{ambiguous, ambiguous_help, call_explanation, explanation, list_help, missing_notes, not_found, not_literal};
-ghost use Rattle.meson_explaining.specs.Explaining.{not_there, unknown_help, unknown_key, unnamed, value_explanation, with_info, wrong_kind};
+ghost use Rattle.meson_explaining.specs.Explaining.{ambiguous, ambiguous_help, call_explanation, explanation, list_help, not_literal, not_there};
+ghost use Rattle.meson_explaining.specs.Explaining.{unknown_help, unknown_key, with_info, wrong_kind};
 
-use crate::calls::{Telling, add_few, add_further};
+use crate::arguments::explain_value;
+use crate::calls::{Telling, add_few};
 use crate::explanation::{Explanation, Note};
 use crate::keys::{keys, nearest_key, unknown_notes, wrong_notes};
-use crate::nearest::near_notes;
+use crate::not_found::not_found;
 use crate::reasons::{
     duplicate, hidden, in_use, name_taken, no_file, no_project, no_such_value, not_removable,
     not_statement, not_valid, other_kind, shared, there_already, too_deep, too_large, unresolved,
@@ -16,8 +17,9 @@ use crate::reasons::{
 use crate::sources::{extras_at, source_notes, sources_at};
 use crate::subject::{Subject, subject_of};
 use crate::values::value_notes;
+use crate::ways::ways_for;
 use meson_calls::Refusal;
-use meson_inventory::holdings::{HeldCall, Holdings, calls_held, calls_named, holdings_of};
+use meson_inventory::holdings::calls_named;
 use meson_plan::{Project, Role};
 use meson_splice::{Many, Text};
 use meson_steps::command::Command;
@@ -40,98 +42,13 @@ pub(crate) fn with_help(
     })
 }
 
-/// How many calls no id can name, for want of a literal name.
-fn unnamed(calls: &[HeldCall]) -> usize
-    ensures { result ≡ unnamed calls.now }
-{
-    calls.iter().filter(|call| call.head.name.is_none()).count()
-}
-
-/// The notes where none of these calls has the id.
-fn missing_notes(
-    alloc: Global,
-    id: &str,
-    nameless: &str,
-    calls: &[HeldCall],
-    subdirs: &[HeldCall],
-) -> Result<Vec<Note>, AllocError>
-    ensures { IfOk result (λ notes. notes.items ≡ missing_notes id.now nameless.now calls.now subdirs.now) }
-{
-    let mut notes = near_notes(alloc, id, calls)?;
-    let telling = Telling {
-        most: 2,
-        more: ", not entered",
-        others: "further subdir calls that are not entered",
-    };
-    add_few(alloc, &mut notes, telling, subdirs)?;
-    add_further(alloc, &mut notes, nameless, unnamed(calls))?;
-    Ok(notes)
-}
-
-/// Why no target has the id.
-fn no_target(alloc: Global, project: &Project, id: &str) -> Result<Explanation, AllocError>
-    ensures { IfOk result (λ e. e ≡ not_found project.now Role.Target id.now) }
-{
-    let Holdings {
-        targets,
-        not_entered,
-    } = holdings_of(alloc, project)?;
-    let notes = missing_notes(
-        alloc,
-        id,
-        "targets without a literal name",
-        targets.get(),
-        not_entered.get(),
-    )?;
-    with_help(
-        alloc,
-        notes,
-        "a target is found by its name or its variable, which list shows; --sourcedir FOLDER reads the targets of another folder",
-    )
-}
-
-/// Why no dependency has the id.
-fn no_dependency(alloc: Global, project: &Project, id: &str) -> Result<Explanation, AllocError>
-    ensures { IfOk result (λ e. e ≡ not_found project.now Role.Dependency id.now) }
-{
-    let calls = calls_held(alloc, project, "dependency")?;
-    let held = holdings_of(alloc, project)?;
-    let notes = missing_notes(
-        alloc,
-        id,
-        "dependencies without a literal name",
-        calls.get(),
-        held.not_entered.get(),
-    )?;
-    with_help(
-        alloc,
-        notes,
-        "a dependency is found by its name or its variable; --sourcedir FOLDER reads the dependencies of another folder",
-    )
-}
-
-/// Why an id names no call.
-fn not_found(
-    alloc: Global,
-    project: &Project,
-    subject: Subject<'_>,
-) -> Result<Explanation, AllocError>
-    ensures { IfOk result (λ e. e ≡ not_found project.now subject.entry.role subject.entry.id.now) }
-{
-    match subject.role {
-        Role::Target => no_target(alloc, project, subject.id),
-        Role::Dependency => no_dependency(alloc, project, subject.id),
-        Role::Project => with_help(alloc, Vec::new(alloc), "the id of a project is /"),
-    }
-}
-
 fn ambiguous_help(role: Role) -> &'static str
     ensures { result.now ≡ ambiguous_help role }
 {
     match role {
         Role::Project => "use --sourcedir FOLDER with the folder of one of them",
         Role::Target | Role::Dependency => {
-            "use a variable as the id, or --sourcedir FOLDER with the folder of one of them"
+            "use a variable as the id, or --sourcedir FOLDER with the folder of one of them; arg at FILE:LINE names the call on a line"
         }
     }
 }
@@ -167,14 +84,18 @@ fn unknown_help(alloc: Global, nearest: Option<&'static str>) -> Result<Vec<Text
 }
 
 /// Why a key is not one that commands change.
-fn unknown_key(alloc: Global, role: Role, key: &str) -> Result<Explanation, AllocError>
-    ensures { IfOk result (λ e. e ≡ unknown_key role key.now) }
+fn unknown_key(alloc: Global, command: &Command, key: &str) -> Result<Explanation, AllocError>
+    ensures { IfOk result (λ e. e ≡ unknown_key command.now key.now) }
 {
-    let notes = unknown_notes(alloc, role, key)?;
-    let nearest = nearest_key(alloc, key, keys(role))?;
+    let subject = subject_of(command);
+    let notes = unknown_notes(alloc, subject.role, key)?;
+    let nearest = nearest_key(alloc, key, keys(subject.role))?;
+    let mut help = unknown_help(alloc, nearest)?;
+    let mut ways = ways_for(alloc, command, subject, key)?;
+    help.append(&mut ways)?;
     Ok(Explanation {
         notes: Many::of(notes),
-        help: Many::of(unknown_help(alloc, nearest)?),
+        help: Many::of(help),
     })
 }
 
@@ -277,23 +198,9 @@ pub fn explain(
     ensures { IfOk result (λ e. e ≡ explanation project.now command.now refusal.now) }
 {
     match command {
-        Command::Argument { .. } => explain_value(alloc, refusal),
+        Command::Argument { name, .. } => explain_value(alloc, project, name, refusal),
+        Command::ArgumentInfo { name } => explain_value(alloc, project, name, refusal),
         _ => explain_call(alloc, project, command, refusal),
-    }
-}
-
-/// Why a change of a value is refused.
-fn explain_value(alloc: Global, refusal: &Refusal) -> Result<Explanation, AllocError>
-    ensures { IfOk result (λ e. e ≡ value_explanation refusal.now) }
-{
-    match refusal {
-        Refusal::Shared(_) => shared(alloc),
-        Refusal::OtherKind(_) => other_kind(alloc),
-        Refusal::ThereAlready => there_already(alloc),
-        Refusal::NoSuchValue(_) => no_such_value(alloc),
-        Refusal::TooDeep => too_deep(alloc),
-        Refusal::TooLarge => too_large(alloc),
-        _ => Ok(unexplained(alloc)),
     }
 }
 
@@ -308,9 +215,12 @@ fn explain_call(
 {
     match refusal {
         Refusal::NoProject => no_project(alloc, project),
-        Refusal::NotFound => not_found(alloc, project, subject_of(command)),
+        Refusal::NotFound => {
+            let subject = subject_of(command);
+            not_found(alloc, project, subject.role, subject.id)
+        }
         Refusal::Ambiguous => ambiguous(alloc, project, subject_of(command)),
-        Refusal::UnknownKey(key) => unknown_key(alloc, subject_of(command).role, key.get()),
+        Refusal::UnknownKey(key) => unknown_key(alloc, command, key.get()),
         Refusal::WrongKind(key) => wrong_kind(alloc, command, key.get()),
         Refusal::BadName => not_valid(alloc, command),
         Refusal::HiddenKeywords => hidden(alloc, project, command),

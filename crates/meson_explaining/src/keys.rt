@@ -4,12 +4,12 @@ ghost use Rattle.std.specs.Prelude.{◌≡◌, ◌++◌, IfOk, OnOk, codes, find
 ghost use Rattle.meson_explaining.specs.Keys.{after_space, is_edits, keys, kind_words, nearest_key, role_words, unknown_notes, wrong_notes};
 
 use crate::calls::plain_note;
+use crate::distance;
 use crate::explanation::Note;
 use crate::nearest::MOST_BYTES;
 use meson_calls::keys::{is_identifier_list_key, is_switch_key, is_text_key, is_text_list_key};
 use meson_plan::Role;
 use std::alloc::{AllocError, Global};
-use strsim::levenshtein;
 
 const PROJECT_KEYS: [&str; 5] = [
     "version",
@@ -56,16 +56,16 @@ pub(crate) fn keys(role: Role) -> &'static [&'static str]
 }
 
 /// The first of some keys that is so many edits away from a key.
-fn key_at(
+fn key_at<'k>(
     alloc: Global,
     key: &str,
     edits: usize,
-    keys: &[&'static str],
-) -> Result<Option<&'static str>, AllocError>
-    ensures { IfOk result (λ found. option_map (λ k. k.now) found ≡ find (is_edits key.now edits) (map (λ k. k.now) keys.now)) }
+    keys: &[&'k str],
+) -> Result<Option<&'k str>, AllocError>
+    ensures { IfOk result (λ found. option_map (λ k. k.now) found ≡ find (is_edits key.now edits) (map (λ k. k.now) keys.entry.now)) }
 {
     for i in 0..keys.len() {
-        if levenshtein(alloc, key, keys[i])? == edits {
+        if distance::edits(alloc, key, keys[i])? == edits {
             return Ok(Some(keys[i]));
         }
     }
@@ -73,12 +73,12 @@ fn key_at(
 }
 
 /// The first of the keys that are nearest to a key, up to a third of its length away.
-pub(crate) fn nearest_key(
+pub(crate) fn nearest_key<'k>(
     alloc: Global,
     key: &str,
-    keys: &[&'static str],
-) -> Result<Option<&'static str>, AllocError>
-    ensures { IfOk result (λ found. option_map (λ k. k.now) found ≡ nearest_key key.now (map (λ k. k.now) keys.now)) }
+    keys: &[&'k str],
+) -> Result<Option<&'k str>, AllocError>
+    ensures { IfOk result (λ found. option_map (λ k. k.now) found ≡ nearest_key key.now (map (λ k. k.now) keys.entry.now)) }
 {
     if key.len() > MOST_BYTES {
         return Ok(None);

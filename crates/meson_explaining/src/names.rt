@@ -75,7 +75,7 @@ pub(crate) fn first_bad_entry(pairs: &[(Text, Text)]) -> Option<&str>
 }
 
 /// Whether a text cannot be the name of a variable.
-fn is_bad_variable(text: &str) -> bool
+pub(crate) fn is_bad_variable(text: &str) -> bool
     ensures { result ≡ is_bad_variable text.now }
 {
     !meson_lex::is_identifier(text)

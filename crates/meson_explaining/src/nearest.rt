@@ -5,11 +5,11 @@ ghost use Rattle.meson_explaining.specs.Nearest.{edits_to, far, is_far, is_numbe
 ghost use Rattle.meson_explaining.specs.Notes.{call_note};
 
 use crate::calls::call_note;
+use crate::distance::edits;
 use crate::explanation::Note;
 use meson_inventory::holdings::HeldCall;
 use meson_splice::Text;
 use std::alloc::{AllocError, Global};
-use strsim::levenshtein;
 
 /// The most bytes of names that are compared.
 pub(crate) const MOST_BYTES: usize = 100;
@@ -26,7 +26,7 @@ fn edits_to(alloc: Global, id: &str, name: &Text) -> Result<Option<usize>, Alloc
     if name.len() > MOST_BYTES {
         return Ok(None);
     }
-    let edits = levenshtein(alloc, id, name)?;
+    let edits = edits(alloc, id, name)?;
     Ok(Some(edits))
 }
 

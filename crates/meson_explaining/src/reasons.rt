@@ -1,9 +1,8 @@
 //! Why a command is refused, where that is not about the id or about the key.
 
 ghost use Rattle.std.specs.Prelude.{◌≡◌, IfOk};
-ghost use Rattle.meson_explaining.specs.Explaining.{calls_there, keyword_there, no_project, not_valid, stated};
-ghost use Rattle.meson_explaining.specs.Explaining.{duplicate, hidden, name_taken, not_statement, too_deep, too_large};
-ghost use Rattle.meson_explaining.specs.Explaining.{no_such_value, other_kind, shared, there_already};
+ghost use Rattle.meson_explaining.specs.Explaining.{calls_there, duplicate, hidden, keyword_there, name_taken, not_statement, not_valid};
+ghost use Rattle.meson_explaining.specs.Stated.{no_project, no_such_value, other_kind, shared, stated, there_already, too_deep, too_large};
 ghost use Rattle.meson_explaining.specs.Removals.{not_removable, unresolved};
 ghost use Rattle.meson_explaining.specs.Targets.{in_use, no_file};
 
@@ -257,7 +256,7 @@ pub(crate) fn unresolved(
 }
 
 /// One sentence, and what may be done.
-fn stated(alloc: Global, note: &str, help: &str) -> Result<Explanation, AllocError>
+pub(crate) fn stated(alloc: Global, note: &str, help: &str) -> Result<Explanation, AllocError>
     ensures { IfOk result (λ e. e ≡ stated note.now help.now) }
 {
     let notes = one_note(alloc, String::from_str(alloc, note)?)?;

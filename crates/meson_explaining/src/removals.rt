@@ -1,21 +1,24 @@
 //! Notes of names that cannot be removed from a target: they are in no list, or are not among what is known of it.
 
 ghost use Rattle.std.specs.Prelude.{◌≡◌, IfOk, codes, filter, map, option_map};
-ghost use Rattle.meson_explaining.specs.Removals.{few_unnamed, fixed_note, fixed_notes, has_no_name, is_fixed, is_one_of, not_known};
-ghost use Rattle.meson_explaining.specs.Removals.{not_known_notes, setter_notes, unknown_notes};
+ghost use Rattle.meson_explaining.specs.Removals.{few_unnamed, fixed_note, fixed_notes, folder_help, has_no_name, is_fixed, is_in_root, is_one_of, not_known};
+ghost use Rattle.meson_explaining.specs.Removals.{not_known_help, not_known_notes, setter_notes, unknown_notes};
+ghost use Rattle.meson_calls.specs.Loading.{project as project_of};
+ghost use Rattle.meson_plan.specs.Details.{target_place};
 ghost use Rattle.meson_explaining.specs.Notes.{call_note};
 
-use crate::bad_names::one_note;
+use crate::bad_names::{one_line, one_note};
 use crate::calls::{Telling, add_few, add_further, call_note};
-use crate::explaining::with_help;
 use crate::explanation::{Explanation, Note, Spot};
 use crate::sources::{few_close_notes, first_missing};
 use crate::subject::Subject;
 use crate::unknown::unknown_arguments;
 use crate::values::value_notes;
+use crate::written::written_notes;
+use meson_calls::Refusal;
 use meson_inventory::holdings::{HeldCall, calls_held, holdings_of};
 use meson_plan::{Project, Role};
-use meson_splice::Text;
+use meson_splice::{Many, Text};
 use meson_variables::SourceItem;
 use std::alloc::{AllocError, Global};
 
@@ -169,6 +172,8 @@ fn not_known_notes(
 {
     let name = first_missing(lost.items, lost.names);
     let mut notes = unknown_notes(alloc, name)?;
+    let mut written = written_notes(alloc, project, name)?;
+    notes.append(&mut written)?;
     let mut close = few_close_notes(alloc, name, lost.items)?;
     notes.append(&mut close)?;
     let mut unknown = unknown_arguments(alloc, project, lost.target, lost.key)?;
@@ -184,6 +189,41 @@ fn not_known_notes(
     Ok(notes)
 }
 
+/// Whether the target that an id names is in the root file.
+fn is_in_root(alloc: Global, project: &Project, target: &str) -> Result<bool, AllocError>
+    ensures { IfOk result (λ root. root ≡ is_in_root (target_place (project_of project.now) target.now)) }
+{
+    match project.find_one(alloc, Role::Target, target) {
+        Ok(place) => Ok(place.file == 0),
+        Err(Refusal::OutOfMemory) => Err(AllocError),
+        Err(_) => Ok(false),
+    }
+}
+
+/// What the folder of a target does as the root folder.
+fn folder_help(root: bool) -> &'static str
+    ensures { result.now ≡ folder_help root }
+{
+    if root {
+        "--sourcedir does not help, since the target is in the root file; info counts what is not known"
+    } else {
+        "--sourcedir with the folder of the target leaves out what other folders set; info counts what is not known"
+    }
+}
+
+/// What may be done where one of the names is not among the known items of a target.
+fn not_known_help(alloc: Global, project: &Project, target: &str) -> Result<Vec<Text>, AllocError>
+    ensures { IfOk result (λ help. help.items ≡ not_known_help project.now target.now) }
+{
+    let root = is_in_root(alloc, project, target)?;
+    let mut help = one_line(
+        alloc,
+        "arg delete at FILE:LINE NUMBER removes an element, counted from 0, of the list that is set on that line",
+    )?;
+    help.push(Text::of(String::from_str(alloc, folder_help(root))?))?;
+    Ok(help)
+}
+
 /// Which of the names is not among the known items of a target, and what is not known.
 pub(crate) fn not_known(
     alloc: Global,
@@ -194,9 +234,9 @@ pub(crate) fn not_known(
         IfOk result (λ e. e ≡ not_known project.now lost.target.now lost.key.now lost.items.now lost.names.now) }
 {
     let notes = not_known_notes(alloc, project, lost)?;
-    with_help(
-        alloc,
-        notes,
-        "--sourcedir with the folder of the target leaves out what other folders set; info counts what is not known",
-    )
+    let help = not_known_help(alloc, project, lost.target)?;
+    Ok(Explanation {
+        notes: Many::of(notes),
+        help: Many::of(help),
+    })
 }

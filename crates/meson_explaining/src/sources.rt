@@ -8,6 +8,7 @@ ghost use Rattle.meson_variables.specs.TargetSources.{sources};
 ghost use Rattle.meson_explaining.specs.Sources.{close_notes, extras_at, has, is_close, is_missing, item_note, items_of, missing_note, source_notes, sources_at};
 
 use crate::calls::{add_further, plain_note};
+use crate::distance::edits;
 use crate::explanation::{Note, Spot};
 use crate::nearest::MOST_BYTES;
 use meson_calls::{CallRef, Refusal};
@@ -15,7 +16,6 @@ use meson_plan::{Project, Role};
 use meson_splice::{Many, Text};
 use meson_variables::SourceItem;
 use std::alloc::{AllocError, Global};
-use strsim::levenshtein;
 
 /// The most names and the most sources that a note has.
 const MOST_TOLD: usize = 3;
@@ -139,7 +139,7 @@ fn is_close(alloc: Global, name: &str, item: &SourceItem) -> Result<bool, AllocE
     if name.len() > MOST_BYTES || value.len() > MOST_BYTES {
         return Ok(false);
     }
-    let edits = levenshtein(alloc, name, value)?;
+    let edits = edits(alloc, name, value)?;
     Ok(edits <= name.len() / 3)
 }
 

@@ -13,7 +13,7 @@ pub struct Subject<'c> {
     pub id: &'c str,
 }
 
-/// The call that a command is about. A change of a value is about none, and has the project's.
+/// The call that a command is about. A change or a report of a value is about none, and has the project's.
 pub(crate) fn subject_of(command: &Command) -> Subject<'_>
     ensures role { result.role ≡ (subject command.entry.now).0 }
     ensures id { result.id.now ≡ (subject command.entry.now).1 }
@@ -37,11 +37,12 @@ pub(crate) fn subject_of(command: &Command) -> Subject<'_>
             role: *role,
             id: id.get(),
         },
-        Command::OptionsSet { .. } | Command::OptionsDelete { .. } | Command::Argument { .. } => {
-            Subject {
-                role: Role::Project,
-                id: "/",
-            }
-        }
+        Command::OptionsSet { .. }
+        | Command::OptionsDelete { .. }
+        | Command::Argument { .. }
+        | Command::ArgumentInfo { .. } => Subject {
+            role: Role::Project,
+            id: "/",
+        },
     }
 }

@@ -159,6 +159,21 @@ pub fn reads_of(alloc: Global, project: &Project, name: &str) -> Result<Vec<Call
     }
 }
 
+/// The notes of the first places where a variable is read, and of how many others there are.
+pub(crate) fn all_reads(
+    alloc: Global,
+    project: &Project,
+    name: &str,
+) -> Result<Vec<Note>, AllocError>
+    ensures { let reads = read_in name.now (parts (trees_of project.now)) in
+        IfOk result (λ notes. notes.items ≡ read_notes project.now name.now reads) }
+{
+    let places = reads_of(alloc, project, name)?;
+    let mut notes = Vec::new(alloc);
+    add_reads(alloc, &mut notes, project, name, places.as_slice())?;
+    Ok(notes)
+}
+
 /// The notes where the variable of a target is used.
 pub(crate) fn used_notes(
     alloc: Global,

@@ -23,7 +23,7 @@ use std::alloc::{AllocError, Global};
 const MOST_CHARACTERS: usize = 60;
 
 /// The first line of a text, cut.
-fn start_of(alloc: Global, text: &str) -> Result<String, AllocError>
+pub(crate) fn start_of(alloc: Global, text: &str) -> Result<String, AllocError>
     ensures { IfOk result (λ start. string_bytes start ≡ start_of text.now) }
 {
     text.chars()

@@ -1,8 +1,12 @@
 pub mod MakerLists
+pub mod Measures
 pub mod GoodNodes
 pub mod NameParts
+pub mod ReadFiles
+pub mod ReadParts
 pub mod Searches
 pub mod SearchParts
 pub mod Steps
+pub mod Turns
 pub mod Walked
 pub mod Entering

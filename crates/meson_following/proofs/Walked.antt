@@ -1,6 +1,6 @@
 -- Walks through parts of a file, one after another.
 use Rattle.std.proofs.Common.{◌≡◌, ℕ, List, refl, ap, ap₂, ◌∙◌}
-use Rattle.std.specs.Prelude.{Bool, false}
+use Rattle.std.specs.Prelude.{Bool, true, false, not, ◌&&◌, [], ◌∷◌}
 use Rattle.std.specs.List.{list_any}
 use Rattle.meson_lex.specs.declared.kinds.Span.{Span}
 use Rattle.meson_syntax.specs.Tree.{Expression}
@@ -15,7 +15,7 @@ use Rattle.meson_following.specs.declared.flows.Flow as code
 use Rattle.meson_following.specs.declared.walk.Trail.{Trail}
 use Rattle.meson_following.specs.declared.walk.Walk.{Walk}
 use Rattle.meson_following.specs.CodeFlows.{chosen_view, flow_view}
-use Rattle.meson_following.specs.Walks.{Chooses, Walks, wanted}
+use Rattle.meson_following.specs.Walks.{Chooses, Walks, met_unless, wanted}
 use Rattle.meson_following.specs.CodeMakers.{known_view}
 use Rattle.meson_following.specs.Effects.{any_leaves_file, any_may_set}
 use Rattle.meson_following.specs.Flows.{Choice, Flow, around, both_flow, either_flow, flow_calls, is_in, joined_if, known_if, passed, touched_if, with_block, with_condition}
@@ -33,9 +33,14 @@ module _ (w : Walk) where
       ∙ ap (λ v. list_any (does d v) (calls s.source.now)) variable
       ∙ ap (λ t. list_any (does d w.question.variable.now) (calls t)) source
 
+  one_met : (quiet : Bool) (k now : Known Span) (q : CallRef) (e : Expression Span)
+      → joined_if (not quiet && is_in (wanted w.question) q) k now ≡ met_unless quiet (wanted w.question) k (record { at_expression = placed q e; known = now } ∷ [])
+  one_met true k now q e = refl
+  one_met false k now q e = refl
+
   pub calls_walked : (before after : Trail) (f : code.Flow) (q : CallRef) (e : Expression Span) (cs : List (Call Span)) (k : Known Span) (sets leaves : Bool)
       → after.path.items ≡ before.path.items
-      → (w.quiet ≡ false → known_view after.found ≡ joined_if (is_in (wanted w.question) q) (known_view before.found) (known_view f.now))
+      → known_view after.found ≡ joined_if (not w.quiet && is_in (wanted w.question) q) (known_view before.found) (known_view f.now)
       → sets ≡ any_may_set w.question.variable.now cs → leaves ≡ any_leaves_file cs → flow_view f ≡ passed sets leaves k
       → Walks w before after f (flow_calls w.question.variable.now cs (placed q e) k)
   calls_walked before after f q e cs k sets leaves back met set leave is =
@@ -44,8 +49,11 @@ module _ (w : Walk) where
         flows = record {
           now = ap (λ v. v.now) is ∙ ap (λ b. touched_if b k) set;
           turned = ap (λ v. v.turned) is;
-          ended = λ loud. ap (λ v. v.ended) is ∙ ap₂ (λ b d. known_if b (touched_if d k)) leave set;
-          found = λ loud. met loud ∙ ap (joined_if (is_in (wanted w.question) q) (known_view before.found)) (ap (λ v. v.now) is ∙ ap (λ b. touched_if b k) set);
+          ended = ap (λ v. v.ended) is ∙ ap₂ (λ b d. known_if b (touched_if d k)) leave set;
+          leaves = ap (λ v. v.leaves) is ∙ leave;
+          found =
+              met ∙ ap (joined_if (not w.quiet && is_in (wanted w.question) q) (known_view before.found)) (ap (λ v. v.now) is ∙ ap (λ b. touched_if b k) set)
+              ∙ one_met w.quiet (known_view before.found) (touched_if (any_may_set w.question.variable.now cs) k) q e;
         };
       }
 

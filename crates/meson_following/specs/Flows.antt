@@ -1,6 +1,6 @@
 -- What is known of a variable at each point of a project, as its files are evaluated: a pass in the order of evaluation, `if` either way, and `foreach` with any
 -- number of turns. Meson manual, Syntax: variables are global, and `subdir` evaluates the file that it enters in its place.
-use Rattle.std.specs.Prelude.{ℕ, zero, suc, ◌+◌, ◌==◌, nat_eq, Bool, true, false, ◌&&◌, List, [], ◌∷◌, ◌++◌, length, bytes_eq, if◌then◌else◌, Option, Some, None}
+use Rattle.std.specs.Prelude.{ℕ, zero, suc, ◌+◌, ◌==◌, nat_eq, Bool, true, false, ◌&&◌, ◌||◌, List, [], ◌∷◌, ◌++◌, length, bytes_eq, if◌then◌else◌, Option, Some, None}
 use Rattle.std.specs.List.{fold, starts_with}
 use Rattle.meson_syntax.specs.Tree.{Expression, Statement, evaluate, assign, selection, iteration, breaks, continues, Branches, no_branches, branch, Otherwise, nothing_else, otherwise, Statements, no_statements, statement, Block, block, File, file}
 use Rattle.meson_syntax.specs.declared.operator.Assignment.{Assignment}
@@ -21,55 +21,80 @@ pub record Arrival (S : Type 0) : Type 0 where
   pub at_expression : Placed (Expression S)
   pub known : Known S
 
--- What is known after a part of a file, where a turn of the loop around it ends early, and where it leaves the file; and the expressions that are evaluated in it,
--- in order.
+-- What is known after a part of a file, where a turn of the loop around it ends early, and where it leaves the file; whether there is a place in it at which the
+-- file is left; and the expressions that are evaluated in it, in order.
 pub record Flow (S : Type 0) : Type 0 where
   pub now : Known S
   pub turned : Known S
   pub ended : Known S
+  pub leaves : Bool
   pub arrivals : List (Arrival S)
 
 -- ---- parts of a file one after another, or one of them
 
 abbrev pub going_on : {S : Type 0} → Known S → Flow S
-going_on k = record { now = k; turned = None; ended = None; arrivals = [] }
+going_on k = record { now = k; turned = None; ended = None; leaves = false; arrivals = [] }
 
 -- one and then what is begun with what is known after it
 abbrev pub both_flow : {S : Type 0} → Flow S → Flow S → Flow S
-both_flow f g = record { now = g.now; turned = joined f.turned g.turned; ended = joined f.ended g.ended; arrivals = f.arrivals ++ g.arrivals }
+both_flow f g = record {
+  now = g.now;
+  turned = joined f.turned g.turned;
+  ended = joined f.ended g.ended;
+  leaves = f.leaves || g.leaves;
+  arrivals = f.arrivals ++ g.arrivals;
+}
 
 abbrev pub then_flow : {S : Type 0} → Flow S → (Known S → Flow S) → Flow S
 then_flow f more = both_flow f (more f.now)
 
 abbrev pub either_flow : {S : Type 0} → Flow S → Flow S → Flow S
-either_flow f g =
-    record { now = joined f.now g.now; turned = joined f.turned g.turned; ended = joined f.ended g.ended; arrivals = f.arrivals ++ g.arrivals }
+either_flow f g = record {
+  now = joined f.now g.now;
+  turned = joined f.turned g.turned;
+  ended = joined f.ended g.ended;
+  leaves = f.leaves || g.leaves;
+  arrivals = f.arrivals ++ g.arrivals;
+}
+
+abbrev pub known_if : {S : Type 0} → Bool → Known S → Known S
+known_if b k = if b then k else None
 
 -- A loop. Before a turn, and after the loop, is known what was known before the loop or is known after a turn that begins so. One turn says all: what it adds, it
--- adds whatever it begins with.
+-- adds whatever it begins with. So the file is left with what is known where a first turn leaves it, or before a later one.
 abbrev pub around : {S : Type 0} → Known S → Flow S → Known S
 around k once = joined k (joined once.now once.turned)
 
-abbrev pub looped : {S : Type 0} → Known S → Flow S → Flow S
-looped k again = record { now = k; turned = None; ended = again.ended; arrivals = again.arrivals }
+abbrev pub looped : {S : Type 0} → Known S → Flow S → List (Arrival S) → Flow S
+looped before once arrivals = record {
+  now = before;
+  turned = None;
+  ended = known_if once.leaves (joined once.ended before);
+  leaves = once.leaves;
+  arrivals = arrivals;
+}
 
 abbrev pub flow_loop : {S : Type 0} → (Known S → Flow S) → Known S → Flow S
-flow_loop turn k = let before = around k (turn k) in looped before (turn before)
+flow_loop turn k = let once = turn k in let before = around k once in looped before once (turn before).arrivals
 
 -- ---- expressions
 
 abbrev pub touched_if : {S : Type 0} → Bool → Known S → Known S
 touched_if b k = if b then touched k else k
 
-abbrev pub known_if : {S : Type 0} → Bool → Known S → Known S
-known_if b k = if b then k else None
-
 -- with calls that may set the variable or leave the file, if there are such. They may be made before anything else in the expression is evaluated.
 abbrev pub passed : {S : Type 0} → Bool → Bool → Known S → Flow S
-passed sets leaves k = record { now = touched_if sets k; turned = None; ended = known_if leaves (touched_if sets k); arrivals = [] }
+passed sets leaves k =
+    record { now = touched_if sets k; turned = None; ended = known_if leaves (touched_if sets k); leaves = leaves; arrivals = [] }
 
 abbrev pub arriving : {S : Type 0} → Placed (Expression S) → Flow S → Flow S
-arriving e f = record { now = f.now; turned = f.turned; ended = f.ended; arrivals = record { at_expression = e; known = f.now } ∷ f.arrivals }
+arriving e f = record {
+  now = f.now;
+  turned = f.turned;
+  ended = f.ended;
+  leaves = f.leaves;
+  arrivals = record { at_expression = e; known = f.now } ∷ f.arrivals;
+}
 
 -- with these calls in it, of which each may be made or not
 abbrev pub flow_calls : {S : Type 0} → List ℕ → List (Call S) → Placed (Expression S) → Known S → Flow S
@@ -82,13 +107,14 @@ flow_expression x q e k = flow_calls x (calls_of e) (placed q e) k
 
 -- at the end of the file, however it is reached; or before it, where it is skipped, as a call with a condition may do
 abbrev pub entered : {S : Type 0} → Known S → Flow S → Flow S
-entered skipped f = record { now = joined skipped (joined f.now f.ended); turned = f.turned; ended = None; arrivals = f.arrivals }
+entered skipped f =
+    record { now = joined skipped (joined f.now f.ended); turned = f.turned; ended = None; leaves = false; arrivals = f.arrivals }
 
 abbrev pub left_file : {S : Type 0} → Known S → Flow S
-left_file k = record { now = None; turned = None; ended = k; arrivals = [] }
+left_file k = record { now = None; turned = None; ended = k; leaves = true; arrivals = [] }
 
 abbrev pub left_turn : {S : Type 0} → Known S → Flow S
-left_turn k = record { now = None; turned = k; ended = None; arrivals = [] }
+left_turn k = record { now = None; turned = k; ended = None; leaves = false; arrivals = [] }
 
 abbrev pub flow_effect : {S : Type 0} → (ℕ → Known S → Flow S) → Effect → Known S → Flow S
 flow_effect enter Nothing k = going_on k
@@ -128,7 +154,13 @@ all_branches c last = either_flow c.taken (last c.left)
 abbrev pub with_condition : {S : Type 0} → Flow S → Flow S → Choice S
 with_condition f g =
     record {
-      taken = record { now = f.now; turned = joined f.turned g.turned; ended = joined f.ended g.ended; arrivals = f.arrivals ++ g.arrivals };
+      taken = record {
+        now = f.now;
+        turned = joined f.turned g.turned;
+        ended = joined f.ended g.ended;
+        leaves = f.leaves || g.leaves;
+        arrivals = f.arrivals ++ g.arrivals;
+      };
       left = g.now;
     }
 

@@ -1,5 +1,6 @@
 -- What a walk of the code through a part of a file gives.
-use Rattle.std.specs.Prelude.{◌≡◌, ℕ, ◌+◌, Bool, false}
+use Rattle.std.specs.Prelude.{◌≡◌, ℕ, ◌+◌, ◌<◌, ◌^◌, Bool, List, length, if◌then◌else◌}
+use Rattle.meson_lex.specs.Significant.{Word}
 use Rattle.meson_lex.specs.declared.kinds.Span.{Span}
 use Rattle.meson_syntax.specs.Tree.{Block, Branches, Expression, Listing, Otherwise, Statement}
 use Rattle.meson_calls.specs.declared.call.CallRef.{CallRef}
@@ -8,6 +9,7 @@ use Rattle.meson_calls.specs.Folders.{IsFileName}
 use Rattle.meson_calls.specs.Parts.{branches_child_count}
 use Rattle.meson_calls.specs.Loading.{IsProject, loaded_from, project}
 use Rattle.meson_calls.specs.Project.{Project, child, place, place_at, placed}
+use Rattle.meson_calls.specs.Strings.{AreGood}
 use Rattle.meson_following.specs.declared.effects.Effect.{Effect}
 use Rattle.meson_following.specs.declared.flows.Chosen as code_chosen
 use Rattle.meson_following.specs.declared.flows.Flow as code
@@ -16,16 +18,20 @@ use Rattle.meson_following.specs.declared.walk.Trail.{Trail}
 use Rattle.meson_following.specs.declared.walk.Walk.{Walk}
 use Rattle.meson_following.specs.CodeMakers.{known_view}
 use Rattle.meson_following.specs.Effects.{calls_of_listing, effect_of}
-use Rattle.meson_following.specs.Flows.{Choice, Flow, all_branches, begun, flow_block, flow_branches, flow_call, flow_calls, flow_effect, flow_expression, flow_file, flow_loop, flow_otherwise, flow_statement, known_among, no_branch, with_block, with_condition}
+use Rattle.meson_following.specs.Flows.{Arrival, Choice, Flow, all_branches, begun, flow_block, flow_branches, flow_call, flow_calls, flow_effect, flow_expression, flow_file, flow_loop, flow_otherwise, flow_statement, known_among, no_branch, with_block, with_condition}
 use Rattle.meson_following.specs.Makers.{Known}
 
--- A flow is what was meant. Of the expressions that are evaluated in it, what is known at one place is kept. A quiet walk gives only how it goes on, and what is
--- known where a turn ends early.
+-- what is known at one place, by the expressions that are evaluated; a quiet walk keeps nothing of them
+abbrev pub met_unless : (quiet : Bool) → CallRef → Known Span → List (Arrival Span) → Known Span
+met_unless quiet c k arrivals = if quiet then k else known_among c k arrivals
+
+-- A flow is what was meant, and this is known of the place after it.
 pub record FlowsAs (quiet : Bool) (c : CallRef) (flow : code.Flow) (before after : Known Span) (meant : Flow Span) : Type 0 where
   pub now : known_view flow.now ≡ meant.now
   pub turned : known_view flow.turned ≡ meant.turned
-  pub ended : quiet ≡ false → known_view flow.ended ≡ meant.ended
-  pub found : quiet ≡ false → after ≡ known_among c before meant.arrivals
+  pub ended : known_view flow.ended ≡ meant.ended
+  pub leaves : flow.leaves ≡ meant.leaves
+  pub found : after ≡ met_unless quiet c before meant.arrivals
 
 -- ---- a walk
 
@@ -39,9 +45,18 @@ pub record MayWalk (w : Walk) : Type 0 where
   pub whole : IsProject (loaded_from w.question.files.now w.question.trees.now)
   pub named : IsFileName w.name.now
 
+-- the words of a part of a file: its strings are of their kinds, and a number counts them
+pub record AreRead (words : List Word) : Type 0 where
+  pub good : AreGood words
+  pub fits : length words < 2 ^ 64
+
 -- the place of what is walked through
 abbrev pub here : Walk → Trail → CallRef
 here w t = place w.file t.path.items
+
+-- the same walk, which asks at the place or does not
+abbrev pub asking : Walk → (quiet : Bool) → Walk
+asking w quiet = record { question = w.question; file = w.file; name = w.name; source = w.source; left = w.left; quiet = quiet }
 
 -- the walk is back where it began, and its flow is what was meant
 pub record Walks (w : Walk) (before after : Trail) (flow : code.Flow) (meant : Flow Span) : Type 0 where

@@ -3,17 +3,19 @@
 ghost use Rattle.std.specs.Prelude.{◌≡◌, [], None, IfOk};
 ghost use Rattle.meson_following.specs.CodeFlows.{chosen_view, flow_view};
 ghost use Rattle.meson_following.specs.CodeMakers.{known_view};
-ghost use Rattle.meson_following.specs.Flows.{both_flow, either_flow, entered, going_on, left_file, left_turn, passed, with_block, with_condition};
+ghost use Rattle.meson_following.specs.Flows.{both_flow, either_flow, entered, going_on, left_file, left_turn, looped, passed, with_block, with_condition};
 
 use crate::makers::{Known, copy_known, join, touch};
 use std::alloc::{AllocError, Global};
 
-/// What is known after a part of a file, where a turn of the loop around it ends early, and where it leaves the file.
+/// What is known after a part of a file, where a turn of the loop around it ends early, and where it leaves the file; and whether there is a place in it at which
+/// the file is left.
 #[derive(Drop)]
 pub struct Flow<'t> {
     pub now: Known<'t>,
     pub turned: Known<'t>,
     pub ended: Known<'t>,
+    pub leaves: bool,
 }
 
 /// What is known after the branches so far, and where none of their conditions holds.
@@ -32,6 +34,7 @@ impl<'t> Flow<'t> {
             now,
             turned: None,
             ended: None,
+            leaves: false,
         }
     }
 
@@ -43,6 +46,7 @@ impl<'t> Flow<'t> {
             now: None,
             turned: known,
             ended: None,
+            leaves: false,
         }
     }
 
@@ -54,6 +58,7 @@ impl<'t> Flow<'t> {
             now: None,
             turned: None,
             ended: known,
+            leaves: true,
         }
     }
 
@@ -76,6 +81,7 @@ impl<'t> Flow<'t> {
             now,
             turned: None,
             ended,
+            leaves,
         })
     }
 
@@ -89,6 +95,7 @@ impl<'t> Flow<'t> {
             now: next.now,
             turned,
             ended,
+            leaves: first.leaves || next.leaves,
         })
     }
 
@@ -99,7 +106,36 @@ impl<'t> Flow<'t> {
         let now = join(alloc, first.now, second.now)?;
         let turned = join(alloc, first.turned, second.turned)?;
         let ended = join(alloc, first.ended, second.ended)?;
-        Ok(Flow { now, turned, ended })
+        Ok(Flow {
+            now,
+            turned,
+            ended,
+            leaves: first.leaves || second.leaves,
+        })
+    }
+
+    /// After the turns of a loop, of which one was walked through: what is known before each turn, and that turn.
+    pub fn looped(alloc: Global, before: Known<'t>, once: Flow<'t>) -> Result<Flow<'t>, AllocError>
+        ensures { IfOk result (λ f. flow_view f ≡ looped (known_view before.entry) (flow_view once.entry) []) }
+    {
+        let Flow {
+            now: _,
+            turned: _,
+            ended,
+            leaves,
+        } = once;
+        let ended = if leaves {
+            let known = copy_known(alloc, &before)?;
+            join(alloc, ended, known)?
+        } else {
+            None
+        };
+        Ok(Flow {
+            now: before,
+            turned: None,
+            ended,
+            leaves,
+        })
     }
 
     /// After a call that enters a file: at its end, however that is reached, and before it if it is skipped.
@@ -116,6 +152,7 @@ impl<'t> Flow<'t> {
             now,
             turned: file.turned,
             ended: None,
+            leaves: false,
         })
     }
 }
@@ -136,6 +173,7 @@ impl<'t> Chosen<'t> {
                 now: taken.now,
                 turned,
                 ended,
+                leaves: taken.leaves || condition.leaves,
             },
             left: condition.now,
         })

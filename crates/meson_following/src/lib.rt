@@ -7,6 +7,7 @@ pub mod laws;
 pub mod makers;
 pub mod names;
 pub mod walk;
+mod walk_statements;
 
 pub use makers::{Known, Made, Maker};
 pub use walk::Question;

@@ -1,6 +1,6 @@
 //! The walk through a project in the order of evaluation, for one variable and one place.
 
-ghost use Rattle.std.specs.Prelude.{◌≡◌, ◌<◌, false, IfOk, OnOk, bytes_eq, option_and_then};
+ghost use Rattle.std.specs.Prelude.{◌≡◌, ◌<◌, ◌&&◌, IfOk, OnOk, bytes_eq, not, option_and_then};
 ghost use Rattle.meson_lex.specs.declared.kinds.Span.{Span};
 ghost use Rattle.meson_syntax.specs.Grammar.{expression_words, listing_words};
 ghost use Rattle.meson_syntax.specs.Tree.{Expression};
@@ -154,8 +154,8 @@ impl<'t> Walk<'t> {
         trail: &mut Trail<'t>,
     ) -> Result<(), AllocError>
         ensures back { OnOk result (trail.new.path.items ≡ trail.old.path.items) }
-        ensures found { self.now.quiet ≡ false → OnOk result (known_view trail.new.found
-            ≡ joined_if (is_in (wanted self.now.question) (child (here self.now trail.old) number)) (known_view trail.old.found) (known_view now.now)) }
+        ensures found { OnOk result (known_view trail.new.found
+            ≡ joined_if (not self.now.quiet && is_in (wanted self.now.question) (child (here self.now trail.old) number)) (known_view trail.old.found) (known_view now.now)) }
     {
         if self.quiet {
             return Ok(());

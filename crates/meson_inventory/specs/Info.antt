@@ -1,4 +1,4 @@
--- What an info command reports of a call, with positions: lines from 0, characters in UTF-16 units. It is the listing without them, with further members.
+-- What an info command reports of a call or a value, with positions: lines from 0, characters in UTF-16 units. It is the listing without them, with further members.
 use Rattle.std.specs.Prelude.{◌≡◌, ℕ, List, [], ◌∷◌, map, codes, if◌then◌else◌, Option, Some, None, Ok, Err}
 use Rattle.std.specs.List.{filter_map}
 use Rattle.std.specs.Option.{option_map_or}
@@ -18,14 +18,18 @@ use Rattle.meson_calls.specs.Keys.{is_key}
 use Rattle.meson_calls.specs.Loading.{Loaded, name_of_file, project}
 use Rattle.meson_calls.specs.Project.{expression_at}
 use Rattle.meson_variables.specs.declared.source.SourceItem.{SourceItem}
+use Rattle.meson_steps.specs.declared.argument.ValueName.{ValueName}
 use Rattle.meson_steps.specs.declared.command.Command.{Command}
 use Rattle.meson_steps.specs.declared.command.Command.TheVariants as command
 use Rattle.meson_details.specs.declared.details.Head.{Head}
 use Rattle.meson_details.specs.declared.details.Shown.{Shown}
 use Rattle.meson_details.specs.Details.{head, keywords}
 use Rattle.meson_listing.specs.Entries.{call_data, target_data, text_or_null}
+use Rattle.meson_listing.specs.Values.{value_data}
 use Rattle.meson_plan.specs.declared.details.TargetDetails.{TargetDetails}
 use Rattle.meson_plan.specs.Details.{AreDetails, NoTarget, place_found, target_place}
+use Rattle.meson_plan.specs.Values.{the_value}
+use Rattle.meson_plan.specs.declared.values.FoundValue.{FoundValue}
 use Rattle.meson_inventory.specs.Placed.{character_at, count, line_at}
 use Rattle.meson_inventory.specs.declared.info.KeywordPlace.{KeywordPlace}
 
@@ -139,18 +143,36 @@ pub data HasNoCallInfo (l : Loaded) (role : Role) (id : List ℕ) : Refusal → 
   twice : (place : CallRef) (refusal : Refusal) → place_found (the_call (project l) role id) ≡ Ok place → keywords l role place ≡ Some (Err refusal)
       → HasNoCallInfo l role id refusal
 
+-- ---- values
+
+abbrev pub placed_value_data : List File → FoundValue → Data
+placed_value_data files v = with_members (with_position files v.file v.span) (value_data files v.file v.span.from v.details)
+
+-- it is that of the value that the name names
+pub record IsValueInfo (l : Loaded) (n : ValueName) (info : Data) : Type 0 where
+  pub value : FoundValue
+  pub is_value : the_value l n ≡ Ok value
+  pub is : info ≡ placed_value_data l.files value
+
+-- why it reports nothing, except out of memory: there is no such value, or more than one
+abbrev pub HasNoValueInfo : Loaded → ValueName → Refusal → Type 0
+HasNoValueInfo l n why = the_value l n ≡ Err why
+
 -- ---- commands
 
 -- what a command reports, if it is an info command
 abbrev pub IsInfo : Loaded → Command → Option Data → Type 0
 IsInfo l (command.TargetInfo id) (Some info) = IsTargetInfo l id info
 IsInfo l (command.KwargsInfo role id) (Some info) = IsCallInfo l role id info
+IsInfo l (command.ArgumentInfo name) (Some info) = IsValueInfo l name info
 IsInfo l (command.TargetInfo id) None = ⊥
 IsInfo l (command.KwargsInfo role id) None = ⊥
+IsInfo l (command.ArgumentInfo name) None = ⊥
 IsInfo l _ info = info ≡ None
 
 -- why it reports nothing, except out of memory
 abbrev pub HasNoInfo : Loaded → Command → Refusal → Type 0
 HasNoInfo l (command.TargetInfo id) why = HasNoTargetInfo l id why
 HasNoInfo l (command.KwargsInfo role id) why = HasNoCallInfo l role id why
+HasNoInfo l (command.ArgumentInfo name) why = HasNoValueInfo l name why
 HasNoInfo l _ why = ⊥

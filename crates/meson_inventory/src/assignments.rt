@@ -26,7 +26,7 @@ use std::alloc::{AllocError, Global};
 
 /// An assignment of a project.
 #[derive(Drop)]
-pub(crate) struct HeldAssignment {
+pub struct HeldAssignment {
     /// The number of its file.
     pub file: usize,
     /// From the variable to the end of the value.
@@ -154,7 +154,10 @@ fn assignments_of(
 }
 
 /// The assignments of a project, in file order and source order.
-pub(crate) fn assignments_held(
+///
+/// # Errors
+/// Out of memory.
+pub fn assignments_held(
     alloc: Global,
     project: &Project,
 ) -> Result<Many<HeldAssignment>, AllocError>

@@ -1,4 +1,4 @@
-//! What an info command reports of a call, as JSON with positions.
+//! What an info command reports of a call or a value, as JSON with positions.
 
 ghost use Rattle.std.specs.Prelude.{◌≡◌, IfErr, IfOk, None, OnOk, Some, codes, option_map};
 ghost use Rattle.std.specs.List.{filter_map};
@@ -10,7 +10,7 @@ ghost use Rattle.meson_syntax.specs.View.{arg_view, args_view};
 ghost use Rattle.meson_calls.specs.GoodLists.{GoodArgs};
 ghost use Rattle.meson_calls.specs.Refusals.{IfRefused};
 ghost use Rattle.meson_calls.specs.Strings.{AreGood};
-ghost use Rattle.meson_inventory.specs.Info.{HasNoCallInfo, HasNoInfo, HasNoTargetInfo, IsCallInfo, IsInfo, IsTargetInfo, keyword_place, keyword_place_data, offset_data, placed_item_data, placed_items_data, placed_kwargs_data, placed_target_data, places_data, put_places, range_data, with_members, with_position};
+ghost use Rattle.meson_inventory.specs.Info.{HasNoCallInfo, HasNoInfo, HasNoTargetInfo, HasNoValueInfo, IsCallInfo, IsInfo, IsTargetInfo, IsValueInfo, keyword_place, keyword_place_data, offset_data, placed_item_data, placed_items_data, placed_kwargs_data, placed_target_data, places_data, put_places, range_data, with_members, with_position};
 
 use crate::placed::offset_members;
 use crate::position_counter::PositionCounter;
@@ -20,8 +20,10 @@ use meson_details::called::call_at;
 use meson_edit::span_of;
 use meson_lex::Span;
 use meson_listing::entries::{file_name, spot_members, text_or_null};
-use meson_listing::{call_object, target_object};
-use meson_plan::{Command, Project, Refusal, Role, SourceItem, TargetDetails};
+use meson_listing::{call_object, target_object, value_object};
+use meson_plan::{
+    Command, Project, Refusal, Role, SourceItem, TargetDetails, ValueName, find_value,
+};
 use meson_splice::{FileSet, Text};
 use meson_syntax::Arg;
 use serde_json::{Map, Value, put};
@@ -308,10 +310,47 @@ pub fn placed_info_kwargs(
     Ok(kwargs_value(alloc, files, place.file, called.span, listing, places)?)
 }
 
+/// A listing with the position of what it is about.
+fn positioned(
+    alloc: Global,
+    files: &FileSet,
+    file: usize,
+    span: Span,
+    listing: Value,
+) -> Result<Value, AllocError>
+    ensures { IfOk result (λ v. view v ≡ with_members (with_position files.now file span) (view listing)) }
+{
+    let mut members = match members_of(listing) {
+        Ok(members) => members,
+        Err(other) => return Ok(other),
+    };
+    let mut positions = PositionCounter::new(files);
+    put_position(alloc, &mut positions, file, span, &mut members)?;
+    Ok(Value::Object(members))
+}
+
+/// What `info` reports of a value, with its position. Lines are counted from 0, characters in UTF-16 code units.
+///
+/// # Errors
+/// The place or the value is not found, or out of memory.
+pub fn placed_info_argument(
+    alloc: Global,
+    project: &Project,
+    name: &ValueName,
+) -> Result<Value, Refusal>
+    ensures listed { IfOk result (λ v. IsValueInfo project.now name.now (view v)) }
+    ensures refused { IfRefused result (HasNoValueInfo project.now name.now) }
+{
+    let value = find_value(alloc, project, name)?;
+    let files = project.files();
+    let listing = value_object(alloc, files, value.file, value.span.from, value.details)?;
+    Ok(positioned(alloc, files, value.file, value.span, listing)?)
+}
+
 /// What a command reports, with positions: nothing, if it is not an info command.
 ///
 /// # Errors
-/// Those of `placed_info_target` and `placed_info_kwargs`.
+/// Those of `placed_info_target`, `placed_info_kwargs` and `placed_info_argument`.
 pub fn placed_info(
     alloc: Global,
     project: &Project,
@@ -327,6 +366,7 @@ pub fn placed_info(
         Command::KwargsInfo { role, id } => {
             Ok(Some(placed_info_kwargs(alloc, project, *role, id.get())?))
         }
+        Command::ArgumentInfo { name } => Ok(Some(placed_info_argument(alloc, project, name)?)),
         _ => Ok(None),
     }
 }

@@ -2,7 +2,7 @@
 //! JSON and as lines.
 #![tactic(auto)]
 
-mod assignments;
+pub mod assignments;
 pub mod holdings;
 mod info;
 mod inventory;
@@ -12,7 +12,7 @@ mod lines;
 mod placed;
 mod position_counter;
 
-pub use info::{placed_info, placed_info_kwargs, placed_info_target};
+pub use info::{placed_info, placed_info_argument, placed_info_kwargs, placed_info_target};
 pub use inventory::{assignments_object, calls_object, project_object};
 pub use line_counter::file_bytes;
 pub use lines::{assignments_lines, call_words, calls_lines, project_lines};

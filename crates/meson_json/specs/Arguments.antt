@@ -7,6 +7,9 @@ use Rattle.meson_steps.specs.declared.argument.PlaceName.{PlaceName}
 use Rattle.meson_steps.specs.declared.argument.PlaceName.TheVariants as name
 use Rattle.meson_steps.specs.declared.argument.ValueChange.{ValueChange}
 use Rattle.meson_steps.specs.declared.argument.ValueChange.TheVariants as change
+use Rattle.meson_steps.specs.declared.argument.ValueName.{ValueName}
+use Rattle.meson_steps.specs.declared.command.Command.{Command}
+use Rattle.meson_steps.specs.declared.command.Command.TheVariants as command
 use Rattle.meson_steps.specs.declared.given.Given.{Given}
 use Rattle.meson_json.specs.Counts.{count_of}
 use Rattle.meson_json.specs.declared.names.ArgumentOperation.{ArgumentOperation}
@@ -55,10 +58,32 @@ set_to [] = None
 set_to (g ∷ []) = Some (change.Set g)
 set_to (g ∷ h ∷ gs) = Some (change.SetAll (g ∷ h ∷ gs))
 
+-- one by another
+abbrev pub replaced_by : List Given → Option ValueChange
+replaced_by [] = None
+replaced_by (g ∷ []) = None
+replaced_by (old ∷ new ∷ []) = Some (change.Replace old new)
+replaced_by (g ∷ h ∷ k ∷ gs) = None
+
 -- the change of an operation with its values, if there are as many as it takes
 abbrev pub change_to : ArgumentOperation → List Given → Option ValueChange
 change_to operation.Set gs = set_to gs
 change_to operation.Add [] = None
 change_to operation.Add (g ∷ gs) = Some (change.Add (g ∷ gs))
+change_to operation.Remove [] = None
+change_to operation.Remove (g ∷ gs) = Some (change.Remove (g ∷ gs))
+change_to operation.Replace gs = replaced_by gs
 change_to operation.Delete [] = Some change.Delete
 change_to operation.Delete (g ∷ gs) = None
+change_to operation.Info gs = None
+
+-- the command of an operation with the name of a value and further values, if there are as many as it takes; a report takes none
+abbrev pub command_to : ArgumentOperation → ValueName → List Given → Option Command
+command_to operation.Info name [] = Some (command.ArgumentInfo name)
+command_to operation.Info name (g ∷ gs) = None
+command_to o name gs = option_map (command.Argument name) (change_to o gs)
+
+-- a report may leave the keys out: then it is of the place itself
+abbrev pub keys_left_out : ArgumentOperation → Option (List (List ℕ))
+keys_left_out operation.Info = Some []
+keys_left_out o = None

@@ -13,6 +13,8 @@ abbrev pub value_members : ValueChange → List (List ℕ)
 value_members (change.Set g) = codes "function" ∷ codes "id" ∷ codes "key" ∷ codes "in" ∷ codes "values" ∷ []
 value_members (change.SetAll gs) = codes "function" ∷ codes "id" ∷ codes "key" ∷ codes "in" ∷ codes "values" ∷ []
 value_members (change.Add gs) = codes "function" ∷ codes "id" ∷ codes "key" ∷ codes "in" ∷ codes "values" ∷ []
+value_members (change.Remove gs) = codes "function" ∷ codes "id" ∷ codes "key" ∷ codes "in" ∷ codes "values" ∷ []
+value_members (change.Replace old new) = codes "function" ∷ codes "id" ∷ codes "key" ∷ codes "in" ∷ codes "values" ∷ []
 value_members change.Delete = codes "function" ∷ codes "id" ∷ codes "key" ∷ codes "in" ∷ []
 
 -- those that the operation of a command uses
@@ -32,6 +34,7 @@ used_members (command.KwargsInfo role id) = codes "function" ∷ codes "id" ∷ 
 used_members (command.OptionsSet pairs) = codes "options" ∷ []
 used_members (command.OptionsDelete names) = codes "options" ∷ []
 used_members (command.Argument name c) = value_members c
+used_members (command.ArgumentInfo name) = codes "function" ∷ codes "id" ∷ codes "key" ∷ codes "in" ∷ []
 
 -- one of these, or one that says which command it is
 abbrev pub is_known : Command → List ℕ → Bool

@@ -38,7 +38,9 @@ abbrev pub options_operation : List ℕ → Option OptionsOperation
 options_operation s = among ((codes "set", options.Set) ∷ (codes "delete", options.Delete) ∷ []) s
 
 abbrev pub argument_operation : List ℕ → Option ArgumentOperation
-argument_operation s = among ((codes "set", argument.Set) ∷ (codes "add", argument.Add) ∷ (codes "delete", argument.Delete) ∷ []) s
+argument_operation s =
+    among ((codes "set", argument.Set) ∷ (codes "add", argument.Add) ∷ (codes "remove", argument.Remove) ∷ (codes "replace", argument.Replace)
+    ∷ (codes "delete", argument.Delete) ∷ (codes "info", argument.Info) ∷ []) s
 
 abbrev pub role_of : List ℕ → Option Role
 role_of s = among ((codes "dependency", role.Dependency) ∷ (codes "target", role.Target) ∷ (codes "project", role.Project) ∷ []) s

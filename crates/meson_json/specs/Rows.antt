@@ -93,6 +93,14 @@ ValueEntries =
     (command.Argument (at_keys (name.Project (codes "/")) []) (change.Set (given.Switch false)))
     × stands_for (codes "[{'type':'arg','operation':'add','function':'target','id':'e','key':'c_args','values':['-DX']}]")
     (command.Argument (at_keys (called callee.Target (codes "e")) (codes "c_args" ∷ [])) (change.Add (given.Text (codes "-DX") ∷ [])))
+    × stands_for (codes "[{'type':'arg','operation':'remove','function':'target','id':'e','key':'c_args','values':['-DX',true]}]")
+    (command.Argument (at_keys (called callee.Target (codes "e")) (codes "c_args" ∷ [])) (change.Remove (given.Text (codes "-DX") ∷ given.Switch true ∷ [])))
+    × stands_for (codes "[{'type':'arg','operation':'replace','function':'target','id':'e','key':'c_args','values':['-DX','-DY']}]")
+    (command.Argument (at_keys (called callee.Target (codes "e")) (codes "c_args" ∷ [])) (change.Replace (given.Text (codes "-DX")) (given.Text (codes "-DY"))))
+    × gives (codes "[{'type':'arg','operation':'remove','function':'target','id':'e','key':'c_args'}]") (Err (BadField 0 (codes "values")))
+    × gives (codes "[{'type':'arg','operation':'replace','function':'target','id':'e','key':'c_args','values':['-DX']}]") (Err (BadField 0 (codes "values")))
+    × gives (codes "[{'type':'arg','operation':'replace','function':'target','id':'e','key':'c_args','values':['a','b','c']}]")
+    (Err (BadField 0 (codes "values")))
     × gives (codes "[{'type':'arg','operation':'add','function':'target','id':'e','key':'c_args','values':[]}]") (Err (BadField 0 (codes "values")))
     × gives (codes "[{'type':'arg','operation':'rename','function':'target','id':'e','key':'c_args','values':['-DX']}]") (Err (UnknownOperation 0))
     × gives (codes "[{'type':'arg','operation':'set','id':'e'}]") (Err (BadField 0 (codes "function")))
@@ -102,6 +110,18 @@ ValueEntries =
     × gives (codes "[{'type':'arg','operation':'set','function':'target','id':'e','key':'k'}]") (Err (BadField 0 (codes "values")))
     × gives (codes "[{'type':'arg','operation':'set','function':'target','id':'e','key':'k','values':[1]}]") (Err (BadField 0 (codes "values")))
     × gives_known (codes "[{'type':'arg','operation':'delete','function':'target','id':'e','key':'k','values':[]}]") (Err (UnknownMember 0 (codes "values")))
+
+-- what is reported of a value; the key may be left out, and there are no values
+abbrev pub InfoEntries : Type 0
+InfoEntries =
+    stands_for (codes "[{'type':'arg','operation':'info','function':'target','id':'e','key':'c_args.0'}]")
+    (command.ArgumentInfo (at_keys (called callee.Target (codes "e")) (codes "c_args" ∷ codes "0" ∷ [])))
+    × stands_for (codes "[{'type':'arg','operation':'info','function':'project','id':'/','values':1}]") (command.ArgumentInfo (at_keys (name.Project (codes "/")) []))
+    × gives_known (codes "[{'type':'arg','operation':'info','function':'variable','id':'x','key':['a.b'],'in':'s'}]")
+    (Ok (command.ArgumentInfo (record { place = record { name = name.Variable (codes "x"); folder = Some (codes "s") }; keys = codes "a.b" ∷ [] }) ∷ []))
+    × gives (codes "[{'type':'arg','operation':'info','function':'target','id':'e','key':1}]") (Err (BadField 0 (codes "key")))
+    × gives (codes "[{'type':'arg','operation':'delete','function':'target','id':'e'}]") (Err (BadField 0 (codes "key")))
+    × gives_known (codes "[{'type':'arg','operation':'info','function':'target','id':'e','values':[]}]") (Err (UnknownMember 0 (codes "values")))
 
 -- entry by entry, and each in a fixed order
 abbrev pub Faults : Type 0

@@ -4,14 +4,13 @@ use Rattle.serde_json.specs.Data.{Data, array, string, Items, no_items, item, Me
 use Rattle.serde_json.specs.Events.{items_len}
 use Rattle.serde_json.specs.Find.{get, as_array, as_object, as_str}
 use Rattle.meson_splice.specs.Patch.{then_ok}
-use Rattle.meson_json.specs.Arguments.{change_to, keys_in, place_named}
+use Rattle.meson_json.specs.Arguments.{command_to, keys_in, keys_left_out, place_named}
 use Rattle.meson_json.specs.Each.{each_of, each_member, names_of_members}
 use Rattle.meson_json.specs.Known.{unknown_in}
 use Rattle.meson_json.specs.Members.{member_text}
 use Rattle.meson_json.specs.Operations.{argument_operation, entry_type, target_operation, kwargs_operation, options_operation, role_of}
 use Rattle.meson_json.specs.Settings.{given_value, setting_of, option_value}
 use Rattle.meson_json.specs.Targets.{target_command}
-use Rattle.meson_steps.specs.declared.argument.ValueChange.{ValueChange}
 use Rattle.meson_steps.specs.declared.argument.ValueName.{ValueName}
 use Rattle.meson_steps.specs.declared.command.Command.{Command}
 use Rattle.meson_steps.specs.declared.command.Command.TheVariants as command
@@ -109,24 +108,35 @@ keys_of (string word) = Some (keys_in word)
 keys_of (array ds) = each_of as_str ds
 keys_of _ = None
 
--- `delete` reads no values
+-- the keys of a member, or where there is no such member
+abbrev pub keys_or : Option (List (List ℕ)) → Option Data → Option (List (List ℕ))
+keys_or otherwise None = otherwise
+keys_or otherwise (Some d) = keys_of d
+
+abbrev pub keys_at : ℕ → ArgumentOperation → Data → Result (List (List ℕ)) ScriptFault
+keys_at i operation d = ok_or (keys_or (keys_left_out operation) (get (codes "key") d)) (BadField i (codes "key"))
+
+-- `delete` and `info` read no values
 abbrev pub values_at : ℕ → ArgumentOperation → Data → Result (List Given) ScriptFault
 values_at i argument.Set d = given (λ v. option_and_then (each_of given_value) (as_array v)) i (codes "values") [] (get (codes "values") d)
 values_at i argument.Add d = given (λ v. option_and_then (each_of given_value) (as_array v)) i (codes "values") [] (get (codes "values") d)
+values_at i argument.Remove d = given (λ v. option_and_then (each_of given_value) (as_array v)) i (codes "values") [] (get (codes "values") d)
+values_at i argument.Replace d = given (λ v. option_and_then (each_of given_value) (as_array v)) i (codes "values") [] (get (codes "values") d)
 values_at i argument.Delete d = Ok []
+values_at i argument.Info d = Ok []
 
-abbrev pub change_at : ℕ → ArgumentOperation → Data → Result ValueChange ScriptFault
-change_at i operation d = then_ok (values_at i operation d) (λ gs. ok_or (change_to operation gs) (BadField i (codes "values")))
+abbrev pub value_command : ℕ → ArgumentOperation → ValueName → Data → Result Command ScriptFault
+value_command i operation name d = then_ok (values_at i operation d) (λ gs. ok_or (command_to operation name gs) (BadField i (codes "values")))
 
 abbrev pub folder_at : ℕ → Data → Result (Option (List ℕ)) ScriptFault
 folder_at i d = given (λ v. option_map Some (as_str v)) i (codes "in") None (get (codes "in") d)
 
-unfoldable pub value_name : ℕ → Data → Result ValueName ScriptFault
-value_name i d =
+unfoldable pub value_name : ℕ → ArgumentOperation → Data → Result ValueName ScriptFault
+value_name i operation d =
     then_ok (required_text i (codes "function") d) (λ function.
     then_ok (required_text i (codes "id") d) (λ id.
     then_ok (ok_or (place_named function id) (BadField i (codes "id"))) (λ place.
-    then_ok (ok_or (option_and_then keys_of (get (codes "key") d)) (BadField i (codes "key"))) (λ keys.
+    then_ok (keys_at i operation d) (λ keys.
     then_ok (folder_at i d) (λ folder.
     Ok (record { place = record { name = place; folder = folder }; keys = keys }))))))
 
@@ -134,8 +144,7 @@ unfoldable pub argument_entry : ℕ → Data → Result Command ScriptFault
 argument_entry i d =
     then_ok (required_text i (codes "operation") d) (λ word.
     then_ok (ok_or (argument_operation word) (UnknownOperation i)) (λ operation.
-    then_ok (value_name i d) (λ name.
-    then_ok (change_at i operation d) (λ c. Ok (command.Argument name c)))))
+    then_ok (value_name i operation d) (λ name. value_command i operation name d)))
 
 -- ---- entries and scripts
 

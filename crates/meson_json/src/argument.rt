@@ -1,13 +1,14 @@
-//! What names a value, and the changes of a value, by a script or on the command line.
+//! What names a value, and the changes and reports of a value, by a script or on the command line.
 
 ghost use Rattle.std.specs.Prelude.{◌≡◌, IfOk};
-ghost use Rattle.meson_json.specs.Arguments.{callee_of, change_to, keys_in, line_named, place_named, set_to};
+ghost use Rattle.meson_json.specs.Arguments.{callee_of, change_to, command_to, keys_in, keys_left_out, line_named, place_named, replaced_by, set_to};
 
 use crate::count::count_of;
 use crate::members::owned;
 use crate::names::ArgumentOperation;
 use meson_splice::{Many, Text};
-use meson_steps::argument::{Callee, PlaceName, ValueChange};
+use meson_steps::argument::{Callee, PlaceName, ValueChange, ValueName};
+use meson_steps::command::Command;
 use meson_steps::given::Given;
 use std::alloc::{AllocError, Global};
 
@@ -93,15 +94,68 @@ fn set_to(values: Vec<Given>) -> Option<ValueChange>
     values.pop().map(ValueChange::Set)
 }
 
-/// The change that an operation and its values mean: one or more of `set` and `add`, none of `delete`.
-pub fn change_to(operation: ArgumentOperation, values: Vec<Given>) -> Option<ValueChange>
+/// The change that replaces a value by another one, if two are given.
+fn replaced_by(values: Vec<Given>) -> Option<ValueChange>
+    ensures { result ≡ replaced_by values.items }
+{
+    let mut values = values;
+    if values.len() != 2 {
+        return None;
+    }
+    let new = values.pop()?;
+    let old = values.pop()?;
+    Some(ValueChange::Replace { old, new })
+}
+
+/// The change that an operation and its values mean: one or more of `set`, `add` and `remove`, two of `replace`, none of `delete`.
+/// A report is no change.
+fn change_to(operation: ArgumentOperation, values: Vec<Given>) -> Option<ValueChange>
     ensures { result ≡ change_to operation values.items }
 {
     match operation {
         ArgumentOperation::Set => set_to(values),
         ArgumentOperation::Add if values.is_empty() => None,
         ArgumentOperation::Add => Some(ValueChange::Add(Many::of(values))),
+        ArgumentOperation::Remove if values.is_empty() => None,
+        ArgumentOperation::Remove => Some(ValueChange::Remove(Many::of(values))),
+        ArgumentOperation::Replace => replaced_by(values),
         ArgumentOperation::Delete if values.is_empty() => Some(ValueChange::Delete),
+        ArgumentOperation::Delete => None,
+        ArgumentOperation::Info => None,
+    }
+}
+
+/// The command that an operation, the name of a value and further values mean, if there are as many as it takes. A report takes none.
+pub fn command_to(
+    operation: ArgumentOperation,
+    name: ValueName,
+    values: Vec<Given>,
+) -> Option<Command>
+    ensures { result ≡ command_to operation name values.items }
+{
+    if let ArgumentOperation::Info = operation {
+        return if values.is_empty() {
+            Some(Command::ArgumentInfo { name })
+        } else {
+            None
+        };
+    }
+    match change_to(operation, values) {
+        Some(change) => Some(Command::Argument { name, change }),
+        None => None,
+    }
+}
+
+/// The keys where none are named: a report then is of the place itself, and other operations need them. Does not allocate.
+pub fn keys_left_out(alloc: Global, operation: ArgumentOperation) -> Option<Many<Text>>
+    ensures { result ≡ keys_left_out operation }
+{
+    match operation {
+        ArgumentOperation::Info => Some(Many::new(alloc)),
+        ArgumentOperation::Set => None,
+        ArgumentOperation::Add => None,
+        ArgumentOperation::Remove => None,
+        ArgumentOperation::Replace => None,
         ArgumentOperation::Delete => None,
     }
 }

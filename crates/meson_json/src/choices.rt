@@ -23,15 +23,16 @@ impl Choice {
         self.words.iter().any(|known| *known == word)
     }
 
-    /// The first of its words that are nearest to a word, up to a third of its length away.
+    /// The first of its words, which are in lower case, that are nearest to a word, up to a third of its length away. The case of ASCII letters does not count.
     fn nearest(self, alloc: Global, word: &str) -> Result<Option<&'static str>, AllocError> {
         if word.len() > MOST_BYTES {
             return Ok(None);
         }
+        let lowered = word.to_ascii_lowercase(alloc)?;
         let mut nearest = None;
         let mut least = word.len() / 3 + 1;
         for known in self.words {
-            let edits = levenshtein(alloc, word, known)?;
+            let edits = levenshtein(alloc, lowered.as_str(), known)?;
             if edits < least {
                 least = edits;
                 nearest = Some(*known);

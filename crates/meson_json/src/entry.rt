@@ -1,15 +1,14 @@
 //! Entries of a script: each is one command.
 
-ghost use Rattle.std.specs.Prelude.{◌≡◌, ◌≢◌, Err, IfErr, IfOk, Ok, codes, ok_or, option_and_then};
-ghost use Rattle.serde_json.specs.Find.{get};
+ghost use Rattle.std.specs.Prelude.{◌≡◌, ◌≢◌, Err, IfErr, IfOk, Ok, codes, ok_or};
 ghost use Rattle.serde_json.specs.View.{members_view, view};
 ghost use Rattle.meson_json.specs.Operations.{kwargs_operation};
 ghost use Rattle.meson_json.specs.Arguments.{place_named};
-ghost use Rattle.meson_json.specs.Scripts.{argument_entry, change_at, entry_of, folder_at, keys_of, kwargs_asked, kwargs_command, kwargs_entry, options_command, options_entry, role_at, target_entry, target_members, value_name, values_at};
+ghost use Rattle.meson_json.specs.Scripts.{argument_entry, entry_of, folder_at, keys_at, keys_of, kwargs_asked, kwargs_command, kwargs_entry, options_command, options_entry, role_at, target_entry, target_members, value_command, value_name, values_at};
 ghost use Rattle.meson_json.specs.declared.fault.ScriptFault.TheVariants.{BadField, OutOfMemory};
 ghost use Rattle.meson_json.specs.declared.names.ArgumentOperation.TheVariants as argument;
 
-use crate::argument::{change_to, keys_in, place_named};
+use crate::argument::{command_to, keys_in, keys_left_out, place_named};
 use crate::fault::ScriptFault;
 use crate::members::{
     bad_field, given_values, members_or, names, option_texts, owned, required_text, settings,
@@ -22,7 +21,7 @@ use crate::names::{
 use crate::target::{TargetMembers, target_command};
 use meson_calls::Role;
 use meson_splice::{Many, Text};
-use meson_steps::argument::{PlaceName, Search, ValueChange, ValueName};
+use meson_steps::argument::{PlaceName, Search, ValueName};
 use meson_steps::command::Command;
 use meson_steps::given::Given;
 use serde_json::{Map, Value};
@@ -183,16 +182,21 @@ fn place_at(alloc: Global, index: usize, function: &str, id: &str) -> Result<Pla
     }
 }
 
-/// The keys of an entry.
-fn keys_at(alloc: Global, index: usize, entry: &Value) -> Result<Many<Text>, ScriptFault>
-    ensures ok { IfOk result (λ ks. ok_or (option_and_then keys_of (get (codes "key") (view entry.now))) (BadField index (codes "key")) ≡ Ok ks) }
-    ensures refused { IfErr result (λ e. e ≢ OutOfMemory
-        → ok_or (option_and_then keys_of (get (codes "key") (view entry.now))) (BadField index (codes "key")) ≡ Err e) }
+/// The keys of an entry, which `info` may leave out.
+fn keys_at(
+    alloc: Global,
+    index: usize,
+    operation: ArgumentOperation,
+    entry: &Value,
+) -> Result<Many<Text>, ScriptFault>
+    ensures ok { IfOk result (λ ks. keys_at index operation (view entry.now) ≡ Ok ks) }
+    ensures refused { IfErr result (λ e. e ≢ OutOfMemory → keys_at index operation (view entry.now) ≡ Err e) }
 {
-    let Some(member) = entry.get("key") else {
-        return Err(bad_field(alloc, index, "key")?);
+    let keys = match entry.get("key") {
+        Some(member) => keys_of(alloc, member)?,
+        None => keys_left_out(alloc, operation),
     };
-    match keys_of(alloc, member)? {
+    match keys {
         Some(keys) => Ok(keys),
         None => Err(bad_field(alloc, index, "key")?),
     }
@@ -214,14 +218,19 @@ fn folder_at(alloc: Global, index: usize, entry: &Value) -> Result<Option<Text>,
 
 /// What names the value of an entry.
 #[tactic(auto, unfolding(crate::specs::Scripts::value_name))]
-fn value_name(alloc: Global, index: usize, entry: &Value) -> Result<ValueName, ScriptFault>
-    ensures ok { IfOk result (λ n. value_name index (view entry.now) ≡ Ok n) }
-    ensures refused { IfErr result (λ e. e ≢ OutOfMemory → value_name index (view entry.now) ≡ Err e) }
+fn value_name(
+    alloc: Global,
+    index: usize,
+    operation: ArgumentOperation,
+    entry: &Value,
+) -> Result<ValueName, ScriptFault>
+    ensures ok { IfOk result (λ n. value_name index operation (view entry.now) ≡ Ok n) }
+    ensures refused { IfErr result (λ e. e ≢ OutOfMemory → value_name index operation (view entry.now) ≡ Err e) }
 {
     let function = required_text(alloc, index, entry, "function")?;
     let id = required_text(alloc, index, entry, "id")?;
     let name = place_at(alloc, index, function.get(), id.get())?;
-    let keys = keys_at(alloc, index, entry)?;
+    let keys = keys_at(alloc, index, operation, entry)?;
     let folder = folder_at(alloc, index, entry)?;
     let place = Search { name, folder };
     Ok(ValueName { place, keys })
@@ -257,23 +266,27 @@ fn values_at(
     match operation {
         ArgumentOperation::Set => given_at(alloc, index, entry),
         ArgumentOperation::Add => given_at(alloc, index, entry),
+        ArgumentOperation::Remove => given_at(alloc, index, entry),
+        ArgumentOperation::Replace => given_at(alloc, index, entry),
         ArgumentOperation::Delete => Ok(Vec::new(alloc)),
+        ArgumentOperation::Info => Ok(Vec::new(alloc)),
     }
 }
 
-/// The change of an entry.
-fn change_at(
+/// The command of an entry on the value of a name.
+fn value_command(
     alloc: Global,
     index: usize,
     operation: ArgumentOperation,
+    name: ValueName,
     entry: &Value,
-) -> Result<ValueChange, ScriptFault>
-    ensures ok { IfOk result (λ c. change_at index operation (view entry.now) ≡ Ok c) }
-    ensures refused { IfErr result (λ e. e ≢ OutOfMemory → change_at index operation (view entry.now) ≡ Err e) }
+) -> Result<Command, ScriptFault>
+    ensures ok { IfOk result (λ c. value_command index operation name (view entry.now) ≡ Ok c) }
+    ensures refused { IfErr result (λ e. e ≢ OutOfMemory → value_command index operation name (view entry.now) ≡ Err e) }
 {
     let values = values_at(alloc, index, operation, entry)?;
-    match change_to(operation, values) {
-        Some(change) => Ok(change),
+    match command_to(operation, name, values) {
+        Some(command) => Ok(command),
         None => Err(bad_field(alloc, index, "values")?),
     }
 }
@@ -287,9 +300,8 @@ fn argument_entry(alloc: Global, index: usize, entry: &Value) -> Result<Command,
     let Some(operation) = find_argument_operation(word.get()) else {
         return Err(ScriptFault::UnknownOperation(index));
     };
-    let name = value_name(alloc, index, entry)?;
-    let change = change_at(alloc, index, operation, entry)?;
-    Ok(Command::Argument { name, change })
+    let name = value_name(alloc, index, operation, entry)?;
+    value_command(alloc, index, operation, name, entry)
 }
 
 /// The command of an entry, whatever other members it has.

@@ -33,7 +33,11 @@ fn is_known_of_value(change: &ValueChange, name: &str) -> bool
         return true;
     }
     match change {
-        ValueChange::Set(_) | ValueChange::SetAll(_) | ValueChange::Add(_) => name == "values",
+        ValueChange::Set(_)
+        | ValueChange::SetAll(_)
+        | ValueChange::Add(_)
+        | ValueChange::Remove(_)
+        | ValueChange::Replace { .. } => name == "values",
         ValueChange::Delete => false,
     }
 }
@@ -61,6 +65,9 @@ fn is_known(command: &Command, name: &str) -> bool
         Command::KwargsInfo { .. } => name == "function" || name == "id",
         Command::OptionsSet { .. } | Command::OptionsDelete { .. } => name == "options",
         Command::Argument { change, .. } => is_known_of_value(change, name),
+        Command::ArgumentInfo { .. } => {
+            name == "function" || name == "id" || name == "key" || name == "in"
+        }
     }
 }
 

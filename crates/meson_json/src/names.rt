@@ -34,12 +34,15 @@ pub(crate) enum OptionsOperation {
     Delete,
 }
 
-/// What is done to a value.
+/// What is done to a value, or reported of it.
 #[derive(Clone, Copy)]
 pub enum ArgumentOperation {
     Set,
     Add,
+    Remove,
+    Replace,
     Delete,
+    Info,
 }
 
 pub(crate) fn find_type(name: &str) -> Option<EntryType>
@@ -123,8 +126,14 @@ pub fn find_argument_operation(name: &str) -> Option<ArgumentOperation>
         Some(ArgumentOperation::Set)
     } else if name == "add" {
         Some(ArgumentOperation::Add)
+    } else if name == "remove" {
+        Some(ArgumentOperation::Remove)
+    } else if name == "replace" {
+        Some(ArgumentOperation::Replace)
     } else if name == "delete" {
         Some(ArgumentOperation::Delete)
+    } else if name == "info" {
+        Some(ArgumentOperation::Info)
     } else {
         None
     }

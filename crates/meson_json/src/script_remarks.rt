@@ -47,7 +47,7 @@ const OPTIONS_OPERATIONS: Choice = Choice {
 const VALUE_OPERATIONS: Choice = Choice {
     of: "arg",
     what: "operations",
-    words: &["set", "add", "delete"],
+    words: &["set", "add", "remove", "replace", "delete"],
 };
 
 /// The members that an operation uses, by the names of its type and of itself.
@@ -92,8 +92,9 @@ fn meant_for_target(word: &str) -> Option<&'static str> {
 }
 
 /// What a member of a change of a value takes.
-fn argument_of(member: &str) -> &'static str {
+fn argument_of(operation: &str, member: &str) -> &'static str {
     match member {
+        "values" if operation == "replace" => "an array of two values, the old one and the new one",
         "id" => "a text; of at it is the name of a file, a colon and a line",
         "key" => "texts joined by dots, or an array of texts",
         "values" => "an array of texts, true, false and objects whose code is one expression",
@@ -102,9 +103,9 @@ fn argument_of(member: &str) -> &'static str {
 }
 
 /// What a member takes.
-fn value_of(entry_type: &str, member: &str) -> &'static str {
-    if entry_type == "arg" {
-        return argument_of(member);
+fn value_of(entry: &Value, member: &str) -> &'static str {
+    if text_at(entry, "type").unwrap_or("") == "arg" {
+        return argument_of(text_at(entry, "operation").unwrap_or(""), member);
     }
     match member {
         "sources" => "an array of texts",
@@ -180,7 +181,7 @@ fn explain_member(
         }
         None => remarks.note(format!(in alloc; "{member} is missing")?)?,
     }
-    let value = value_of(text_at(entry, "type").unwrap_or(""), member);
+    let value = value_of(entry, member);
     remarks.help(format!(in alloc; "{member} takes {value}")?)
 }
 

@@ -112,7 +112,7 @@ fn ids_value(alloc: Global, names: Many<Text>) -> Result<Value, AllocError>
 }
 
 /// The value of a keyword argument.
-fn shown_value(alloc: Global, shown: Shown) -> Result<Value, AllocError>
+pub(crate) fn shown_value(alloc: Global, shown: Shown) -> Result<Value, AllocError>
     ensures { IfOk result (λ v. view v ≡ shown_data shown) }
 {
     match shown {

@@ -4,5 +4,7 @@
 pub mod entries;
 pub mod laws;
 mod objects;
+mod values;
 
 pub use objects::{call_object, target_object};
+pub use values::value_object;

@@ -35,7 +35,11 @@ fn head_members(
 }
 
 /// The listing of this type.
-fn typed_object(alloc: Global, members: Map<String, Value>, kind: &str) -> Result<Value, AllocError>
+pub(crate) fn typed_object(
+    alloc: Global,
+    members: Map<String, Value>,
+    kind: &str,
+) -> Result<Value, AllocError>
     ensures { IfOk result (λ v. view v ≡ object (with_member (codes "type") (string kind.now) (members_view members.entries))) }
 {
     let mut members = members;

@@ -169,11 +169,21 @@ fn values_of(alloc: Global, words: &str) -> Result<Vec<Given>, ValueFault> {
     Ok(values)
 }
 
-/// The change that a word and the words of its values mean. Of `set` they are one value.
+/// The change of a value into another one, by two words.
+fn replacement(alloc: Global, values: &str) -> Result<ValueChange, ValueFault> {
+    let (old, new) = values.split_once(' ').unwrap_or((values, ""));
+    let old = given_of(alloc, &text_of(alloc, old)?)?;
+    let new = given_of(alloc, &text_of(alloc, new)?)?;
+    Ok(ValueChange::Replace { old, new })
+}
+
+/// The change that a word and the words of its values mean. Of `set` they are one value, of `replace` two.
 fn change_of(alloc: Global, word: &str, values: &str) -> Result<ValueChange, ValueFault> {
     Ok(match word {
         "set" => ValueChange::Set(given_of(alloc, &text_of(alloc, values)?)?),
         "add" => ValueChange::Add(Many::of(values_of(alloc, values)?)),
+        "remove" => ValueChange::Remove(Many::of(values_of(alloc, values)?)),
+        "replace" => replacement(alloc, values)?,
         "set-all" => ValueChange::SetAll(Many::of(values_of(alloc, values)?)),
         _ => ValueChange::Delete,
     })
@@ -235,7 +245,9 @@ pub fn answer(
             Ok(slot) => put_slot(&slot, to),
             Err(refusal) => to.show_line(&refusal),
         },
-        "set" | "set-all" | "add" | "delete" => put_change(alloc, sources, question, to)?,
+        "set" | "set-all" | "add" | "remove" | "replace" | "delete" => put_change(
+            alloc, sources, question, to,
+        )?,
         _ => to.line("not understood"),
     }
     Ok(())

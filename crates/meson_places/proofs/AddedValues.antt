@@ -1,5 +1,5 @@
 -- What adding values leaves: one list has them behind its elements, and all else stays.
-use Rattle.std.proofs.Common.{◌≡◌, ℕ, zero, suc, ◌≤◌, true, false, List, [], ◌∷◌, ◌++◌, append_assoc, length, length-append, map, Option, Some, None, Result, Ok, Err, refl, sym, ap, ap₂, ◌∙◌, subst, arith}
+use Rattle.std.proofs.Common.{◌≡◌, ℕ, zero, suc, ◌≤◌, true, false, List, [], ◌∷◌, ◌++◌, append_assoc, length, length-append, map, Some, Ok, Err, refl, sym, ap, ap₂, ◌∙◌, arith}
 use Rattle.std.specs.Prelude.{Bool, ◌||◌, not, nat_lt, slice_set, option_and_then, option_map, if◌then◌else◌}
 use Rattle.std.specs.List.{list_all, list_any}
 use Rattle.std.proofs.lemmas.Bool.{and_from, ltb-true}
@@ -8,26 +8,23 @@ use Rattle.meson_lex.specs.declared.kinds.Span.{Span}
 use Rattle.meson_splice.specs.Files.{bytes_at}
 use Rattle.meson_syntax.specs.Paths.{ListAt, list_at, nth}
 use Rattle.meson_syntax.specs.Tree.{Argument, plain, Expression, Listing, listing, Nowhere, Plain, arguments_of, erase, erase_argument, erase_listing}
-use Rattle.meson_syntax.proofs.paths.Reaching.{and-then-some}
 use Rattle.meson_edit.specs.Edits.{After, First, Replace, Written, edited, element_added, elements, is_empty, with_elements}
 use Rattle.meson_calls.specs.declared.call.CallRef.{CallRef}
-use Rattle.meson_calls.specs.declared.refusal.Refusal.{Refusal}
 use Rattle.meson_calls.specs.declared.refusal.Refusal.TheVariants.{TooDeep}
 use Rattle.meson_calls.specs.Loading.{Loaded, project}
-use Rattle.meson_calls.specs.Project.{expression_at}
 use Rattle.meson_calls.proofs.ExpressionsAt.{list_here}
 use Rattle.meson_steps.specs.ResultLimits.{plain_trees}
-use Rattle.meson_steps.specs.Steps.{Step, all_stepped, changed_at, step_in, stepped}
+use Rattle.meson_steps.specs.Steps.{Step, all_stepped, step_in, stepped}
 use Rattle.meson_steps.specs.declared.given.Given.{Given}
 use Rattle.meson_steps.proofs.Insertable.{edited_there, elements_with, first_there, there_again}
 use Rattle.meson_steps.proofs.PlainTrees.{erased_elements, plain_place, tree_is}
 use Rattle.meson_steps.proofs.WithOne.{change_there, changed_there}
 use Rattle.meson_places.specs.Changes.{behind_all}
 use Rattle.meson_places.specs.Equality.{fresh, lists_say, same_given}
-use Rattle.meson_places.specs.Laws.{AddsToOneList, HasAlso, HasMore, NewAreUnknown}
-use Rattle.meson_places.specs.NewElements.{add_to_last, add_to_list, add_to_value, fresh_written}
+use Rattle.meson_places.specs.Laws.{AddsToOneList, HasAlso, NewAreUnknown}
+use Rattle.meson_places.specs.NewElements.{add_to_last, add_to_list, fresh_written}
 use Rattle.meson_places.specs.Several.{AllMayBeGiven, put_each}
-use Rattle.meson_places.specs.ValueLists.{ValueList, last_of, lists_of}
+use Rattle.meson_places.specs.ValueLists.{ValueList, lists_of}
 use Rattle.meson_places.proofs.ListStands.{last_there, no_elements}
 use Rattle.meson_places.proofs.SeveralDoable.{all_room}
 use Rattle.meson_places.proofs.ValueListsThere as there
@@ -37,7 +34,7 @@ use Rattle.meson_places.proofs.ValueListsThere as there
 abbrev nodes : List (Written (Expression Nowhere)) → List (Argument Nowhere)
 nodes ws = map plain (map (λ w. w.node) ws)
 
-set_twice : {X : Type 0} (xs : List X) (i : ℕ) (a b : X) → slice_set (slice_set xs i a) i b ≡ slice_set xs i b
+pub set_twice : {X : Type 0} (xs : List X) (i : ℕ) (a b : X) → slice_set (slice_set xs i a) i b ≡ slice_set xs i b
 set_twice [] i a b = refl
 set_twice (x ∷ xs) zero a b = refl
 set_twice (x ∷ xs) (suc i) a b = ap (λ l. x ∷ l) (set_twice xs i a b)
@@ -57,7 +54,7 @@ module _ (c : CallRef) (many : ℕ) where
   path = c.path.steps
 
   -- the edit of an element behind all others
-  edit_behind : (t : Plain) (q : ListAt Nowhere) → list_at t path ≡ Some q → (new : Written (Argument Nowhere)) (i : ℕ) → length (elements q.list) ≡ i → (trees : List Plain) → nth trees c.file ≡ Some t
+  pub edit_behind : (t : Plain) (q : ListAt Nowhere) → list_at t path ≡ Some q → (new : Written (Argument Nowhere)) (i : ℕ) → length (elements q.list) ≡ i → (trees : List Plain) → nth trees c.file ≡ Some t
       → stepped (behind_all c i new) trees ≡ Some (slice_set trees c.file (q.back (with_elements q.list (elements q.list ++ new.node ∷ []))))
   edit_behind t q at_ new zero count trees is_tree =
       let xs = elements q.list in

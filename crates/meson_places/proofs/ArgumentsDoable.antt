@@ -17,11 +17,13 @@ use Rattle.meson_steps.specs.declared.argument.ValueChange.{ValueChange}
 use Rattle.meson_steps.specs.declared.argument.ValueChange.TheVariants as change
 use Rattle.meson_places.specs.declared.slots.Slot.{Slot}
 use Rattle.meson_places.specs.declared.slots.Slot.TheVariants as slot
-use Rattle.meson_places.specs.Arguments.{MayBeMade, last_key, slot_steps}
+use Rattle.meson_places.specs.Arguments.{MayBeMade, last_key, named_steps, slot_steps}
 use Rattle.meson_places.specs.Laws.{ArgumentStepsAreDoable, SlotIsThere}
 use Rattle.meson_places.specs.Names.{the_place}
 use Rattle.meson_places.specs.Slots.{Child, absent_slot, at_number, elements_in, in_child, nth_child, number_in, slot_from, slot_in, the_slot}
+use Rattle.meson_places.specs.TargetNames.{checked_name}
 use Rattle.meson_places.proofs.NewElementsDoable.{add_doable}
+use Rattle.meson_places.proofs.SaidDoable.{remove_doable, replace_doable}
 use Rattle.meson_places.proofs.SeveralDoable.{set_all_doable}
 use Rattle.meson_places.proofs.SlotsDoable.{KeyIsText, delete_doable, set_within_doable}
 use Rattle.meson_places.proofs.SlotsThere.{slots_are_there}
@@ -65,10 +67,13 @@ slot_doable : (old : Loaded) → IsProject old → (key : List ℕ) (c : ValueCh
 slot_doable old is key (change.Set g) may s there text steps made = set_within_doable old is g may key s text steps made
 slot_doable old is key (change.SetAll gs) may s there text steps made = set_all_doable old is gs may key s text steps made
 slot_doable old is key (change.Add gs) may s there text steps made = add_doable old is gs may key s text steps made
+slot_doable old is key (change.Remove gs) may s there text steps made = remove_doable old is gs key s steps made
+slot_doable old is key (change.Replace was new) may s there text steps made = replace_doable old is was new may key s steps made
 slot_doable old is key change.Delete may s there text steps made = delete_doable old is s there steps made
 
 pub argument_steps_are_doable : ArgumentStepsAreDoable
 argument_steps_are_doable old is n texts c may steps made =
-    let p = ok_then (the_place old n.place) (λ q. then_ok (the_slot (project old) q n.keys) (λ s. slot_steps old (last_key n.keys) c may s)) steps made in
-    let s = ok_then (the_slot (project old) p.0 n.keys) (λ s. slot_steps old (last_key n.keys) c may s) steps p.2 in
-    slot_doable old is (last_key n.keys) c may s.0 (slots_are_there (project old) p.0 n.keys s.0 s.1) (key_is_text old p.0 n.keys texts s.0 s.1) steps s.2
+    let p = ok_then (the_place old n.place) (λ q. then_ok (the_slot (project old) q n.keys) (λ s. named_steps old (last_key n.keys) c may s)) steps made in
+    let s = ok_then (the_slot (project old) p.0 n.keys) (λ s. named_steps old (last_key n.keys) c may s) steps p.2 in
+    let u = ok_then (checked_name (project old) (last_key n.keys) c s.0) (λ _. slot_steps old (last_key n.keys) c may s.0) steps s.2 in
+    slot_doable old is (last_key n.keys) c may s.0 (slots_are_there (project old) p.0 n.keys s.0 s.1) (key_is_text old p.0 n.keys texts s.0 s.1) steps u.2

@@ -31,17 +31,17 @@ abbrev pub Among : {X : Type 0} → List X → X → Type 0
 Among [] x = ⊥
 Among (y ∷ ys) x = (y ≡ x) ⊎ Among ys x
 
-among : {X : Type 0} (xs : List X) (x : X) (k : ℕ) → k < length xs → get_or xs k x ≡ x → Among xs x
+pub among : {X : Type 0} (xs : List X) (x : X) (k : ℕ) → k < length xs → get_or xs k x ≡ x → Among xs x
 among [] x k within at_k = absurd (omega (arith, within))
 among (y ∷ ys) x zero within at_k = inl at_k
 among (y ∷ ys) x (suc k) within at_k = let below : k < length ys = omega (arith, within) in inr (among ys x k below at_k)
 
-contained : {X : Type 0} (xs : List X) (x : X) → Among xs x → Contains xs x
+pub contained : {X : Type 0} (xs : List X) (x : X) → Among xs x → Contains xs x
 contained [] x m = absurd m
 contained (y ∷ ys) x (inl same) = (0, omega arith, same)
 contained (y ∷ ys) x (inr m) = let c = contained ys x m in let within : suc c.0 < suc (length ys) = omega (arith, c.1) in (suc c.0, within, c.2)
 
-given : {X Y : Type 0} (f : X → Option Y) (xs : List X) (x : X) (y : Y) → Among xs x → f x ≡ Some y → Among (filter_map f xs) y
+pub given : {X Y : Type 0} (f : X → Option Y) (xs : List X) (x : X) (y : Y) → Among xs x → f x ≡ Some y → Among (filter_map f xs) y
 given f [] x y m gives = absurd m
 given {X} {Y} f (z ∷ zs) x y (inl same) gives = first (f z) (ap f same ∙ gives)
   where
@@ -60,7 +60,7 @@ pub record IsGiven {X Y : Type 0} (f : X → Option Y) (xs : List X) (y : Y) : T
   pub is_among : Among xs of
   pub gives : f of ≡ Some y
 
-given_by : {X Y : Type 0} (f : X → Option Y) (xs : List X) (y : Y) → Among (filter_map f xs) y → IsGiven f xs y
+pub given_by : {X Y : Type 0} (f : X → Option Y) (xs : List X) (y : Y) → Among (filter_map f xs) y → IsGiven f xs y
 given_by f [] y m = absurd m
 given_by {X} {Y} f (x ∷ xs) y m = go (f x) refl (given_by f xs y) m
   where
@@ -72,7 +72,7 @@ given_by {X} {Y} f (x ∷ xs) y m = go (f x) refl (given_by f xs y) m
     go (Some w) is rest (inl same) = record { of = x; is_among = inl refl; gives = is ∙ ap Some same }
     go (Some w) is rest (inr n) = later (rest n)
 
-kept : {X : Type 0} (test : X → Bool) (xs : List X) (x : X) → Among xs x → test x ≡ true → Among (filter test xs) x
+pub kept : {X : Type 0} (test : X → Bool) (xs : List X) (x : X) → Among xs x → test x ≡ true → Among (filter test xs) x
 kept test [] x m holds = absurd m
 kept {X} test (y ∷ ys) x (inl same) holds = go (test y) (ap test same ∙ holds)
   where
@@ -85,7 +85,7 @@ kept {X} test (y ∷ ys) x (inr m) holds = go (test y) (kept test ys x m holds)
     go true n = inr n
     go false n = n
 
-kept_by : {X : Type 0} (test : X → Bool) (xs : List X) (x : X) → Among (filter test xs) x → (test x ≡ true) × Among xs x
+pub kept_by : {X : Type 0} (test : X → Bool) (xs : List X) (x : X) → Among (filter test xs) x → (test x ≡ true) × Among xs x
 kept_by test [] x m = absurd m
 kept_by {X} test (y ∷ ys) x m = go (test y) refl (kept_by test ys x) m
   where

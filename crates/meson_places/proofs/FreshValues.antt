@@ -1,5 +1,5 @@
 -- Values that are not known: one after another, and what is written for them.
-use Rattle.std.proofs.Common.{◌≡◌, ℕ, suc, ◌+◌, ◌<◌, true, false, List, [], ◌∷◌, ◌++◌, append_assoc, drop, get_or, length, map, take, refl, sym, ap, ap₂, ◌∙◌, add-one}
+use Rattle.std.proofs.Common.{◌≡◌, ℕ, ◌+◌, ◌<◌, true, false, List, [], ◌∷◌, ◌++◌, append_assoc, drop, get_or, length, map, take, refl, sym, ap, ◌∙◌, add-one}
 use Rattle.std.specs.Prelude.{Bool, if◌then◌else◌}
 use Rattle.std.proofs.Math.Seq.{drop-cons}
 use Rattle.meson_syntax.specs.Tree.{Expression, Nowhere}
@@ -8,7 +8,8 @@ use Rattle.meson_calls.proofs.Loads.{take_more}
 use Rattle.meson_steps.specs.declared.given.Given.{Given}
 use Rattle.meson_places.specs.Equality.{fresh, is_old}
 use Rattle.meson_places.specs.NewElements.{fresh_written}
-use Rattle.meson_places.specs.Several.{AllMayBeGiven}
+use Rattle.meson_places.specs.Laws.{NewAreWritten}
+use Rattle.meson_places.specs.Several.{AllMayBeGiven, all_written}
 use Rattle.meson_places.specs.Values.{given_bytes, written_given}
 
 module _ (known : Given → Bool) (vs : List Given) (i : ℕ) (d : Given) (within : i < length vs) where
@@ -43,3 +44,18 @@ fresh_bytes known before (g ∷ gs) mays = go (is_old known before g) (fresh_byt
     go : (b : Bool) → map (λ w. w.bytes) new ≡ map given_bytes vs → map (λ w. w.bytes) (if b then new else written_given g mays.0 ∷ new) ≡ map given_bytes (if b then vs else g ∷ vs)
     go true same = same
     go false same = ap (λ bs. given_bytes g ∷ bs) same
+
+pub new_are_written : NewAreWritten
+new_are_written known before [] may = (tt, refl)
+new_are_written known before (g ∷ gs) may = go (is_old known before g) (new_are_written known (before ++ g ∷ []) gs may.1)
+  where
+    new : List (Written (Expression Nowhere))
+    new = fresh_written known (before ++ g ∷ []) gs may.1
+
+    vs : List Given
+    vs = fresh known (before ++ g ∷ []) gs
+
+    go : (b : Bool) → (mays : AllMayBeGiven vs) × (new ≡ all_written vs mays)
+        → (mays : AllMayBeGiven (if b then vs else g ∷ vs)) × ((if b then new else written_given g may.0 ∷ new) ≡ all_written (if b then vs else g ∷ vs) mays)
+    go true same = same
+    go false same = ((may.0, same.0), ap (λ ws. written_given g may.0 ∷ ws) same.1)

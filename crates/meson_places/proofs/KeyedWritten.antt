@@ -11,7 +11,7 @@ use Rattle.meson_edit.specs.Edits.{Written}
 use Rattle.meson_edit.specs.Places.{IsWritten}
 use Rattle.meson_steps.proofs.KeyedWritten.{IsKey, identifier_key, keyed_close, keyed_wide, literal_key}
 use Rattle.meson_places.specs.Changes.{written_entry, written_keyword}
-use Rattle.meson_places.specs.inside.Colons.{colon_text}
+use Rattle.meson_places.specs.Colons.{colon_text}
 
 keyed : {key : Lexeme} {word : Word} (is : IsKey key word) {bytes : List ℕ} {words : List Word} (w : IsWritten bytes words) (spaced : Bool) → IsWritten (key.text ++ (colon_text spaced ++ bytes)) (word ∷ (k.Colon, []) ∷ words)
 keyed is w true = keyed_wide is w

@@ -37,7 +37,7 @@ pub record ListStands (c : CallRef) (b : Bracket) (limit : ℕ) (trees : List Pl
 abbrev pub depth_of : List (Argument Nowhere) → ℕ
 depth_of xs = arguments_depth (arguments_of xs)
 
-depth_append : (xs ys : List (Argument Nowhere)) → depth_of (xs ++ ys) ≡ max (depth_of xs) (depth_of ys)
+pub depth_append : (xs ys : List (Argument Nowhere)) → depth_of (xs ++ ys) ≡ max (depth_of xs) (depth_of ys)
 depth_append [] ys = omega arith
 depth_append (x ∷ xs) ys = omega (arith, depth_append xs ys)
 
@@ -56,12 +56,12 @@ depth_nth [] n x is = absurd cc
 depth_nth (y ∷ ys) zero x is = subst (λ z. argument_depth z ≤ depth_of (y ∷ ys)) (some-injective y x is) (omega arith)
 depth_nth (y ∷ ys) (suc n) x is = omega (arith, depth_nth ys n x is)
 
-value_depth : (a : Argument Nowhere) (v : Expression Nowhere) → argument_depth (with_value v a) ≤ max (argument_depth a) (expression_depth v)
+pub value_depth : (a : Argument Nowhere) (v : Expression Nowhere) → argument_depth (with_value v a) ≤ max (argument_depth a) (expression_depth v)
 value_depth (plain e) v = omega arith
 value_depth (named s x e) v = omega arith
 value_depth (pair s e f) v = omega arith
 
-with_depth : (l : Listing Nowhere) (ys : List (Argument Nowhere)) → listing_depth (with_elements l ys) ≡ suc (depth_of ys)
+pub with_depth : (l : Listing Nowhere) (ys : List (Argument Nowhere)) → listing_depth (with_elements l ys) ≡ suc (depth_of ys)
 with_depth (listing s trailing list) ys = omega arith
 
 elements_depth : (l : Listing Nowhere) → listing_depth l ≡ suc (depth_of (elements l))

@@ -1,14 +1,14 @@
 -- A literal or an identifier of a project is written as its token; and so is the array of it and of values that are given.
-use Rattle.std.proofs.Common.{◌≡◌, ℕ, zero, suc, ◌≤◌, true, false, List, [], ◌∷◌, ◌++◌, append-nil, map, IsUtf8, Option, Some, None, refl, sym, ap, ap₂, ◌∙◌, subst, arith}
+use Rattle.std.proofs.Common.{◌≡◌, ℕ, zero, suc, ◌≤◌, true, false, List, [], ◌∷◌, ◌++◌, append-nil, map, Option, Some, None, refl, sym, ap, ap₂, subst, arith}
 use Rattle.std.specs.Prelude.{Bool, if◌then◌else◌, is_some, option_map}
 use Rattle.std.specs.Str.{chars, encode_utf8_all, is_utf8}
 use Rattle.std.proofs.lemmas.Str.{IsUtf8-from_is_utf8}
 use Rattle.meson_lex.specs.declared.kinds.Kind.{Kind}
 use Rattle.meson_lex.specs.declared.kinds.Kind.TheVariants as k
 use Rattle.meson_lex.specs.declared.kinds.Span.{Span}
-use Rattle.meson_lex.specs.Bytes.{first_bare_return, is_word_byte}
+use Rattle.meson_lex.specs.Bytes.{first_bare_return}
 use Rattle.meson_lex.specs.Items.{AreItems, Lexeme}
-use Rattle.meson_lex.specs.Kinds.{IsIdentifier, IsString, IsWord}
+use Rattle.meson_lex.specs.Kinds.{IsIdentifier}
 use Rattle.meson_lex.specs.Literals.{value, value_of_characters}
 use Rattle.meson_lex.specs.Significant.{Word, kept, Role, Gap, Ends, Opens, Closes, Other, role, State, start, step, after, emit, emit_by, emitted, only_if, ends_line, closing, new_line}
 use Rattle.meson_splice.specs.declared.file_set.File as files

@@ -1,6 +1,6 @@
 -- The steps that add values to the lists of a value may be done one after another.
-use Rattle.std.proofs.Common.{◌≡◌, ℕ, zero, suc, ◌+◌, ◌-◌, ◌≤◌, true, false, List, [], ◌∷◌, ◌++◌, length, length-append, map, Option, Some, None, Result, Ok, Err, refl, sym, ap, ◌∙◌, subst, arith}
-use Rattle.std.specs.Prelude.{Bool, ◌&&◌, All, nat_lt, if◌then◌else◌}
+use Rattle.std.proofs.Common.{◌≡◌, ℕ, zero, suc, ◌-◌, ◌≤◌, true, false, List, [], ◌∷◌, ◌++◌, length, length-append, map, Option, Some, None, Result, Ok, Err, refl, sym, ap, ◌∙◌, subst, arith}
+use Rattle.std.specs.Prelude.{Bool, All, nat_lt, if◌then◌else◌}
 use Rattle.std.specs.List.{list_all}
 use Rattle.std.proofs.lemmas.Bool.{and_from, and_parts, ltb-true}
 use Rattle.std.proofs.lemmas.List.{length-map}
@@ -26,11 +26,11 @@ use Rattle.meson_steps.specs.declared.given.Given.{Given}
 use Rattle.meson_steps.proofs.PlainTrees.{trees_stand}
 use Rattle.meson_places.specs.declared.slots.Slot.{Slot}
 use Rattle.meson_places.specs.declared.slots.Slot.TheVariants as slot
-use Rattle.meson_places.specs.Changes.{added_to, behind_all, element_child}
+use Rattle.meson_places.specs.Changes.{behind_all, element_child}
 use Rattle.meson_places.specs.Equality.{is_old, lists_say, says}
 use Rattle.meson_places.specs.NewElements.{add_steps, add_there, add_to_last, add_to_list, add_to_lone, add_to_value, add_to_whole, array_with, beside, fresh_written, lone_token}
 use Rattle.meson_places.specs.Room.{has_room, list_in_trees}
-use Rattle.meson_places.specs.Several.{AllMayBeGiven, all_written, put_each}
+use Rattle.meson_places.specs.Several.{AllMayBeGiven, put_each}
 use Rattle.meson_places.specs.Slots.{Child, has_no_name}
 use Rattle.meson_places.specs.ValueLists.{ValueList, last_of, lists_of}
 use Rattle.meson_places.specs.Values.{written_given}
@@ -40,7 +40,7 @@ use Rattle.meson_places.proofs.ListsThere.{ElementThere, element_there, stands_w
 use Rattle.meson_places.proofs.LoneValues.{lone_array, lone_stands}
 use Rattle.meson_places.proofs.SeveralDoable.{AllLow, all_room, deepest, lower, set_all_doable}
 use Rattle.meson_places.proofs.SlotsDoable.{KeyIsText, replaced}
-use Rattle.meson_places.proofs.ValueListsThere.{AllThere, IsOpen, ListThere, last_there, lists_there}
+use Rattle.meson_places.proofs.ValueListsThere.{IsOpen, ListThere, last_there, lists_there}
 
 -- ---- expressions behind all elements of a list
 

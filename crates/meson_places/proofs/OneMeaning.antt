@@ -1,21 +1,20 @@
 -- A change of a value means one thing: the tree of code is that of its text, and what is read of a project are its files and trees.
 use Rattle.std.proofs.Common.{◌≡◌, ℕ, List, [], ◌∷◌, ◌++◌, map, Option, Some, None, Result, Ok, Err, refl, sym, ap, ap₂, ◌∙◌}
-use Rattle.std.specs.Prelude.{Bool, length, not, ◌&&◌, if◌then◌else◌}
+use Rattle.std.specs.Prelude.{Bool, length, not, ok_or, ◌&&◌, if◌then◌else◌}
 use Rattle.std.specs.List.{list_all}
 use Rattle.meson_lex.specs.declared.kinds.Span.{Span}
-use Rattle.meson_lex.specs.Located.{located}
 use Rattle.meson_splice.specs.declared.file_set.File as files
 use Rattle.meson_splice.specs.Files.{bytes_at}
 use Rattle.meson_splice.specs.Patch.{then_ok}
 use Rattle.meson_syntax.specs.declared.operator.Bracket.TheVariants as bracket
 use Rattle.meson_syntax.specs.ReadsList.{ReadsListWithin, list_items}
-use Rattle.meson_syntax.specs.Tree.{plain, no_arguments, argument, Expression, File, Listing, listing, Nowhere, erase, erase_expression, erase_listing}
+use Rattle.meson_syntax.specs.Tree.{plain, argument, Expression, File, Listing, listing, Nowhere, erase, erase_expression, erase_listing}
 use Rattle.meson_syntax.proofs.lists.Complete.{whole_list-complete}
 use Rattle.meson_syntax.proofs.parsing.Steps.{some-injective}
-use Rattle.meson_edit.specs.Edits.{Replace, Written}
+use Rattle.meson_edit.specs.Edits.{Remove, Replace, Written}
 use Rattle.meson_calls.specs.declared.call.CallRef.{CallRef}
 use Rattle.meson_calls.specs.declared.refusal.Refusal.{Refusal}
-use Rattle.meson_calls.specs.declared.refusal.Refusal.TheVariants.{OtherKind, TooDeep}
+use Rattle.meson_calls.specs.declared.refusal.Refusal.TheVariants.{NoSuchValue, NotLiteral, NotRemovable, OtherKind, ThereAlready, TooDeep}
 use Rattle.meson_calls.specs.Finding.{only_one}
 use Rattle.meson_calls.specs.Loading.{Loaded, named_trees, project, trees}
 use Rattle.meson_calls.specs.Notes.{notes}
@@ -35,11 +34,17 @@ use Rattle.meson_steps.specs.WrittenTexts.{array_of_values}
 use Rattle.meson_steps.proofs.Bracketed.{complete}
 use Rattle.meson_places.specs.declared.slots.Slot.{Slot}
 use Rattle.meson_places.specs.declared.slots.Slot.TheVariants as slot
-use Rattle.meson_places.specs.Arguments.{MayBeMade, argument_steps, last_key, set_within, slot_steps}
-use Rattle.meson_places.specs.Changes.{added_to, element_child, set_there}
+use Rattle.meson_places.specs.Arguments.{MayBeMade, argument_steps, last_key, named_steps, set_within, slot_steps}
+use Rattle.meson_places.specs.TargetNames.{checked_name}
+use Rattle.meson_places.specs.Colons.{ends_among, ends_in_file}
+use Rattle.meson_places.specs.Changes.{added_to, element_child, set_there, slot_place}
+use Rattle.meson_places.specs.NamedValues.{value_place}
 use Rattle.meson_places.specs.Names.{found_by_id, found_within, numbered_file, places_by_id, places_on, beginning_among, lists_among, project_there, searched, searched_file, the_place}
 use Rattle.meson_places.specs.Equality.{is_old, lists_say, says}
 use Rattle.meson_places.specs.NewElements.{add_steps, add_there, add_to_last, add_to_lone, add_to_value, add_to_whole, array_with, beside, fresh_written, lone_token}
+use Rattle.meson_places.specs.Removals.{remove_by, remove_from, remove_steps, remove_there, remove_whole, says_other}
+use Rattle.meson_places.specs.Replacements.{Exchange, exchange, exchange_steps, replace_by, replace_in, replace_there, replace_whole}
+use Rattle.meson_places.specs.SaidElements.{lists_edited, says_one}
 use Rattle.meson_places.specs.ValueLists.{ValueList, last_of, lists_of}
 use Rattle.meson_places.specs.Room.{has_room, list_in_trees}
 use Rattle.meson_places.specs.Several.{AllMayBeGiven, add_array, all_written, array_bytes, becomes_array, if_room_for, is_text_given, put_all, put_each, set_all, set_all_there}
@@ -98,7 +103,7 @@ module _ (l : Loaded) (gs : List Given) (m k : AllMayBeGiven gs) (key : List ℕ
 
   added_one : add_array l gs m key list ≡ add_array l gs k key list
   added_one =
-      ap (λ (ws : Values). then_ok (added_to (bytes_at list.file l.files) (record { bytes = array_bytes gs; node = array_node ws }) key list (expression_at (project l) list))
+      ap (λ (ws : Values). then_ok (added_to (bytes_at list.file l.files) (ends_in_file l list.file) (record { bytes = array_bytes gs; node = array_node ws }) key list (expression_at (project l) list))
       (λ steps. if has_room (array_node ws) (list_in_trees (plain_trees l) list) then Ok steps else Err TooDeep))
       (all_one gs m k)
 
@@ -142,11 +147,13 @@ steps_one : (l : Loaded) (key : List ℕ) (c : ValueChange) (m k : MayBeMade c) 
 steps_one l key (change.Set g) m k s = ap (λ w. set_within l g w key s) (one_written g m k)
 steps_one l key (change.SetAll gs) m k s = set_all_one l gs m k key s
 steps_one l key (change.Add gs) m k s = add_one l gs m k key s
+steps_one l key (change.Remove gs) m k s = refl
+steps_one l key (change.Replace old new) m k s = ap (λ w. exchange_steps l (record { old = old; new = new; written = w }) key s) (one_written new m k)
 steps_one l key change.Delete m k s = refl
 
 pub arguments_one : (l : Loaded) (n : ValueName) (c : ValueChange) (m k : MayBeMade c) → argument_steps l n c m ≡ argument_steps l n c k
 arguments_one l n c m k =
-    then_alike (the_place l n.place) _ _ (λ p. then_alike (the_slot (project l) p n.keys) _ _ (λ s. steps_one l (last_key n.keys) c m k s))
+    then_alike (the_place l n.place) _ _ (λ p. then_alike (the_slot (project l) p n.keys) _ _ (λ s. then_alike (checked_name (project l) (last_key n.keys) c s) _ _ (λ _. steps_one l (last_key n.keys) c m k s)))
 
 -- ---- the steps, by the files and trees of a project
 
@@ -169,11 +176,16 @@ module _ (p q : Loaded) (same_files : p.files ≡ q.files) (same_trees : trees p
   found_same (name.Call f id) folder = by_id (name.Call f id) folder
   found_same (name.Variable id) folder = by_id (name.Variable id) folder
 
+  pub value_places_same : (n : ValueName) → value_place p n ≡ value_place q n
+  value_places_same n =
+      ap (λ r. then_ok r (λ x. then_ok (the_slot (project p) x n.keys) (λ s. ok_or (slot_place (project p) s) (NoSuchValue (last_key n.keys))))) (found_same n.place.name n.place.folder)
+      ∙ then_alike (the_place q n.place) _ _ (λ x. alike (λ fs ts. then_ok (the_slot (named_trees fs ts) x n.keys) (λ s. ok_or (slot_place (named_trees fs ts) s) (NoSuchValue (last_key n.keys)))))
+
   set_same : (g : Given) (w : Written (Expression Nowhere)) (key : List ℕ) (s : Slot) → set_within p g w key s ≡ set_within q g w key s
   set_same g w key (slot.Element list n) =
       alike (λ fs ts. then_ok (set_there g w key list n (element_child (named_trees fs ts) list n)) (λ steps. if has_room w.node (list_in_trees (map erase ts) list) then Ok steps else Err TooDeep))
   set_same g w key (slot.Absent list k) =
-      alike (λ fs ts. then_ok (added_to (bytes_at list.file fs) w k list (expression_at (named_trees fs ts) list)) (λ steps. if has_room w.node (list_in_trees (map erase ts) list) then Ok steps else Err TooDeep))
+      alike (λ fs ts. then_ok (added_to (bytes_at list.file fs) (ends_among list.file (nth_file (named_trees fs ts) list.file)) w k list (expression_at (named_trees fs ts) list)) (λ steps. if has_room w.node (list_in_trees (map erase ts) list) then Ok steps else Err TooDeep))
   set_same g w key (slot.Whole c) = refl
 
   all_there_same : (gs : List Given) (may : AllMayBeGiven gs) (key : List ℕ) (list : CallRef) (n : ℕ) (o : Option (Child Span)) → set_all_there p gs may key list n o ≡ set_all_there q gs may key list n o
@@ -194,7 +206,7 @@ module _ (p q : Loaded) (same_files : p.files ≡ q.files) (same_trees : trees p
       ap (set_all_there p gs may key list n) (alike (λ fs ts. element_child (named_trees fs ts) list n)) ∙ all_there_same gs may key list n (element_child (project q) list n)
   all_same gs may key (slot.Absent list k) =
       let node = array_node (all_written gs may) in
-      alike (λ fs ts. then_ok (added_to (bytes_at list.file fs) (record { bytes = array_bytes gs; node = node }) k list (expression_at (named_trees fs ts) list))
+      alike (λ fs ts. then_ok (added_to (bytes_at list.file fs) (ends_among list.file (nth_file (named_trees fs ts) list.file)) (record { bytes = array_bytes gs; node = node }) k list (expression_at (named_trees fs ts) list))
       (λ steps. if has_room node (list_in_trees (map erase ts) list) then Ok steps else Err TooDeep))
   all_same gs may key (slot.Whole c) = refl
 
@@ -235,15 +247,66 @@ module _ (p q : Loaded) (same_files : p.files ≡ q.files) (same_trees : trees p
   add_same gs may key (slot.Whole c) =
       ap (add_to_whole p gs may key c) (alike (λ fs ts. expression_at (named_trees fs ts) c)) ∙ add_whole_same gs may key c (expression_at (project q) c)
 
+  from_same : (gs : List Given) (key : List ℕ) (gone : Result (List Step) Refusal) (c : CallRef) (e : Expression Span) → remove_from p key gs gone c e ≡ remove_from q key gs gone c e
+  from_same gs key gone c e = ap (λ fs. remove_by key (bytes_at c.file fs) gs gone e (lists_of c e)) same_files
+
+  remove_same : (gs : List Given) (key : List ℕ) (s : Slot) → remove_steps p gs key s ≡ remove_steps q gs key s
+  remove_same gs key (slot.Element list n) = ap (remove_there p gs key list n) (alike (λ fs ts. element_child (named_trees fs ts) list n)) ∙ go (element_child (project q) list n)
+    where
+      go : (o : Option (Child Span)) → remove_there p gs key list n o ≡ remove_there q gs key list n o
+      go None = refl
+      go (Some v) = from_same gs key (Ok (step_in list (Remove list.path.steps n) ∷ [])) (child list v.number) v.value
+  remove_same gs key (slot.Absent list k) = refl
+  remove_same gs key (slot.Whole c) = ap (remove_whole p gs key c) (alike (λ fs ts. expression_at (named_trees fs ts) c)) ∙ go (expression_at (project q) c)
+    where
+      go : (o : Option (Expression Span)) → remove_whole p gs key c o ≡ remove_whole q gs key c o
+      go None = refl
+      go (Some e) = from_same gs key (Err NotRemovable) c e
+
+  in_same : (x : Exchange) (key : List ℕ) (a b : Result (List Step) Refusal) → a ≡ b → (c : CallRef) (e : Expression Span) → replace_in p key x a c e ≡ replace_in q key x b c e
+  in_same x key a b same c e = go (lists_of c e)
+    where
+      go : (ls : List (ValueList Span)) → replace_by p key (bytes_at c.file p.files) x a ls ≡ replace_by q key (bytes_at c.file q.files) x b ls
+      go [] = same
+      go (one ∷ more) =
+          let ls = one ∷ more in
+          alike (λ fs ts. if lists_say (bytes_at c.file fs) ls x.new then Err ThereAlready
+          else (if lists_say (bytes_at c.file fs) ls x.old then (if list_all (λ y. has_room x.written.node (list_in_trees (map erase ts) y.place)) ls
+          then Ok (lists_edited (Some x.written) (says_one (bytes_at c.file fs) (x.old ∷ [])) ls) else Err TooDeep) else Err (NoSuchValue key)))
+
+  exchange_same : (x : Exchange) (key : List ℕ) (s : Slot) → exchange_steps p x key s ≡ exchange_steps q x key s
+  exchange_same x key (slot.Element list n) = ap (replace_there p x key list n) (alike (λ fs ts. element_child (named_trees fs ts) list n)) ∙ go (element_child (project q) list n)
+    where
+      go : (o : Option (Child Span)) → replace_there p x key list n o ≡ replace_there q x key list n o
+      go None = refl
+      go (Some v) =
+          in_same x key _ _
+          (alike (λ fs ts. if says (bytes_at list.file fs) x.new v.value then Err ThereAlready
+          else (if says (bytes_at list.file fs) x.old v.value then (if has_room x.written.node (list_in_trees (map erase ts) list)
+          then Ok (step_in list (Replace list.path.steps n x.written) ∷ []) else Err TooDeep) else Err (says_other key v.value)))) (child list v.number) v.value
+  exchange_same x key (slot.Absent list k) = refl
+  exchange_same x key (slot.Whole c) = ap (replace_whole p x key c) (alike (λ fs ts. expression_at (named_trees fs ts) c)) ∙ go (expression_at (project q) c)
+    where
+      go : (o : Option (Expression Span)) → replace_whole p x key c o ≡ replace_whole q x key c o
+      go None = refl
+      go (Some e) = in_same x key (Err (NotLiteral key)) (Err (NotLiteral key)) refl c e
+
   slot_same : (key : List ℕ) (c : ValueChange) (may : MayBeMade c) (s : Slot) → slot_steps p key c may s ≡ slot_steps q key c may s
   slot_same key (change.Set g) may s = set_same g (written_given g may) key s
   slot_same key (change.SetAll gs) may s = all_same gs may key s
   slot_same key (change.Add gs) may s = add_same gs may key s
+  slot_same key (change.Remove gs) may s = remove_same gs key s
+  slot_same key (change.Replace old new) may s = exchange_same (exchange old new may) key s
   slot_same key change.Delete may s = refl
+
+  named_same : (key : List ℕ) (c : ValueChange) (may : MayBeMade c) (s : Slot) → named_steps p key c may s ≡ named_steps q key c may s
+  named_same key c may s =
+      ap (λ r. then_ok r (λ _. slot_steps p key c may s)) (alike (λ fs ts. checked_name (named_trees fs ts) key c s))
+      ∙ then_alike (checked_name (project q) key c s) _ _ (λ _. slot_same key c may s)
 
   pub arguments_same : (n : ValueName) (c : ValueChange) (may : MayBeMade c) → argument_steps p n c may ≡ argument_steps q n c may
   arguments_same n c may =
-      ap (λ r. then_ok r (λ x. then_ok (the_slot (project p) x n.keys) (λ s. slot_steps p (last_key n.keys) c may s))) (found_same n.place.name n.place.folder)
+      ap (λ r. then_ok r (λ x. then_ok (the_slot (project p) x n.keys) (λ s. named_steps p (last_key n.keys) c may s))) (found_same n.place.name n.place.folder)
       ∙ then_alike (the_place q n.place) _ _ (λ x.
-      ap (λ r. then_ok r (λ s. slot_steps p (last_key n.keys) c may s)) (alike (λ fs ts. the_slot (named_trees fs ts) x n.keys))
-      ∙ then_alike (the_slot (project q) x n.keys) _ _ (λ s. slot_same (last_key n.keys) c may s))
+      ap (λ r. then_ok r (λ s. named_steps p (last_key n.keys) c may s)) (alike (λ fs ts. the_slot (named_trees fs ts) x n.keys))
+      ∙ then_alike (the_slot (project q) x n.keys) _ _ (λ s. named_same (last_key n.keys) c may s))

@@ -42,7 +42,7 @@ changed {X} (suc i) change (x ∷ xs) after is = go (changed_at i change xs) ref
         record { was = c.was; now = c.now; is_was = c.is_was; is_now = c.is_now; is_after = ap (option_map (λ zs. x ∷ zs)) c.is_after ∙ h }
 
 -- one step and no other
-one_step : (s : Step) (before after : List Plain) → all_stepped (s ∷ []) before ≡ Some after → stepped s before ≡ Some after
+pub one_step : (s : Step) (before after : List Plain) → all_stepped (s ∷ []) before ≡ Some after → stepped s before ≡ Some after
 one_step s before after is = let o = and-then-some (all_stepped []) (stepped s before) after is in o.1 ∙ o.2
 
 -- ---- the edits

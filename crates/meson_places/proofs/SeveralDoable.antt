@@ -24,6 +24,7 @@ use Rattle.meson_steps.proofs.PlainTrees.{parsed_shallow, trees_stand}
 use Rattle.meson_places.specs.declared.slots.Slot.{Slot}
 use Rattle.meson_places.specs.declared.slots.Slot.TheVariants as slot
 use Rattle.meson_steps.specs.declared.given.Given.{Given}
+use Rattle.meson_places.specs.Colons.{ends_in_file}
 use Rattle.meson_places.specs.Changes.{added_to, behind_all, element_child, rest_removed}
 use Rattle.meson_places.specs.Room.{has_room, if_room, list_in_trees}
 use Rattle.meson_places.specs.Several.{AllMayBeGiven, all_written, becomes_array, is_text_given, put_all, put_each, set_all, set_all_there, set_array, set_elements, written_array}
@@ -176,21 +177,24 @@ module _ (old : Loaded) (is : IsProject old) (gs : List Given) (mays : AllMayBeG
   pub set_all_doable : (s : Slot) → KeyIsText s → (steps : List Step) → set_all old gs mays key s ≡ Ok steps → AreDoable steps (plain_trees old)
   set_all_doable (slot.Element list n) text steps made = all_there_doable old is gs mays key list n (element_child (project old) list n) refl steps made
   set_all_doable (slot.Whole c) text steps made = absurd (let no : ⊥ = cc in no)
-  set_all_doable (slot.Absent list k) text steps made = go (added_to source new k list (expression_at (project old) list)) refl made
+  set_all_doable (slot.Absent list k) text steps made = go (added_to source ends new k list (expression_at (project old) list)) refl made
     where
       source : List ℕ
       source = bytes_at list.file old.files
 
+      ends : List ℕ
+      ends = ends_in_file old list.file
+
       new : Written (Expression Nowhere)
       new = written_array gs mays
 
-      roomed : (ss : List Step) (b : Bool) → added_to source new k list (expression_at (project old) list) ≡ Ok ss → has_room new.node (list_in_trees (plain_trees old) list) ≡ b → (if b then Ok ss else Err TooDeep) ≡ Ok steps → AreDoable steps (plain_trees old)
+      roomed : (ss : List Step) (b : Bool) → added_to source ends new k list (expression_at (project old) list) ≡ Ok ss → has_room new.node (list_in_trees (plain_trees old) list) ≡ b → (if b then Ok ss else Err TooDeep) ≡ Ok steps → AreDoable steps (plain_trees old)
       roomed ss true h room m =
           let same : ss ≡ steps = cc in
           let x = array_value gs mays in
-          subst (λ y. AreDoable y (plain_trees old)) same (added_doable old is new x.writes x.level k text source list room (expression_at (project old) list) refl ss h)
+          subst (λ y. AreDoable y (plain_trees old)) same (added_doable old is new x.writes x.level k text source ends list room (expression_at (project old) list) refl ss h)
       roomed ss false h room m = absurd (let no : ⊥ = cc in no)
 
-      go : (r : Result (List Step) Refusal) → added_to source new k list (expression_at (project old) list) ≡ r → then_ok r (if_room old list new.node) ≡ Ok steps → AreDoable steps (plain_trees old)
+      go : (r : Result (List Step) Refusal) → added_to source ends new k list (expression_at (project old) list) ≡ r → then_ok r (if_room old list new.node) ≡ Ok steps → AreDoable steps (plain_trees old)
       go (Ok ss) h m = roomed ss (has_room new.node (list_in_trees (plain_trees old) list)) h refl m
       go (Err e) h m = absurd (let no : ⊥ = cc in no)

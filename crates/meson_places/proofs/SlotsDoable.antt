@@ -1,5 +1,5 @@
 -- The steps that set or delete a value may be done one after another.
-use Rattle.std.proofs.Common.{◌≡◌, ℕ, zero, suc, ◌+◌, ◌-◌, ◌≤◌, ◌<◌, true, false, List, [], ◌∷◌, ◌++◌, codes, IsUtf8, length, take, drop, Option, Some, None, Result, Ok, Err, refl, sym, ap, ◌∙◌, subst, arith}
+use Rattle.std.proofs.Common.{◌≡◌, ℕ, zero, suc, ◌+◌, ◌-◌, ◌≤◌, ◌<◌, true, false, List, [], ◌∷◌, ◌++◌, IsUtf8, length, take, drop, Option, Some, None, Result, Ok, Err, refl, sym, ap, ◌∙◌, subst, arith}
 use Rattle.std.specs.Prelude.{Bool, All, if◌then◌else◌, option_map}
 use Rattle.std.proofs.lemmas.Bool.{and_parts}
 use Rattle.std.proofs.lemmas.List.{length-map}
@@ -31,13 +31,13 @@ use Rattle.meson_places.specs.declared.slots.Slot.TheVariants as slot
 use Rattle.meson_steps.specs.declared.given.Given.{Given}
 use Rattle.meson_steps.specs.declared.given.Given.TheVariants as given
 use Rattle.meson_places.specs.Arguments.{set_within, slot_list}
-use Rattle.meson_places.specs.Changes.{added_there, added_to, alone_in_array, behind_all, colon_of, delete_steps, element_child, keyword_behind, last_colon, replaces_texts, rest_removed, set_steps, set_there, written_entry, written_keyword}
+use Rattle.meson_places.specs.Changes.{added_there, added_to, alone_in_array, behind_all, delete_steps, element_child, keyword_behind, replaces_texts, rest_removed, set_steps, set_there, written_entry, written_keyword}
 use Rattle.meson_places.specs.Laws.{SlotIsThere}
 use Rattle.meson_places.specs.Room.{has_room, if_room, list_in_trees}
 use Rattle.meson_places.specs.Slots.{Child, elements_in, list_kind}
 use Rattle.meson_steps.specs.GivenWords.{MayBeGiven}
 use Rattle.meson_places.specs.Values.{is_array, is_identifier, keeps_kind, written_given}
-use Rattle.meson_places.specs.inside.Colons.{colon_text}
+use Rattle.meson_places.specs.Colons.{colon_text, ends_in_file, is_spaced_in}
 use Rattle.meson_places.proofs.GivenWritten.{given_level, given_written}
 use Rattle.meson_steps.proofs.Identifiers.{identifier_true}
 use Rattle.meson_places.proofs.KeyedWritten.{entry_written, keyword_written}
@@ -57,7 +57,7 @@ nth_within [] n within = absurd (omega (arith, within))
 nth_within (y ∷ ys) zero within = (y, refl)
 nth_within (y ∷ ys) (suc n) within = nth_within ys n (omega (arith, within))
 
-one_fewer : {A : Type 0} (ys : List A) (n : ℕ) → n < length ys → length (take n ys ++ drop (suc n) ys) ≡ length ys - 1
+pub one_fewer : {A : Type 0} (ys : List A) (n : ℕ) → n < length ys → length (take n ys ++ drop (suc n) ys) ≡ length ys - 1
 one_fewer [] n within = absurd (omega (arith, within))
 one_fewer (y ∷ ys) zero within = omega arith
 one_fewer (y ∷ ys) (suc n) within = let below : n < length ys = omega (arith, within) in omega (arith, one_fewer ys n below, below)
@@ -78,24 +78,6 @@ rest_doable c b limit from (suc m) trees all s many =
     let st = remove_step c b limit trees all s (from + m) it.0 it.1 in
     let left : length (elements st.stands.place.list) ≡ from + m = omega (arith, ap length st.are, one_fewer ys (from + m) within, many) in
     st.doable (rest_removed c from m) (rest_doable c b limit from m _ st.all_stand st.stands left)
-
--- ---- colons
-
-colon_is : (source : List ℕ) (before : Bool) (xs : List (Argument Span)) → (spaced : Bool) × (last_colon source (colon_text before) xs ≡ colon_text spaced)
-colon_is source before [] = (before, refl)
-colon_is source before (x ∷ xs) =
-    let one = after x in
-    let all = colon_is source one.0 xs in
-    (all.0, ap (λ b. last_colon source b xs) one.1 ∙ all.1)
-  where
-    by : (b : Bool) → (spaced : Bool) × ((if b then codes " : " else codes ": ") ≡ colon_text spaced)
-    by true = (true, refl)
-    by false = (false, refl)
-
-    after : (y : Argument Span) → (spaced : Bool) × (colon_of source (colon_text before) y ≡ colon_text spaced)
-    after (plain e) = (before, refl)
-    after (named s n e) = by _
-    after (pair s k v) = by _
 
 -- ---- arrays
 
@@ -130,30 +112,32 @@ module _ (old : Loaded) (is : IsProject old) (w : Written (Expression Nowhere)) 
       subst (λ m. AreDoable (behind_all list m new ∷ []) trees) many one
 
   -- a key that is not there
-  module _ (key : List ℕ) (utf8 : IsUtf8 key) (source : List ℕ) (list : CallRef) (room : has_room w.node (list_in_trees trees list) ≡ true) where
-    added : (e : Expression Span) → expression_at (project old) list ≡ Some e → (steps : List Step) → added_there source w key list (list_kind e) (elements_in e) ≡ Ok steps → AreDoable steps trees
+  module _ (key : List ℕ) (utf8 : IsUtf8 key) (source ends : List ℕ) (list : CallRef) (room : has_room w.node (list_in_trees trees list) ≡ true) where
+    added : (e : Expression Span) → expression_at (project old) list ≡ Some e → (steps : List Step) → added_there (is_spaced_in source ends e) w key list (list_kind e) (length (elements_in e)) ≡ Ok steps → AreDoable steps trees
     added (call s f l) at_ steps made = go (is_identifier key) refl made
       where
-        go : (b : Bool) → is_identifier key ≡ b → (if b then keyword_behind source w key list (elements l) else Err BadName) ≡ Ok steps → AreDoable steps trees
+        spaced : Bool
+        spaced = is_spaced_in source ends (call s f l)
+
+        go : (b : Bool) → is_identifier key ≡ b → (if b then keyword_behind spaced w key list (length (elements l)) else Err BadName) ≡ Ok steps → AreDoable steps trees
         go true named_key made =
-            let colon = colon_is source false (elements l) in
-            let new = written_keyword key (colon_text colon.0) w in
-            let same : behind_all list (length (elements l)) new ∷ [] ≡ steps = ap (λ b. behind_all list (length (elements l)) (written_keyword key b w) ∷ []) (sym colon.1) ∙ (let e : keyword_behind source w key list (elements l) ≡ Ok steps = made in cc) in
+            let new = written_keyword key (colon_text spaced) w in
+            let same : behind_all list (length (elements l)) new ∷ [] ≡ steps = cc in
             let s = stands_with old is list (call s f l) _ at_ refl w.node room in
             subst (λ ss. AreDoable ss trees) same
-            (behind list bracket.Round l s new (keyword_written key utf8 colon.0 w writes (identifier_true key named_key)) (refl, level) (λ it. (refl, level)) (omega arith))
+            (behind list bracket.Round l s new (keyword_written key utf8 spaced w writes (identifier_true key named_key)) (refl, level) (λ it. (refl, level)) (omega arith))
         go false other made = absurd (let no : ⊥ = cc in no)
     added (dictionary l) at_ steps made =
-        let colon = colon_is source false (elements l) in
-        let new = written_entry key (colon_text colon.0) w in
-        let same : behind_all list (length (elements l)) new ∷ [] ≡ steps = ap (λ b. behind_all list (length (elements l)) (written_entry key b w) ∷ []) (sym colon.1) ∙ cc in
+        let spaced = is_spaced_in source ends (dictionary l) in
+        let new = written_entry key (colon_text spaced) w in
+        let same : behind_all list (length (elements l)) new ∷ [] ≡ steps = cc in
         let s = stands_with old is list (dictionary l) _ at_ refl w.node room in
         subst (λ ss. AreDoable ss trees) same
-        (behind list bracket.Curly l s new (entry_written key utf8 colon.0 w writes) (refl, tt, level) (λ it. (tt, level)) (omega arith))
+        (behind list bracket.Curly l s new (entry_written key utf8 spaced w writes) (refl, tt, level) (λ it. (tt, level)) (omega arith))
     added (array l) at_ steps made = absurd (let no : ⊥ = cc in no)
     added _ at_ steps made = absurd (let no : ⊥ = cc in no)
 
-    pub added_doable : (o : Option (Expression Span)) → expression_at (project old) list ≡ o → (steps : List Step) → added_to source w key list o ≡ Ok steps → AreDoable steps trees
+    pub added_doable : (o : Option (Expression Span)) → expression_at (project old) list ≡ o → (steps : List Step) → added_to source ends w key list o ≡ Ok steps → AreDoable steps trees
     added_doable None at_ steps made = absurd (let no : ⊥ = cc in no)
     added_doable (Some e) at_ steps made = added e at_ steps made
 
@@ -226,7 +210,7 @@ KeyIsText (slot.Whole c) = Unit {0}
 module _ (old : Loaded) (is : IsProject old) (g : Given) (may : MayBeGiven g) (key : List ℕ) where
   set_doable : (s : Slot) → KeyIsText s → has_room (written_given g may).node (list_in_trees (plain_trees old) (slot_list s)) ≡ true → (steps : List Step) → set_steps old g (written_given g may) key s ≡ Ok steps → AreDoable steps (plain_trees old)
   set_doable (slot.Element list n) text room steps made = set_there_doable old is g may key list n (element_child (project old) list n) refl room steps made
-  set_doable (slot.Absent list k) text room steps made = added_doable old is (written_given g may) (given_written g may) (given_level g may) k text (bytes_at list.file old.files) list room (expression_at (project old) list) refl steps made
+  set_doable (slot.Absent list k) text room steps made = added_doable old is (written_given g may) (given_written g may) (given_level g may) k text (bytes_at list.file old.files) (ends_in_file old list.file) list room (expression_at (project old) list) refl steps made
   set_doable (slot.Whole c) text room steps made = absurd (let no : ⊥ = cc in no)
 
   pub set_within_doable : (s : Slot) → KeyIsText s → (steps : List Step) → set_within old g (written_given g may) key s ≡ Ok steps → AreDoable steps (plain_trees old)

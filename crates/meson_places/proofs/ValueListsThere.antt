@@ -1,6 +1,6 @@
 -- The lists of a value that stands in a project stand there, each open for elements without a name.
-use Rattle.std.proofs.Common.{◌≡◌, ℕ, zero, suc, ◌+◌, ◌-◌, ◌≤◌, true, false, List, [], ◌∷◌, get_or, length, map, Option, Some, None, refl, sym, ap, ◌∙◌, subst, arith}
-use Rattle.std.specs.Prelude.{Bool, ◌&&◌, bytes_eq, codes, if◌then◌else◌, option_map}
+use Rattle.std.proofs.Common.{◌≡◌, ℕ, zero, suc, ◌+◌, ◌-◌, ◌≤◌, ◌<◌, true, false, List, [], ◌∷◌, get_or, length, map, Some, None, refl, sym, ap, ◌∙◌, subst, arith}
+use Rattle.std.specs.Prelude.{Bool, bytes_eq, codes, if◌then◌else◌}
 use Rattle.std.specs.List.{list_all}
 use Rattle.std.proofs.lemmas.Bool.{and_parts}
 use Rattle.meson_lex.specs.declared.kinds.Span.{Span}
@@ -9,14 +9,17 @@ use Rattle.meson_syntax.specs.declared.operator.Bracket.TheVariants as bracket
 use Rattle.meson_syntax.specs.Children.{an_expression}
 use Rattle.meson_syntax.specs.inside.Children.{expression_parts, operands_parts}
 use Rattle.meson_syntax.specs.Paths.{ListIn, list_in, nth}
-use Rattle.meson_syntax.specs.Tree.{Argument, Expression, array, call, row, Operands, no_operands, operand, Listing}
+use Rattle.meson_syntax.specs.Tree.{Argument, Expression, array, call, row, Operands, no_operands, operand}
 use Rattle.meson_syntax.proofs.parsing.Steps.{some-injective}
 use Rattle.meson_edit.specs.Edits.{elements}
 use Rattle.meson_calls.specs.declared.call.CallRef.{CallRef}
+use Rattle.meson_calls.specs.GoodLists.{GoodArgs}
 use Rattle.meson_calls.specs.Project.{Project, child, expression_at}
 use Rattle.meson_calls.proofs.ExpressionsAt.{child_stands}
+use Rattle.meson_places.specs.declared.value_lists.FoundList.{FoundList}
 use Rattle.meson_places.specs.Slots.{elements_in, has_no_name}
 use Rattle.meson_places.specs.ValueLists.{ValueList, and_more, are_plus, is_list, last_of, lists_of, operand_lists, own_list}
+use Rattle.meson_places.specs.inside.Found.{AreGoodLists}
 
 -- elements without a name may come behind these
 abbrev pub IsOpen : {S : Type 0} → Bracket → List (Argument S) → Type 0
@@ -87,3 +90,9 @@ last_as f (x ∷ []) d some = refl
 last_as f (x ∷ y ∷ more) d some =
     let next : length (x ∷ y ∷ more) - 1 ≡ suc (length (y ∷ more) - 1) = omega arith in
     last_as f (y ∷ more) d (omega arith) ∙ ap (λ n. Some (f (get_or (x ∷ y ∷ more) n d))) (sym next)
+
+-- the elements of one of some lists
+pub good_list : (source : List ℕ) (ls : List FoundList) (i : ℕ) (d : FoundList) → i < length ls → AreGoodLists source ls → GoodArgs source (get_or ls i d).elements.now
+good_list source [] i d within all = absurd (omega (arith, within))
+good_list source (l ∷ ls) zero d within all = all.0
+good_list source (l ∷ ls) (suc i) d within all = good_list source ls i d (omega (arith, within)) all.1

@@ -1,5 +1,5 @@
 -- What a change of one value leaves.
-use Rattle.std.proofs.Common.{◌≡◌, ℕ, true, false, List, [], ◌∷◌, Option, Some, None, Result, Ok, Err, refl, sym, ap, ◌∙◌, subst, inl, inr}
+use Rattle.std.proofs.Common.{◌≡◌, ℕ, true, false, List, [], ◌∷◌, Option, Some, None, Result, Ok, Err, refl, ap, ◌∙◌, inl, inr, sym}
 use Rattle.std.specs.Prelude.{Bool, ◌⊎◌, if◌then◌else◌}
 use Rattle.meson_lex.specs.declared.kinds.Span.{Span}
 use Rattle.meson_splice.specs.Files.{bytes_at}
@@ -9,7 +9,7 @@ use Rattle.meson_edit.specs.Edits.{Replace, Written}
 use Rattle.meson_calls.specs.declared.call.CallRef.{CallRef}
 use Rattle.meson_calls.specs.declared.refusal.Refusal.{Refusal}
 use Rattle.meson_calls.specs.declared.refusal.Refusal.TheVariants.{NotLiteral, TooDeep}
-use Rattle.meson_calls.specs.Loading.{Loaded, project}
+use Rattle.meson_calls.specs.Loading.{IsProject, Loaded, project}
 use Rattle.meson_calls.specs.Project.{child, expression_at}
 use Rattle.meson_steps.specs.declared.argument.ValueChange.{ValueChange}
 use Rattle.meson_steps.specs.declared.argument.ValueChange.TheVariants as change
@@ -20,13 +20,14 @@ use Rattle.meson_steps.specs.ResultLimits.{plain_trees}
 use Rattle.meson_steps.specs.Steps.{Step, all_stepped, step_in}
 use Rattle.meson_places.specs.declared.slots.Slot.{Slot}
 use Rattle.meson_places.specs.declared.slots.Slot.TheVariants as slot
-use Rattle.meson_places.specs.Arguments.{MayBeMade, argument_steps, last_key, set_within, slot_steps}
-use Rattle.meson_places.specs.Changes.{element_child, set_steps}
+use Rattle.meson_places.specs.Arguments.{MayBeMade, argument_steps, last_key, named_steps, set_within, slot_steps}
+use Rattle.meson_places.specs.TargetNames.{checked_name}
+use Rattle.meson_places.specs.Changes.{element_child, set_steps, set_there}
 use Rattle.meson_places.specs.Equality.{lists_say, says}
 use Rattle.meson_places.specs.Effects.{AddedBeside, AddedTo, ElementAdded, IsBeside, WholeAdded, SetLeft, SlotLeft, ValueLeft}
 use Rattle.meson_places.specs.Names.{the_place}
 use Rattle.meson_places.specs.NewElements.{add_steps, add_there, add_to_last, add_to_lone, add_to_value, add_to_whole, array_with, beside, fresh_written, lone_token}
-use Rattle.meson_places.specs.Room.{has_room, if_room, list_in_trees}
+use Rattle.meson_places.specs.Room.{if_room}
 use Rattle.meson_places.specs.Several.{AllMayBeGiven}
 use Rattle.meson_places.specs.Slots.{Child, the_slot}
 use Rattle.meson_places.specs.ValueLists.{ValueList, last_of, lists_of}
@@ -34,15 +35,12 @@ use Rattle.meson_places.specs.Values.{written_given}
 use Rattle.meson_places.proofs.AddedValues.{adds_to_one_list}
 use Rattle.meson_places.proofs.ArgumentsDoable.{ok_then}
 use Rattle.meson_places.proofs.ListsThere.{element_there}
+use Rattle.meson_places.proofs.SaidLeft.{element_removed, element_replaced, whole_removed, whole_replaced}
+use Rattle.meson_places.proofs.ElementsLeft.{text_alone}
+use Rattle.meson_places.proofs.KeysLeft.{array_added, array_set, key_set}
 use Rattle.meson_places.proofs.SetValues.{deletes_one_element, keeps_kinds, set_one, sets_one_value}
 use Rattle.meson_places.proofs.SlotsThere.{slots_are_there}
-
-with_room : (l : Loaded) (list : CallRef) (e : Expression Nowhere) (some steps : List Step) → if_room l list e some ≡ Ok steps → some ≡ steps
-with_room l list e some steps is = go (has_room e (list_in_trees (plain_trees l) list)) is
-  where
-    go : (b : Bool) → (if b then Ok some else Err TooDeep) ≡ Ok steps → some ≡ steps
-    go true h = cc
-    go false h = absurd (let no : ⊥ = cc in no)
+use Rattle.meson_places.proofs.WithRoom.{with_room}
 
 -- a value that is there
 set_left : (l : Loaded) (g : Given) (may : MayBeGiven g) (key : List ℕ) (list : CallRef) (n : ℕ) (steps : List Step) (after : List Plain)
@@ -52,7 +50,12 @@ set_left l g may key list n steps after made done =
     let s = ok_then (set_steps l g w key (slot.Element list n)) (if_room l list w.node) steps made in
     let is : set_steps l g w key (slot.Element list n) ≡ Ok steps = s.1 ∙ ap Ok (with_room l list w.node s.0 steps s.2) in
     let m = keeps_kinds l g w key list n steps is in
-    record { may_set = m; may = may; now = λ kept. sets_one_value l g w key list n m.value m.is_value kept steps is (plain_trees l) after done }
+    record {
+      may_set = m;
+      may = may;
+      now = λ kept. sets_one_value l g w key list n m.value m.is_value kept steps is (plain_trees l) after done;
+      alone = λ v there other texts. text_alone l g w key list n steps after done v there (sym (ap (set_there g w key list n) there) ∙ is) other texts;
+    }
 
 -- values that are added
 module _ (l : Loaded) (gs : List Given) (may : AllMayBeGiven gs) (key : List ℕ) (steps : List Step) (after : List Plain) (done : all_stepped steps (plain_trees l) ≡ Some after) where
@@ -112,32 +115,41 @@ module _ (l : Loaded) (gs : List Given) (may : AllMayBeGiven gs) (key : List ℕ
       go None is m = absurd (let no : ⊥ = cc in no)
       go (Some e) is m = record { may = may; value = e; is_value = is; added = one e (to_value c e is (Err (NotLiteral key)) ⊥ (λ h. let no : ⊥ = cc in no) m) }
 
-slot_left : (l : Loaded) (key : List ℕ) (c : ValueChange) (may : MayBeMade c) (s : Slot) (steps : List Step) (after : List Plain) → slot_steps l key c may s ≡ Ok steps
+slot_left : (l : Loaded) → IsProject l → (key : List ℕ) (c : ValueChange) (may : MayBeMade c) (s : Slot) (steps : List Step) (after : List Plain) → slot_steps l key c may s ≡ Ok steps
     → all_stepped steps (plain_trees l) ≡ Some after → SlotLeft l c s (plain_trees l) after
-slot_left l key (change.Set g) may (slot.Element list n) steps after made done = set_left l g may key list n steps after made done
-slot_left l key (change.Set g) may (slot.Absent list k) steps after made done = tt
-slot_left l key (change.Set g) may (slot.Whole p) steps after made done = tt
-slot_left l key (change.SetAll gs) may s steps after made done = tt
-slot_left l key (change.Add gs) may (slot.Element list n) steps after made done = element_left l gs may key steps after done list n made
-slot_left l key (change.Add gs) may (slot.Absent list k) steps after made done = tt
-slot_left l key (change.Add gs) may (slot.Whole c) steps after made done = whole_left l gs may key steps after done c made
-slot_left l key change.Delete may (slot.Element list n) steps after made done = deletes_one_element list n steps made (plain_trees l) after done
-slot_left l key change.Delete may (slot.Absent list k) steps after made done =
+slot_left l is key (change.Set g) may (slot.Element list n) steps after made done = set_left l g may key list n steps after made done
+slot_left l is key (change.Set g) may (slot.Absent list k) steps after made done = record { may = may; added = key_set l g may key list k steps after made done }
+slot_left l is key (change.Set g) may (slot.Whole p) steps after made done = tt
+slot_left l is key (change.SetAll gs) may (slot.Element list n) steps after made done = array_set l gs may steps after done key list n made
+slot_left l is key (change.SetAll gs) may (slot.Absent list k) steps after made done = array_added l gs may steps after done list k made
+slot_left l is key (change.SetAll gs) may (slot.Whole p) steps after made done = tt
+slot_left l is key (change.Add gs) may (slot.Element list n) steps after made done = element_left l gs may key steps after done list n made
+slot_left l is key (change.Add gs) may (slot.Absent list k) steps after made done = array_added l gs may steps after done list k made
+slot_left l is key (change.Add gs) may (slot.Whole c) steps after made done = whole_left l gs may key steps after done c made
+slot_left l is key (change.Remove gs) may (slot.Element list n) steps after made done = element_removed l is steps after done gs key list n made
+slot_left l is key (change.Remove gs) may (slot.Absent list k) steps after made done = tt
+slot_left l is key (change.Remove gs) may (slot.Whole c) steps after made done = whole_removed l is steps after done gs key c made
+slot_left l is key (change.Replace was new) may (slot.Element list n) steps after made done = element_replaced l is steps after done was new may key list n made
+slot_left l is key (change.Replace was new) may (slot.Absent list k) steps after made done = tt
+slot_left l is key (change.Replace was new) may (slot.Whole c) steps after made done = whole_replaced l is steps after done was new may key c made
+slot_left l is key change.Delete may (slot.Element list n) steps after made done = deletes_one_element list n steps made (plain_trees l) after done
+slot_left l is key change.Delete may (slot.Absent list k) steps after made done =
     let none : [] ≡ steps = cc in
     let same : Some (plain_trees l) ≡ Some after = ap (λ ss. all_stepped ss (plain_trees l)) none ∙ done in
     cc
-slot_left l key change.Delete may (slot.Whole p) steps after made done = tt
+slot_left l is key change.Delete may (slot.Whole p) steps after made done = tt
 
-pub values_left : (l : Loaded) (n : ValueName) (c : ValueChange) (may : MayBeMade c) (steps : List Step) (after : List Plain) → argument_steps l n c may ≡ Ok steps
+pub values_left : (l : Loaded) → IsProject l → (n : ValueName) (c : ValueChange) (may : MayBeMade c) (steps : List Step) (after : List Plain) → argument_steps l n c may ≡ Ok steps
     → all_stepped steps (plain_trees l) ≡ Some after → ValueLeft l n c (plain_trees l) after
-values_left l n c may steps after made done =
-    let p = ok_then (the_place l n.place) (λ q. then_ok (the_slot (project l) q n.keys) (λ s. slot_steps l (last_key n.keys) c may s)) steps made in
-    let s = ok_then (the_slot (project l) p.0 n.keys) (λ t. slot_steps l (last_key n.keys) c may t) steps p.2 in
+values_left l is n c may steps after made done =
+    let p = ok_then (the_place l n.place) (λ q. then_ok (the_slot (project l) q n.keys) (λ s. named_steps l (last_key n.keys) c may s)) steps made in
+    let s = ok_then (the_slot (project l) p.0 n.keys) (λ t. named_steps l (last_key n.keys) c may t) steps p.2 in
+    let u = ok_then (checked_name (project l) (last_key n.keys) c s.0) (λ _. slot_steps l (last_key n.keys) c may s.0) steps s.2 in
     record {
       place = p.0;
       is_place = p.1;
       named = s.0;
       is_named = s.1;
       is_there = slots_are_there (project l) p.0 n.keys s.0 s.1;
-      left = slot_left l (last_key n.keys) c may s.0 steps after s.2 done;
+      left = slot_left l is (last_key n.keys) c may s.0 steps after u.2 done;
     }

@@ -16,9 +16,12 @@ use Rattle.meson_steps.specs.declared.given.Given.{Given}
 use Rattle.meson_places.specs.Changes.{delete_steps, set_steps}
 use Rattle.meson_places.specs.Names.{the_place}
 use Rattle.meson_places.specs.NewElements.{add_steps}
+use Rattle.meson_places.specs.Removals.{remove_steps}
+use Rattle.meson_places.specs.Replacements.{exchange, exchange_steps}
 use Rattle.meson_places.specs.Room.{if_room}
 use Rattle.meson_places.specs.Several.{AllMayBeGiven, set_all}
 use Rattle.meson_places.specs.Slots.{the_slot}
+use Rattle.meson_places.specs.TargetNames.{checked_name}
 use Rattle.meson_steps.specs.GivenWords.{MayBeGiven}
 use Rattle.meson_places.specs.Values.{written_given}
 
@@ -37,20 +40,28 @@ slot_list (slot.Whole c) = c
 abbrev pub set_within : Loaded → Given → Written (Expression Nowhere) → (key : List ℕ) → Slot → Result (List Step) Refusal
 set_within l g w key s = then_ok (set_steps l g w key s) (if_room l (slot_list s) w.node)
 
--- the values of a change may be given
+-- the values that a change writes may be given
 abbrev pub MayBeMade : ValueChange → Type 0
 MayBeMade (change.Set g) = MayBeGiven g
 MayBeMade (change.SetAll gs) = AllMayBeGiven gs
 MayBeMade (change.Add gs) = AllMayBeGiven gs
+MayBeMade (change.Remove gs) = Unit {0}
+MayBeMade (change.Replace old new) = MayBeGiven new
 MayBeMade change.Delete = Unit {0}
 
 abbrev pub slot_steps : Loaded → (key : List ℕ) → (c : ValueChange) → MayBeMade c → Slot → Result (List Step) Refusal
 slot_steps l key (change.Set g) may s = set_within l g (written_given g may) key s
 slot_steps l key (change.SetAll gs) may s = set_all l gs may key s
 slot_steps l key (change.Add gs) may s = add_steps l gs may key s
+slot_steps l key (change.Remove gs) may s = remove_steps l gs key s
+slot_steps l key (change.Replace old new) may s = exchange_steps l (exchange old new may) key s
 slot_steps l key change.Delete may s = delete_steps s
+
+-- the same, unless the value is a text that becomes the name of a target, and another target has that name
+abbrev pub named_steps : Loaded → (key : List ℕ) → (c : ValueChange) → MayBeMade c → Slot → Result (List Step) Refusal
+named_steps l key c may s = then_ok (checked_name (project l) key c s) (λ _. slot_steps l key c may s)
 
 -- the steps that change the value of a name
 abbrev pub argument_steps : Loaded → ValueName → (c : ValueChange) → MayBeMade c → Result (List Step) Refusal
 argument_steps l n c may =
-    then_ok (the_place l n.place) (λ p. then_ok (the_slot (project l) p n.keys) (λ s. slot_steps l (last_key n.keys) c may s))
+    then_ok (the_place l n.place) (λ p. then_ok (the_slot (project l) p n.keys) (λ s. named_steps l (last_key n.keys) c may s))

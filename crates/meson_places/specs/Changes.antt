@@ -1,12 +1,10 @@
 -- The steps that set or delete the value of a slot.
-use Rattle.std.specs.Prelude.{ℕ, zero, suc, ◌+◌, Bool, false, List, [], ◌∷◌, ◌++◌, drop, length, codes, if◌then◌else◌, Option, Some, None, option_map, option_and_then, Result, Ok, Err}
+use Rattle.std.specs.Prelude.{ℕ, zero, suc, ◌+◌, Bool, false, List, [], ◌∷◌, ◌++◌, length, if◌then◌else◌, Option, Some, None, option_map, option_and_then, Result, Ok, Err}
 use Rattle.meson_lex.specs.declared.kinds.Span.{Span}
-use Rattle.meson_lex.specs.Bytes.{begins, is_blank}
 use Rattle.meson_lex.specs.Literals.{literal}
 use Rattle.meson_splice.specs.Files.{bytes_at}
 use Rattle.meson_syntax.specs.Tree.{Argument, plain, named, pair, Expression, Nowhere, bare_name}
 use Rattle.meson_edit.specs.Edits.{After, First, Remove, Replace, Written}
-use Rattle.meson_edit.specs.Standing.{expression_span}
 use Rattle.meson_calls.specs.declared.call.CallRef.{CallRef}
 use Rattle.meson_calls.specs.declared.refusal.Refusal.TheVariants.{BadName, NoSuchValue, NotLiteral, NotRemovable, OtherKind}
 use Rattle.meson_calls.specs.Loading.{Loaded, project}
@@ -20,6 +18,7 @@ use Rattle.meson_places.specs.declared.slots.Slot.{Slot}
 use Rattle.meson_places.specs.declared.slots.Slot.TheVariants as slot
 use Rattle.meson_steps.specs.declared.given.Given.{Given}
 use Rattle.meson_steps.specs.declared.given.Given.TheVariants as given
+use Rattle.meson_places.specs.Colons.{colon_text, ends_in_file, is_spaced_in}
 use Rattle.meson_places.specs.Slots.{Child, elements_in, list_kind, nth_child}
 use Rattle.meson_places.specs.Values.{are_texts, is_identifier, keeps_kind}
 
@@ -33,6 +32,12 @@ abbrev pub slot_value : {S : Type 0} → Project S → Slot → Option (Expressi
 slot_value p (slot.Element list n) = option_map (λ c. c.value) (element_child p list n)
 slot_value p (slot.Absent list key) = None
 slot_value p (slot.Whole c) = expression_at p c
+
+-- and its place
+abbrev pub slot_place : {S : Type 0} → Project S → Slot → Option CallRef
+slot_place p (slot.Element list n) = option_map (λ c. child list c.number) (element_child p list n)
+slot_place p (slot.Absent list key) = None
+slot_place p (slot.Whole c) = Some c
 
 -- ---- set, where a value is there
 
@@ -61,22 +66,6 @@ set_there g w key list n (Some c) =
 
 -- ---- set, where no value is there
 
--- what is between a key and its value: as after the last keyword argument or entry that is there
-abbrev pub colon_at : List ℕ → ℕ → List ℕ
-colon_at source at_ = if begins is_blank (drop at_ source) then codes " : " else codes ": "
-
-abbrev pub colon_of : List ℕ → (before : List ℕ) → Argument Span → List ℕ
-colon_of source before (plain e) = before
-colon_of source before (named s x e) = colon_at source x.place.to
-colon_of source before (pair s k v) = colon_at source (expression_span k).to
-
-abbrev pub last_colon : List ℕ → (before : List ℕ) → List (Argument Span) → List ℕ
-last_colon source before [] = before
-last_colon source before (x ∷ xs) = last_colon source (colon_of source before x) xs
-
-abbrev pub colon_among : List ℕ → List (Argument Span) → List ℕ
-colon_among source xs = last_colon source (codes ": ") xs
-
 -- an element at the end of a list with this number of elements
 abbrev pub behind_all : CallRef → ℕ → Written (Argument Nowhere) → Step
 behind_all list zero new = step_in list (First list.path.steps new)
@@ -88,37 +77,36 @@ written_keyword key colon w = record { bytes = key ++ (colon ++ w.bytes); node =
 abbrev pub written_entry : (key colon : List ℕ) → Written (Expression Nowhere) → Written (Argument Nowhere)
 written_entry key colon w = record { bytes = literal key ++ (colon ++ w.bytes); node = pair tt (string_of key) w.node }
 
--- a call gets a keyword argument, if the key is an identifier, and a dictionary an entry, each as its last element
-abbrev pub keyword_behind : List ℕ → Written (Expression Nowhere) → (key : List ℕ) → CallRef → List (Argument Span) → Result (List Step) Refusal
-keyword_behind source w key list xs = Ok (behind_all list (length xs) (written_keyword key (colon_among source xs) w) ∷ [])
+-- a call with this number of arguments gets a keyword argument, if the key is an identifier, and a dictionary an entry, each as its last element
+abbrev pub keyword_behind : (spaced : Bool) → Written (Expression Nowhere) → (key : List ℕ) → CallRef → ℕ → Result (List Step) Refusal
+keyword_behind spaced w key list many = Ok (behind_all list many (written_keyword key (colon_text spaced) w) ∷ [])
 
-abbrev pub added_keyword : List ℕ → Written (Expression Nowhere) → (key : List ℕ) → CallRef → List (Argument Span) → Result (List Step) Refusal
-added_keyword source w key list xs = if is_identifier key then keyword_behind source w key list xs else Err BadName
+abbrev pub added_keyword : (spaced : Bool) → Written (Expression Nowhere) → (key : List ℕ) → CallRef → ℕ → Result (List Step) Refusal
+added_keyword spaced w key list many = if is_identifier key then keyword_behind spaced w key list many else Err BadName
 
-abbrev pub added_entry : List ℕ → Written (Expression Nowhere) → (key : List ℕ) → CallRef → List (Argument Span) → Result (List Step) Refusal
-added_entry source w key list xs = Ok (behind_all list (length xs) (written_entry key (colon_among source xs) w) ∷ [])
+abbrev pub added_entry : (spaced : Bool) → Written (Expression Nowhere) → (key : List ℕ) → CallRef → ℕ → Result (List Step) Refusal
+added_entry spaced w key list many = Ok (behind_all list many (written_entry key (colon_text spaced) w) ∷ [])
 
-abbrev pub added_by_kind : List ℕ → Written (Expression Nowhere) → (key : List ℕ) → CallRef → ListKind → List (Argument Span)
-    → Result (List Step) Refusal
-added_by_kind source w key list kind.Call xs = added_keyword source w key list xs
-added_by_kind source w key list kind.Dictionary xs = added_entry source w key list xs
-added_by_kind source w key list kind.Array xs = Err (NotLiteral key)
+abbrev pub added_by_kind : (spaced : Bool) → Written (Expression Nowhere) → (key : List ℕ) → CallRef → ListKind → ℕ → Result (List Step) Refusal
+added_by_kind spaced w key list kind.Call many = added_keyword spaced w key list many
+added_by_kind spaced w key list kind.Dictionary many = added_entry spaced w key list many
+added_by_kind spaced w key list kind.Array many = Err (NotLiteral key)
 
-abbrev pub added_there : List ℕ → Written (Expression Nowhere) → (key : List ℕ) → CallRef → Option ListKind → List (Argument Span)
-    → Result (List Step) Refusal
-added_there source w key list (Some k) xs = added_by_kind source w key list k xs
-added_there source w key list None xs = Err (NotLiteral key)
+abbrev pub added_there : (spaced : Bool) → Written (Expression Nowhere) → (key : List ℕ) → CallRef → Option ListKind → ℕ → Result (List Step) Refusal
+added_there spaced w key list (Some k) many = added_by_kind spaced w key list k many
+added_there spaced w key list None many = Err (NotLiteral key)
 
-abbrev pub added_to : List ℕ → Written (Expression Nowhere) → (key : List ℕ) → CallRef → Option (Expression Span) → Result (List Step) Refusal
-added_to source w key list None = Err (NoSuchValue key)
-added_to source w key list (Some e) = added_there source w key list (list_kind e) (elements_in e)
+-- in a file of these bytes, and with these ends of the keys of keyword arguments
+abbrev pub added_to : (source ends : List ℕ) → Written (Expression Nowhere) → (key : List ℕ) → CallRef → Option (Expression Span) → Result (List Step) Refusal
+added_to source ends w key list None = Err (NoSuchValue key)
+added_to source ends w key list (Some e) = added_there (is_spaced_in source ends e) w key list (list_kind e) (length (elements_in e))
 
 -- ---- the steps
 
 -- the key is the last of those that named the slot
 abbrev pub set_steps : Loaded → Given → Written (Expression Nowhere) → (key : List ℕ) → Slot → Result (List Step) Refusal
 set_steps l g w key (slot.Element list n) = set_there g w key list n (element_child (project l) list n)
-set_steps l g w key (slot.Absent list k) = added_to (bytes_at list.file l.files) w k list (expression_at (project l) list)
+set_steps l g w key (slot.Absent list k) = added_to (bytes_at list.file l.files) (ends_in_file l list.file) w k list (expression_at (project l) list)
 set_steps l g w key (slot.Whole c) = Err (NotLiteral key)
 
 -- what is absent stays so, and an assigned value or a list itself can't be deleted

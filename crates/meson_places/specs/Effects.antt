@@ -1,5 +1,6 @@
 -- What is there after a change of one value: the value that was named, and all else as it was.
-use Rattle.std.specs.Prelude.{◌≡◌, ◌⊎◌, ℕ, true, List, [], ◌∷◌, map, Some, Ok}
+use Rattle.std.specs.Prelude.{◌≡◌, ◌⊎◌, ℕ, true, false, List, [], ◌∷◌, map, Some, None, Ok}
+use Rattle.std.specs.List.{list_all}
 use Rattle.meson_lex.specs.declared.kinds.Span.{Span}
 use Rattle.meson_splice.specs.Files.{bytes_at}
 use Rattle.meson_syntax.specs.Tree.{Expression, Nowhere, Plain, erase_expression}
@@ -14,21 +15,28 @@ use Rattle.meson_steps.specs.declared.given.Given.{Given}
 use Rattle.meson_steps.specs.GivenWords.{MayBeGiven}
 use Rattle.meson_places.specs.declared.slots.Slot.{Slot}
 use Rattle.meson_places.specs.declared.slots.Slot.TheVariants as slot
-use Rattle.meson_places.specs.Changes.{element_child}
+use Rattle.meson_places.specs.ArrayEffects.{HasValues}
+use Rattle.meson_places.specs.Changes.{element_child, replaces_texts}
 use Rattle.meson_places.specs.Equality.{lists_say, says}
+use Rattle.meson_places.specs.Expressions.{ExpressionIs}
+use Rattle.meson_places.specs.KeyEffects.{ArrayAdded, ArraySet, GivenAdded}
 use Rattle.meson_places.specs.Laws.{HasAlso, IsWithout, MaySet, SlotIs, SlotIsThere}
 use Rattle.meson_places.specs.Names.{the_place}
 use Rattle.meson_places.specs.NewElements.{array_with, fresh_written, lone_token}
+use Rattle.meson_places.specs.SaidElements.{elements_left, says_one, value_left}
 use Rattle.meson_places.specs.Several.{AllMayBeGiven}
 use Rattle.meson_places.specs.Slots.{Child, the_slot}
 use Rattle.meson_places.specs.ValueLists.{ValueList, last_of, lists_of}
 use Rattle.meson_places.specs.Values.{given_node, keeps_kind}
 
--- A value that was there may be set to the given one. Where it keeps its kind, that is the value now, and all else is as it was.
+-- A value that was there may be set to the given one. Where it keeps its kind, that is the value now, and all else is as it was. Where a text takes the place of
+-- an array of texts, it is the only element of the array.
 pub record SetLeft (old : Loaded) (g : Given) (list : CallRef) (n : ℕ) (before after : List Plain) : Type 0 where
   pub may_set : MaySet old g list n
   pub may : MayBeGiven g
   pub now : keeps_kind g may_set.value ≡ true → SlotIs list n (given_node g may) before after
+  pub alone : (v : Child Span) → element_child (project old) list n ≡ Some v → keeps_kind g v.value ≡ false → replaces_texts g v.value ≡ true
+      → HasValues (child list v.number) (given_node g may ∷ []) before after
 
 -- The last list of a value has also the new ones.
 pub record AddedTo (old : Loaded) (gs : List Given) (may : AllMayBeGiven gs) (c : CallRef) (e : Expression Span) (before after : List Plain) : Type 0 where
@@ -62,11 +70,67 @@ pub record WholeAdded (old : Loaded) (gs : List Given) (c : CallRef) (before aft
   pub is_value : expression_at (project old) c ≡ Some value
   pub added : AddedTo old gs may c value before after
 
+-- ---- removed
+
+-- Each of the values was said by an element of a list of the value at a place. Now its lists have those elements that say none of them, in their order.
+pub record ListsLost (old : Loaded) (gs : List Given) (c : CallRef) (e : Expression Span) (before after : List Plain) : Type 0 where
+  pub all_said : list_all (lists_say (bytes_at c.file old.files) (lists_of c e)) gs ≡ true
+  pub now : ExpressionIs c (value_left (elements_left None (says_one (bytes_at c.file old.files) gs)) e) before after
+
+-- A value without a list said each of them, and is gone with its argument or entry.
+pub record LoneLost (old : Loaded) (gs : List Given) (list : CallRef) (n : ℕ) (e : Expression Span) (before after : List Plain) : Type 0 where
+  pub all_said : list_all (λ g. says (bytes_at list.file old.files) g e) gs ≡ true
+  pub now : IsWithout list n before after
+
+pub record ElementRemoved (old : Loaded) (gs : List Given) (list : CallRef) (n : ℕ) (before after : List Plain) : Type 0 where
+  pub value : Child Span
+  pub is_value : element_child (project old) list n ≡ Some value
+  pub removed : ListsLost old gs (child list value.number) value.value before after ⊎ LoneLost old gs list n value.value before after
+
+pub record WholeRemoved (old : Loaded) (gs : List Given) (c : CallRef) (before after : List Plain) : Type 0 where
+  pub value : Expression Span
+  pub is_value : expression_at (project old) c ≡ Some value
+  pub removed : ListsLost old gs c value before after
+
+-- ---- replaced
+
+-- An element of a list of the value at a place said the old value, and none said the new one. Now its lists have as many elements, of which those that said the
+-- old one are the new one.
+pub record ListsExchanged (old : Loaded) (was new : Given) (may : MayBeGiven new) (c : CallRef) (e : Expression Span) (before after : List Plain) : Type 0 where
+  pub was_said : lists_say (bytes_at c.file old.files) (lists_of c e) was ≡ true
+  pub is_new : lists_say (bytes_at c.file old.files) (lists_of c e) new ≡ false
+  pub now : ExpressionIs c (value_left (elements_left (Some (given_node new may)) (says_one (bytes_at c.file old.files) (was ∷ []))) e) before after
+
+-- A value without a list said the old value, and is the new one.
+pub record LoneExchanged (old : Loaded) (was new : Given) (may : MayBeGiven new) (list : CallRef) (n : ℕ) (e : Expression Span) (before after : List Plain) : Type 0 where
+  pub was_said : says (bytes_at list.file old.files) was e ≡ true
+  pub now : SlotIs list n (given_node new may) before after
+
+pub record ElementReplaced (old : Loaded) (was new : Given) (list : CallRef) (n : ℕ) (before after : List Plain) : Type 0 where
+  pub may : MayBeGiven new
+  pub value : Child Span
+  pub is_value : element_child (project old) list n ≡ Some value
+  pub replaced : ListsExchanged old was new may (child list value.number) value.value before after ⊎ LoneExchanged old was new may list n value.value before after
+
+pub record WholeReplaced (old : Loaded) (was new : Given) (c : CallRef) (before after : List Plain) : Type 0 where
+  pub may : MayBeGiven new
+  pub value : Expression Span
+  pub is_value : expression_at (project old) c ≡ Some value
+  pub replaced : ListsExchanged old was new may c value before after
+
 -- what a change leaves of a slot
 abbrev pub SlotLeft : Loaded → ValueChange → Slot → (before after : List Plain) → Type 0
 SlotLeft old (change.Set g) (slot.Element list n) before after = SetLeft old g list n before after
+SlotLeft old (change.Set g) (slot.Absent list key) before after = GivenAdded old g list key before after
+SlotLeft old (change.SetAll gs) (slot.Element list n) before after = ArraySet old gs list n before after
+SlotLeft old (change.SetAll gs) (slot.Absent list key) before after = ArrayAdded old gs list key before after
 SlotLeft old (change.Add gs) (slot.Element list n) before after = ElementAdded old gs list n before after
+SlotLeft old (change.Add gs) (slot.Absent list key) before after = ArrayAdded old gs list key before after
 SlotLeft old (change.Add gs) (slot.Whole c) before after = WholeAdded old gs c before after
+SlotLeft old (change.Remove gs) (slot.Element list n) before after = ElementRemoved old gs list n before after
+SlotLeft old (change.Remove gs) (slot.Whole c) before after = WholeRemoved old gs c before after
+SlotLeft old (change.Replace was new) (slot.Element list n) before after = ElementReplaced old was new list n before after
+SlotLeft old (change.Replace was new) (slot.Whole c) before after = WholeReplaced old was new c before after
 SlotLeft old change.Delete (slot.Element list n) before after = IsWithout list n before after
 SlotLeft old change.Delete (slot.Absent list key) before after = after ≡ before
 SlotLeft old _ _ before after = Unit {0}

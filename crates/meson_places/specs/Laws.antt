@@ -13,6 +13,7 @@ use Rattle.meson_calls.specs.Calls.{Call, call_of, calls, first_literal, is}
 use Rattle.meson_calls.specs.Loading.{IsProject, Loaded, project}
 use Rattle.meson_calls.specs.Notes.{an_assignment, notes}
 use Rattle.meson_calls.specs.Project.{Project, Placed, child, expression_at, placed}
+use Rattle.meson_steps.specs.GivenWords.{MayBeGiven}
 use Rattle.meson_steps.specs.ListSteps.{AreDoable}
 use Rattle.meson_steps.specs.ResultLimits.{plain_trees}
 use Rattle.meson_steps.specs.Steps.{Step, all_stepped, changed_at}
@@ -27,11 +28,16 @@ use Rattle.meson_steps.specs.declared.given.Given.{Given}
 use Rattle.meson_places.specs.Arguments.{MayBeMade, argument_steps}
 use Rattle.meson_places.specs.Changes.{delete_steps, replaces_texts, set_steps, slot_value}
 use Rattle.meson_places.specs.Equality.{fresh, lists_say}
+use Rattle.meson_places.specs.Expressions.{ExpressionIs}
+use Rattle.meson_places.specs.NamedValues.{value_place}
 use Rattle.meson_places.specs.NewElements.{add_to_value, fresh_written}
-use Rattle.meson_places.specs.Several.{AllMayBeGiven}
+use Rattle.meson_places.specs.Removals.{remove_said}
+use Rattle.meson_places.specs.Replacements.{exchange, replace_said}
+use Rattle.meson_places.specs.SaidElements.{elements_left, says_one, value_left}
+use Rattle.meson_places.specs.Several.{AllMayBeGiven, all_written}
 use Rattle.meson_places.specs.Slots.{number_in, the_slot}
 use Rattle.meson_places.specs.ValueLists.{ValueList, last_of, lists_of}
-use Rattle.meson_places.specs.Values.{keeps_kind}
+use Rattle.meson_places.specs.Values.{given_node, keeps_kind}
 use Rattle.meson_places.specs.Names.{calls_callee, is_searched, searched_file, the_place}
 
 -- ---- calls
@@ -78,6 +84,14 @@ SlotIsThere p (slot.Whole c) = (e : Expression Span) × (expression_at p c ≡ S
 -- the law: so it is of the slot that keys name
 abbrev pub SlotsAreThere : Type 0
 SlotsAreThere = (p : Project Span) (c : CallRef) (keys : List (List ℕ)) (s : Slot) → the_slot p c keys ≡ Ok s → SlotIsThere p s
+
+-- an expression is at the place
+abbrev pub IsExpressionAt : Project Span → CallRef → Type 0
+IsExpressionAt p c = (e : Expression Span) × (expression_at p c ≡ Some e)
+
+-- the law: so it is where the value is that a name names
+abbrev pub ValuesAreThere : Type 0
+ValuesAreThere = (l : Loaded) (n : ValueName) (c : CallRef) → value_place l n ≡ Ok c → IsExpressionAt (project l) c
 
 -- ---- values that are set
 
@@ -157,6 +171,28 @@ AddsToOneList = (l : Loaded) (gs : List Given) (may : AllMayBeGiven gs) (otherwi
 -- the law: the new ones are not known
 abbrev pub NewAreUnknown : Type 0
 NewAreUnknown = (known : Given → Bool) (before gs : List Given) → list_all (λ g. not (known g)) (fresh known before gs) ≡ true
+
+-- the law: what is written for them is written for each of them
+abbrev pub NewAreWritten : Type 0
+NewAreWritten = (known : Given → Bool) (before gs : List Given) (may : AllMayBeGiven gs)
+    → (new : AllMayBeGiven (fresh known before gs)) × (fresh_written known before gs may ≡ all_written (fresh known before gs) new)
+
+-- ---- elements that are removed or replaced
+
+-- the law: of the lists of a value, those elements go that say one of some values, and all else is as it was
+abbrev pub RemovesWhatIsSaid : Type 0
+RemovesWhatIsSaid = (l : Loaded) → IsProject l → (gs : List Given) (c : CallRef) (e : Expression Span) → expression_at (project l) c ≡ Some e
+    → (key : List ℕ) (steps : List Step) → remove_said key (bytes_at c.file l.files) gs (lists_of c e) ≡ Ok steps
+    → (after : List Plain) → all_stepped steps (plain_trees l) ≡ Some after
+    → ExpressionIs c (value_left (elements_left None (says_one (bytes_at c.file l.files) gs)) e) (plain_trees l) after
+
+-- the law: those elements that say a value become another one in their places, and all else is as it was
+abbrev pub ReplacesWhatIsSaid : Type 0
+ReplacesWhatIsSaid = (l : Loaded) → IsProject l → (old new : Given) (may : MayBeGiven new) (c : CallRef) (e : Expression Span)
+    → expression_at (project l) c ≡ Some e → (key : List ℕ) (steps : List Step)
+    → replace_said l key (bytes_at c.file l.files) (exchange old new may) (lists_of c e) ≡ Ok steps
+    → (after : List Plain) → all_stepped steps (plain_trees l) ≡ Some after
+    → ExpressionIs c (value_left (elements_left (Some (given_node new may)) (says_one (bytes_at c.file l.files) (old ∷ []))) e) (plain_trees l) after
 
 -- ---- steps that may be done
 

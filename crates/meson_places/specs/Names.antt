@@ -85,9 +85,9 @@ abbrev pub is_on : List ℕ → ℕ → Option ℕ → Bool
 is_on bytes line None = false
 is_on bytes line (Some at_) = line_of bytes at_ == line
 
--- what begins on this line of the file of this number
-abbrev pub place_on : List File → (file line : ℕ) → Placed (Note Span) → Option CallRef
-place_on files file line m = if m.place.file == file && is_on (bytes_at file files) line (offset_of m.it) then Some (beginning_at m.it m.place) else None
+-- what begins on this line of the file of this number and these bytes
+abbrev pub place_on : List ℕ → (file line : ℕ) → Placed (Note Span) → Option CallRef
+place_on bytes file line m = if m.place.file == file && is_on bytes line (offset_of m.it) then Some (beginning_at m.it m.place) else None
 
 -- whether a path leads to what is at another path, or into it
 abbrev pub leads_into : List ℕ → List ℕ → Bool
@@ -147,7 +147,7 @@ abbrev pub places_by_id : {S : Type 0} → PlaceName → List (Placed (Note S)) 
 places_by_id n ns = filter_map (named_place n) ns
 
 abbrev pub places_on : List File → (file line : ℕ) → List (Placed (Note Span)) → List CallRef
-places_on files file line ns = filter_map (place_on files file line) ns
+places_on files file line ns = filter_map (place_on (bytes_at file files) file line) ns
 
 -- the arrays and dictionaries of a build file that open on this line of the file of this number
 abbrev pub lists_among : List ℕ → (file line : ℕ) → Option (BuildFile Span) → List CallRef

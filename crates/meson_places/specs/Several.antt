@@ -19,6 +19,7 @@ use Rattle.meson_places.specs.declared.slots.Slot.TheVariants as slot
 use Rattle.meson_steps.specs.declared.given.Given.{Given}
 use Rattle.meson_steps.specs.declared.given.Given.TheVariants as given
 use Rattle.meson_places.specs.Changes.{added_to, behind_all, element_child, rest_removed}
+use Rattle.meson_places.specs.Colons.{ends_in_file}
 use Rattle.meson_places.specs.Room.{has_room, if_room, list_in_trees}
 use Rattle.meson_places.specs.Slots.{Child, elements_in}
 use Rattle.meson_steps.specs.GivenWords.{MayBeGiven}
@@ -99,7 +100,7 @@ set_all_there l gs may key list n (Some c) =
 
 abbrev pub add_array : Loaded → (gs : List Given) → AllMayBeGiven gs → (key : List ℕ) → CallRef → Result (List Step) Refusal
 add_array l gs may key list =
-    then_ok (added_to (bytes_at list.file l.files) (written_array gs may) key list (expression_at (project l) list)) (if_room l list (written_array gs may).node)
+    then_ok (added_to (bytes_at list.file l.files) (ends_in_file l list.file) (written_array gs may) key list (expression_at (project l) list)) (if_room l list (written_array gs may).node)
 
 -- the key is the last of those that named the slot
 abbrev pub set_all : Loaded → (gs : List Given) → AllMayBeGiven gs → (key : List ℕ) → Slot → Result (List Step) Refusal

@@ -1,5 +1,5 @@
 -- The lists of a value: those that its elements are added to, and removed from.
-use Rattle.std.specs.Prelude.{ℕ, suc, Bool, true, false, ◌&&◌, List, [], ◌∷◌, ◌++◌, bytes_eq, codes, if◌then◌else◌, Option, Some, None}
+use Rattle.std.specs.Prelude.{ℕ, suc, Bool, true, false, ◌&&◌, List, [], ◌∷◌, bytes_eq, codes, if◌then◌else◌, Option, Some, None}
 use Rattle.std.specs.List.{list_all}
 use Rattle.meson_syntax.specs.declared.operator.Operator.{Operator}
 use Rattle.meson_syntax.specs.declared.operator.Operator.TheVariants as operator

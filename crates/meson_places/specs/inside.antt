@@ -1,3 +1,3 @@
-pub mod Colons
 pub mod Found
+pub mod Lines
 pub mod Wanted

@@ -4,7 +4,7 @@ ghost use Rattle.std.specs.Prelude.{◌≡◌, ◌++◌, ◌∷◌, [], IfOk};
 ghost use Rattle.meson_edit.specs.Edits.{Written};
 ghost use Rattle.meson_splice.specs.Files.{bytes_at};
 ghost use Rattle.meson_syntax.specs.Tree.{Argument, Expression, Nowhere};
-ghost use Rattle.meson_syntax.specs.View.{args_view};
+ghost use Rattle.meson_places.specs.Colons.{colon_text, ends_in_file};
 ghost use Rattle.meson_calls.specs.Loading.{AreParsed, project};
 ghost use Rattle.meson_calls.specs.Project.{expression_at};
 ghost use Rattle.meson_steps.specs.ListSteps.{AreBare};
@@ -14,7 +14,7 @@ ghost use Rattle.meson_calls.specs.Refusals.{RefusedAs};
 ghost use Rattle.meson_places.specs.Names.{loaded_in};
 
 use crate::changes::push_edit;
-use crate::colon::colon_among;
+use crate::colon::is_spaced_in;
 use crate::elements::{ListKind, list_kind};
 use crate::name::Sources;
 use crate::slots::elements_in;
@@ -23,7 +23,6 @@ use meson_lex::is_identifier;
 use meson_splice::{Bytes, Text};
 use meson_steps::literals::push_literal;
 use meson_steps::step::{ListEdit, ListStep};
-use meson_syntax::Arg;
 use std::alloc::{AllocError, Global};
 
 /// The steps that add an element at the end of a list with this number of elements.
@@ -46,21 +45,22 @@ fn behind_all(
 }
 
 /// What is written for a key, a colon and a value.
-fn keyed(front: Vec<u8>, colon: &str, value: &Bytes) -> Result<Bytes, AllocError>
-    ensures { IfOk result (λ b. b ≡ front.items ++ (colon.now ++ value.now)) }
+fn keyed(front: Vec<u8>, spaced: bool, value: &Bytes) -> Result<Bytes, AllocError>
+    ensures { IfOk result (λ b. b ≡ front.items ++ (colon_text spaced ++ value.now)) }
 {
     let mut all = front;
+    let colon = if spaced { " : " } else { ": " };
     all.extend_from_slice(colon.as_bytes())?;
     all.extend_from_slice(value.get())?;
     Ok(Bytes::of(all))
 }
 
-/// A call or a dictionary to which an element is added: its place, and its elements in their source.
+/// A call or a dictionary to which an element is added: its place, the number of its elements, and whether a blank is before the new colon.
 #[derive(Clone, Copy)]
 struct Receiver<'t> {
     list: &'t CallRef,
-    source: &'t [u8],
-    elements: &'t [Arg],
+    many: usize,
+    spaced: bool,
 }
 
 /// The steps that add an argument whose name is this key.
@@ -74,18 +74,14 @@ fn keyword_behind(
     key: &Text,
 ) -> Result<Vec<ListStep>, Refusal>
     ensures meant { (w : Written (Expression Nowhere)) → w.bytes ≡ value.now → let r = receiver.entry in
-        IfOk result (λ steps. AreMeant (keyword_behind r.source.now w key.now r.list.now (args_view r.source.now r.elements.now)) steps.items) }
+        IfOk result (λ steps. AreMeant (keyword_behind r.spaced w key.now r.list.now r.many) steps.items) }
     ensures refused { (w : Written (Expression Nowhere)) → let r = receiver.entry in
-        RefusedAs result (keyword_behind r.source.now w key.now r.list.now (args_view r.source.now r.elements.now)) }
+        RefusedAs result (keyword_behind r.spaced w key.now r.list.now r.many) }
 {
     let mut front = Vec::new(alloc);
     front.extend_from_slice(key.get().as_bytes())?;
-    let new = keyed(
-        front,
-        colon_among(receiver.source, receiver.elements),
-        value,
-    )?;
-    Ok(behind_all(alloc, receiver.list, receiver.elements.len(), new)?)
+    let new = keyed(front, receiver.spaced, value)?;
+    Ok(behind_all(alloc, receiver.list, receiver.many, new)?)
 }
 
 /// The steps that add a keyword argument.
@@ -99,9 +95,9 @@ fn keyword_steps(
     key: &Text,
 ) -> Result<Vec<ListStep>, Refusal>
     ensures meant { (w : Written (Expression Nowhere)) → w.bytes ≡ value.now → let r = receiver.entry in
-        IfOk result (λ steps. AreMeant (added_keyword r.source.now w key.now r.list.now (args_view r.source.now r.elements.now)) steps.items) }
+        IfOk result (λ steps. AreMeant (added_keyword r.spaced w key.now r.list.now r.many) steps.items) }
     ensures refused { (w : Written (Expression Nowhere)) → let r = receiver.entry in
-        RefusedAs result (added_keyword r.source.now w key.now r.list.now (args_view r.source.now r.elements.now)) }
+        RefusedAs result (added_keyword r.spaced w key.now r.list.now r.many) }
 {
     if !is_identifier(key.get()) {
         return Err(Refusal::BadName);
@@ -120,18 +116,14 @@ fn entry_steps(
     key: &Text,
 ) -> Result<Vec<ListStep>, Refusal>
     ensures meant { (w : Written (Expression Nowhere)) → w.bytes ≡ value.now → let r = receiver.entry in
-        IfOk result (λ steps. AreMeant (added_entry r.source.now w key.now r.list.now (args_view r.source.now r.elements.now)) steps.items) }
+        IfOk result (λ steps. AreMeant (added_entry r.spaced w key.now r.list.now r.many) steps.items) }
     ensures refused { (w : Written (Expression Nowhere)) → let r = receiver.entry in
-        RefusedAs result (added_entry r.source.now w key.now r.list.now (args_view r.source.now r.elements.now)) }
+        RefusedAs result (added_entry r.spaced w key.now r.list.now r.many) }
 {
     let mut front = Vec::new(alloc);
     push_literal(alloc, &mut front, key.get())?;
-    let new = keyed(
-        front,
-        colon_among(receiver.source, receiver.elements),
-        value,
-    )?;
-    Ok(behind_all(alloc, receiver.list, receiver.elements.len(), new)?)
+    let new = keyed(front, receiver.spaced, value)?;
+    Ok(behind_all(alloc, receiver.list, receiver.many, new)?)
 }
 
 /// The steps that add an argument or an entry to a list of this kind.
@@ -146,9 +138,9 @@ fn added_by_kind(
     key: &Text,
 ) -> Result<Vec<ListStep>, Refusal>
     ensures meant { (w : Written (Expression Nowhere)) → w.bytes ≡ value.now → let r = receiver.entry in
-        IfOk result (λ steps. AreMeant (added_by_kind r.source.now w key.now r.list.now kind (args_view r.source.now r.elements.now)) steps.items) }
+        IfOk result (λ steps. AreMeant (added_by_kind r.spaced w key.now r.list.now kind r.many) steps.items) }
     ensures refused { (w : Written (Expression Nowhere)) → let r = receiver.entry in
-        RefusedAs result (added_by_kind r.source.now w key.now r.list.now kind (args_view r.source.now r.elements.now)) }
+        RefusedAs result (added_by_kind r.spaced w key.now r.list.now kind r.many) }
 {
     match kind {
         ListKind::Call => keyword_steps(alloc, receiver, value, key),
@@ -169,9 +161,9 @@ fn added_there(
     key: &Text,
 ) -> Result<Vec<ListStep>, Refusal>
     ensures meant { (w : Written (Expression Nowhere)) → w.bytes ≡ value.now → let r = receiver.entry in
-        IfOk result (λ steps. AreMeant (added_there r.source.now w key.now r.list.now kind (args_view r.source.now r.elements.now)) steps.items) }
+        IfOk result (λ steps. AreMeant (added_there r.spaced w key.now r.list.now kind r.many) steps.items) }
     ensures refused { (w : Written (Expression Nowhere)) → let r = receiver.entry in
-        RefusedAs result (added_there r.source.now w key.now r.list.now kind (args_view r.source.now r.elements.now)) }
+        RefusedAs result (added_there r.spaced w key.now r.list.now kind r.many) }
 {
     match kind {
         Some(kind) => added_by_kind(alloc, receiver, kind, value, key),
@@ -192,9 +184,9 @@ pub(crate) fn added_to(
 ) -> Result<Vec<ListStep>, Refusal>
     requires { AreParsed sources.files.now sources.trees.now }
     ensures meant { (w : Written (Expression Nowhere)) → w.bytes ≡ value.now → let l = loaded_in sources.entry in
-        IfOk result (λ steps. AreMeant (added_to (bytes_at list.now.file l.files) w key.now list.now (expression_at (project l) list.now)) steps.items) }
+        IfOk result (λ steps. AreMeant (added_to (bytes_at list.now.file l.files) (ends_in_file l list.now.file) w key.now list.now (expression_at (project l) list.now)) steps.items) }
     ensures refused { (w : Written (Expression Nowhere)) → let l = loaded_in sources.entry in
-        RefusedAs result (added_to (bytes_at list.now.file l.files) w key.now list.now (expression_at (project l) list.now)) }
+        RefusedAs result (added_to (bytes_at list.now.file l.files) (ends_in_file l list.now.file) w key.now list.now (expression_at (project l) list.now)) }
 {
     if list.file >= sources.trees.len() {
         return Err(Refusal::NoSuchValue(key.clone()?));
@@ -202,10 +194,11 @@ pub(crate) fn added_to(
     match sources.trees[list.file].expr_at(&list.path) {
         Some(held) => {
             let source = sources.files.bytes(list.file);
+            let spaced = is_spaced_in(alloc, sources, list.file, source, held)?;
             let receiver = Receiver {
                 list,
-                source,
-                elements: elements_in(held),
+                many: elements_in(held).len(),
+                spaced,
             };
             added_there(alloc, receiver, list_kind(held), value, key)
         }

@@ -16,9 +16,12 @@ use crate::changes::{delete_steps, set_steps};
 use crate::lookup::find_place;
 use crate::name::Sources;
 use crate::new_elements::add_steps;
+use crate::removals::remove_steps;
+use crate::replacements::{Pair, replace_steps};
 use crate::room::has_room;
 use crate::several::set_all;
 use crate::slots::{Slot, find_slot};
+use crate::target_names::checked_name;
 use meson_calls::{CallRef, Refusal};
 use meson_splice::Text;
 use meson_steps::argument::{ValueChange, ValueName};
@@ -50,7 +53,7 @@ fn reads_all(values: &[Given])
     }
 }
 
-/// The same for the values of a change.
+/// The same for the values that a change writes.
 fn reads_change(change: &ValueChange)
     ensures { MayBeMade change.now }
 {
@@ -58,12 +61,14 @@ fn reads_change(change: &ValueChange)
         ValueChange::Set(given) => reads(given),
         ValueChange::SetAll(values) => reads_all(values.get()),
         ValueChange::Add(values) => reads_all(values.get()),
+        ValueChange::Remove(_) => {}
+        ValueChange::Replace { new, .. } => reads(new),
         ValueChange::Delete => {}
     }
 }
 
 /// The key that a refusal names: the last one, or `.` without keys.
-fn last_key(alloc: Global, keys: &[Text]) -> Result<Text, AllocError>
+pub(crate) fn last_key(alloc: Global, keys: &[Text]) -> Result<Text, AllocError>
     ensures last { IfOk result (λ key. key ≡ last_key keys.now) }
     ensures texts { All IsUtf8 keys.now }
 {
@@ -112,7 +117,7 @@ fn set_within(
 /// The steps that change the value of a slot.
 ///
 /// # Errors
-/// The faults of `set_within`, `set_all`, `add_steps` or `delete_steps`.
+/// The faults of `set_within`, `set_all`, `add_steps`, `remove_steps`, `replace_steps` or `delete_steps`.
 fn slot_steps(
     alloc: Global,
     sources: Sources<'_>,
@@ -128,6 +133,10 @@ fn slot_steps(
         ValueChange::Set(given) => set_within(alloc, sources, given, key, slot),
         ValueChange::SetAll(values) => set_all(alloc, sources, values.get(), key, slot),
         ValueChange::Add(values) => add_steps(alloc, sources, values.get(), key, slot),
+        ValueChange::Remove(values) => remove_steps(alloc, sources, values.get(), key, slot),
+        ValueChange::Replace { old, new } => {
+            replace_steps(alloc, sources, Pair { old, new }, key, slot)
+        }
         ValueChange::Delete => delete_steps(alloc, slot),
     }
 }
@@ -135,7 +144,8 @@ fn slot_steps(
 /// The steps that change the value of a name. They may be done one after another on the project.
 ///
 /// # Errors
-/// The place or the value is not found; the change does not suit the value; the file would nest too deep; or out of memory.
+/// The place or the value is not found; another target has the name that a target gets; the change does not suit the value; the file would nest too deep; or out
+/// of memory.
 pub fn argument_steps(
     alloc: Global,
     sources: Sources<'_>,
@@ -153,5 +163,6 @@ pub fn argument_steps(
     let keys = name.keys.get();
     let slot = find_slot(alloc, sources, &place, keys)?;
     let key = last_key(alloc, keys)?;
+    checked_name(alloc, sources, &key, change, &slot)?;
     slot_steps(alloc, sources, &key, change, &slot)
 }

@@ -91,7 +91,7 @@ pub(crate) fn says(
 }
 
 /// Whether an element without a name says a value.
-fn element_says(
+pub(crate) fn element_says(
     alloc: Global,
     source: &[u8],
     given: &Given,

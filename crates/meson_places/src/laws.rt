@@ -1,6 +1,8 @@
 //! Laws of places. The functions do nothing: what they ensure is the law.
 
-ghost use Rattle.meson_places.specs.Laws.{AddsToOneList, ArgumentStepsAreDoable, DeletesOneElement, FindsOneCall, KeepsKind, NewAreUnknown, SetsOneValue, SlotsAreThere};
+ghost use Rattle.meson_places.specs.Laws.{AddsToOneList, ArgumentStepsAreDoable, DeletesOneElement, FindsOneCall, KeepsKind, NewAreUnknown, NewAreWritten, RemovesWhatIsSaid, ReplacesWhatIsSaid, SetsOneValue, SlotsAreThere, ValuesAreThere};
+ghost use Rattle.meson_places.specs.ColonLaws.{TakesLastColon};
+ghost use Rattle.meson_places.specs.LineLaws.{FindsOnLine};
 
 /// What a search for a call finds is a call of the function, which has the name or is assigned to the variable. It is in the files that are searched, and no
 /// other call of the function there has the name.
@@ -8,9 +10,20 @@ pub fn finds_one_call()
     ensures { FindsOneCall }
 {}
 
+/// What a line finds is a call whose opening bracket is on that line of that file, or the value of an assignment that begins on it, and all else that begins on it
+/// is in it. Where nothing begins on it, it is the first array or dictionary that opens on it.
+pub fn finds_on_line()
+    ensures { FindsOnLine }
+{}
+
 /// The slot that keys name is there: its value, or a call or a dictionary that does not have the last key.
 pub fn slots_are_there()
     ensures { SlotsAreThere }
+{}
+
+/// An expression is where the value is that a name names.
+pub fn values_are_there()
+    ensures { ValuesAreThere }
 {}
 
 /// Setting a value that keeps its kind sets the value of that slot, and leaves all else in the trees.
@@ -21,6 +34,11 @@ pub fn sets_one_value()
 /// A value that is there is set only where the given one is of its kind, or a text for an array of texts, or code.
 pub fn keeps_kind()
     ensures { KeepsKind }
+{}
+
+/// The key whose colon a list without keys takes is before the list, and no other key before it comes later.
+pub fn takes_last_colon()
+    ensures { TakesLastColon }
 {}
 
 /// Deleting a slot removes that argument, entry or element, and leaves all else in the trees.
@@ -36,6 +54,21 @@ pub fn adds_to_one_list()
 /// No element of a list of the value says one of them.
 pub fn new_are_unknown()
     ensures { NewAreUnknown }
+{}
+
+/// What is written for the new ones is what is written for each of them.
+pub fn new_are_written()
+    ensures { NewAreWritten }
+{}
+
+/// From the lists of a value exactly those elements are removed that say one of some values.
+pub fn removes_what_is_said()
+    ensures { RemovesWhatIsSaid }
+{}
+
+/// In the lists of a value exactly those elements that say a value become another one, each in its place.
+pub fn replaces_what_is_said()
+    ensures { ReplacesWhatIsSaid }
 {}
 
 /// The steps that change a value may be done one after another.

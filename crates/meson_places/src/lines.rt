@@ -1,11 +1,12 @@
 //! What begins on a line of a file.
 
-ghost use Rattle.std.specs.Prelude.{◌≡◌, ◌==◌, filter, length, IfOk, Ok};
+ghost use Rattle.std.specs.Prelude.{◌≡◌, ◌==◌, IfOk, Ok};
 ghost use Rattle.meson_splice.specs.Files.{bytes_at};
 ghost use Rattle.std.specs.List.{filter_map, list_all};
 ghost use Rattle.meson_calls.specs.Notes.{note_view};
 ghost use Rattle.meson_calls.specs.Refusals.{RefusedAs};
 ghost use Rattle.meson_places.specs.Names.{beginning_at, first_around, leads_into, line_of, offset_of, opens_on, place_on};
+ghost use Rattle.meson_places.specs.inside.Lines.{IsLine};
 
 use meson_calls::keeper::Opened;
 use meson_calls::note::{Note, What};
@@ -16,7 +17,7 @@ use meson_splice::FileSet;
 use std::alloc::{AllocError, Global};
 
 /// The bytes of the file of a number; no bytes if there is no such file.
-fn file_bytes(files: &FileSet, file: usize) -> &[u8]
+pub(crate) fn file_bytes(files: &FileSet, file: usize) -> &[u8]
     ensures { result.now ≡ bytes_at file files.now }
 {
     if file < files.len() {
@@ -26,19 +27,60 @@ fn file_bytes(files: &FileSet, file: usize) -> &[u8]
     }
 }
 
-/// The number of line feeds.
-fn line_feeds(bytes: &[u8]) -> usize
-    ensures { result ≡ length (filter (λ b. b == 10) bytes.now) }
+/// The first and the last offset on the line of a number, counted from 1. The line feed that ends a line is on it. If there is no such line, the first is greater
+/// than the last.
+fn find_line(source: &[u8], number: usize) -> (usize, usize)
+    ensures { IsLine source.now number result.0 result.1 }
 {
-    bytes.iter().filter(|b| **b == b'\n').count()
+    let mut from = 0;
+    let mut current = 1;
+    for i in 0..source.len() {
+        if source[i] == b'\n' {
+            if current == number {
+                return (from, i);
+            }
+            current += 1;
+            from = i + 1;
+        }
+    }
+    if current == number {
+        (from, usize::MAX)
+    } else {
+        (1, 0)
+    }
 }
 
-/// The number of the line of the byte at an offset, counted from 1.
-fn line_of(bytes: &[u8], at: usize) -> usize
-    ensures { result ≡ line_of bytes.now at }
-{
-    let to = at.min(bytes.len());
-    line_feeds(&bytes[..to]) + 1
+/// A line of a source: its number, and the first and the last offset on it.
+#[derive(Clone, Copy)]
+pub(crate) struct Line<'s> {
+    source: &'s [u8],
+    number: usize,
+    from: usize,
+    to: usize,
+    ghost is_line: { IsLine source.now number from to },
+}
+
+impl<'s> Line<'s> {
+    /// The line of a number, counted from 1. The source is read once.
+    pub(crate) fn find(source: &'s [u8], number: usize) -> Self
+        ensures source { result.source.now ≡ source.entry.now }
+        ensures number { result.number ≡ number }
+    {
+        let (from, to) = find_line(source, number);
+        Line {
+            source,
+            number,
+            from,
+            to,
+        }
+    }
+
+    /// Whether an offset is on the line.
+    fn has(self, at: usize) -> bool
+        ensures { result ≡ (line_of self.entry.source.now at == self.entry.number) }
+    {
+        self.from <= at && at <= self.to
+    }
 }
 
 /// The offset of the opening bracket of a call, or that of the value of an assignment.
@@ -65,12 +107,11 @@ fn beginning_at(alloc: Global, note: &Note<'_, '_>) -> Result<CallRef, AllocErro
 /// The place of what a note is about, if it begins on this line of the file of this number.
 pub(crate) fn place_on(
     alloc: Global,
-    files: &FileSet,
     file: usize,
-    line: usize,
+    line: Line<'_>,
     note: &Note<'_, '_>,
 ) -> Result<Option<CallRef>, AllocError>
-    ensures { IfOk result (λ place. place ≡ place_on files.now file line (note_view note.now)) }
+    ensures { IfOk result (λ place. place ≡ place_on line.entry.source.now file line.entry.number (note_view note.now)) }
 {
     if note.place.file != file {
         return Ok(None);
@@ -78,34 +119,33 @@ pub(crate) fn place_on(
     let Some(at) = offset_of(note) else {
         return Ok(None);
     };
-    if line_of(file_bytes(files, file), at) != line {
+    if !line.has(at) {
         return Ok(None);
     }
     Ok(Some(beginning_at(alloc, note)?))
 }
 
-/// The place of an array or a dictionary, if its bracket opens on this line of the source.
-fn opens_on(source: &[u8], line: usize, list: Opened) -> Option<CallRef>
-    ensures { result ≡ opens_on source.now line list }
+/// The place of an array or a dictionary, if its bracket opens on this line.
+fn opens_on(line: Line<'_>, list: Opened) -> Option<CallRef>
+    ensures { result ≡ opens_on line.entry.source.now line.entry.number list }
 {
-    if line_of(source, list.at) != line {
+    if !line.has(list.at) {
         return None;
     }
     Some(list.place)
 }
 
-/// The places of those arrays and dictionaries whose bracket opens on this line of the source.
+/// The places of those arrays and dictionaries whose bracket opens on this line.
 pub(crate) fn opened_on(
     alloc: Global,
-    source: &[u8],
-    line: usize,
+    line: Line<'_>,
     lists: Vec<Opened>,
 ) -> Result<Vec<CallRef>, AllocError>
-    ensures { IfOk result (λ found. found.items ≡ filter_map (opens_on source.now line) lists.items) }
+    ensures { IfOk result (λ found. found.items ≡ filter_map (opens_on line.entry.source.now line.entry.number) lists.items) }
 {
     let mut found = Vec::new(alloc);
     for list in lists {
-        if let Some(place) = opens_on(source, line, list) {
+        if let Some(place) = opens_on(line, list) {
             found.push(place)?;
         }
     }

@@ -9,7 +9,7 @@ ghost use Rattle.meson_calls.specs.Strings.{NotesGood};
 ghost use Rattle.meson_places.specs.Names.{file_of_folder, first_list, found_by_id, found_on, is_searched, lists_on, loaded_in, numbered_file, places_by_id, places_on};
 ghost use Rattle.meson_places.specs.Names.{project_there, searched, searched_file, the_place};
 
-use crate::lines::{first_around, opened_on, place_on};
+use crate::lines::{Line, file_bytes, first_around, opened_on, place_on};
 use crate::name::Sources;
 use crate::naming::named_place;
 use meson_calls::chosen_notes::with_role;
@@ -49,9 +49,10 @@ fn places_on(
 ) -> Result<Vec<CallRef>, AllocError>
     ensures { IfOk result (λ found. found.items ≡ places_on files.now file line (note_views notes.now)) }
 {
+    let wanted = Line::find(file_bytes(files, file), line);
     let mut found = Vec::new(alloc);
     for i in 0..notes.len() {
-        if let Some(place) = place_on(alloc, files, file, line, &notes[i])? {
+        if let Some(place) = place_on(alloc, file, wanted, &notes[i])? {
             found.push(place)?;
         }
     }
@@ -73,7 +74,7 @@ fn lists_on(
     }
     let source = sources.files.bytes(file);
     let lists = lists_of(alloc, file, source, &sources.trees[file])?;
-    opened_on(alloc, source, line, lists)
+    opened_on(alloc, Line::find(source, line), lists)
 }
 
 /// Whether places of a file are searched.

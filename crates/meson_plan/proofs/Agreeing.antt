@@ -1,6 +1,6 @@
 -- A listing is made and refused as its info command is planned, and so as it is performed.
 use Rattle.std.proofs.Common.{◌≡◌, ℕ, List, [], ◌∷◌, Some, arith, refl, sym, ap, ◌∙◌, subst}
-use Rattle.std.specs.Prelude.{Result, Ok, Err, length, option_map, option_and_then, ◌≤◌}
+use Rattle.std.specs.Prelude.{Result, Ok, Err, length, ok_or, option_map, option_and_then, ◌≤◌}
 use Rattle.std.proofs.lemmas.List.Elements.{All-cons, All-nil}
 use Rattle.serde_json.specs.Data.{Data}
 use Rattle.meson_lex.specs.declared.kinds.Span.{Span}
@@ -11,10 +11,12 @@ use Rattle.meson_splice.specs.Patch.{then_ok}
 use Rattle.meson_syntax.specs.declared.tree.Parsed.{Parsed}
 use Rattle.meson_syntax.specs.Reads.{max_len}
 use Rattle.meson_syntax.specs.Tree.{Expression, call, Plain}
+use Rattle.meson_calls.specs.declared.call.CallRef.{CallRef}
 use Rattle.meson_calls.specs.declared.call.Role.{Role}
 use Rattle.meson_calls.specs.declared.call.Role.TheVariants as role
 use Rattle.meson_variables.specs.declared.source.Sources.{Sources}
 use Rattle.meson_calls.specs.declared.refusal.Refusal.{Refusal}
+use Rattle.meson_calls.specs.declared.refusal.Refusal.TheVariants.{NotFound}
 use Rattle.meson_calls.specs.CallPlaces.{call_at}
 use Rattle.meson_calls.specs.Calls.{Call, call_of, keyword}
 use Rattle.meson_calls.specs.Finding.{the_call}
@@ -24,6 +26,7 @@ use Rattle.meson_variables.specs.TargetSources.{sources_of_marks, source_marks, 
 use Rattle.meson_calls.specs.NamedArguments.{once, sources_key}
 use Rattle.meson_sources.specs.Extras.{extra_files, extra_of_call}
 use Rattle.meson_sources.specs.SourceEdits.{extra_key, extra_marks}
+use Rattle.meson_steps.specs.declared.argument.ValueName.{ValueName}
 use Rattle.meson_steps.specs.declared.command.Command.{Command}
 use Rattle.meson_steps.specs.declared.command.Command.TheVariants as command
 use Rattle.meson_steps.specs.declared.command.Done.{Done}
@@ -38,9 +41,13 @@ use Rattle.meson_plan.specs.Performing.{MayRefuse, Performs, unplanned, deep, la
 use Rattle.meson_details.specs.Once.{call_told}
 use Rattle.meson_plan.specs.Planning.{Means, call_asked, target_told}
 use Rattle.meson_listing.specs.Entries.{call_data, target_data}
-use Rattle.meson_plan.specs.ListingLaws.{CallsAgree, CallsListed, DoesNothing, IsListedAs, TargetsAgree, TargetsListed, no_steps}
+use Rattle.meson_listing.specs.Values.{value_data}
+use Rattle.meson_places.proofs.ValuesThere.{values_are_there}
+use Rattle.meson_places.specs.NamedValues.{value_place}
+use Rattle.meson_plan.specs.ListingLaws.{CallsAgree, CallsListed, DoesNothing, IsListedAs, TargetsAgree, TargetsListed, ValuesListed, no_steps}
 use Rattle.meson_plan.specs.Listing as listing
-use Rattle.meson_plan.specs.Listing.{kwargs_listing, or_not_found, target_at, target_listing}
+use Rattle.meson_plan.specs.Listing.{kwargs_listing, or_not_found, target_at, target_listing, value_listing}
+use Rattle.meson_plan.specs.Values.{found_at, found_in}
 
 -- ---- the call that is found has a head
 
@@ -128,6 +135,17 @@ calls_agree l r id = found_then (the_call (project l) r id) _ _ (λ c found. her
         ap (λ o. no_steps (or_not_found o)) (call_listing_is l c at r)
         ∙ told_then (call_told r c.it) _ (call_data l.files c.place.file (has_head at.value c.it at.is_call).told)
 
+-- a value is reported where its place is found
+pub values_agree : (l : Loaded) (n : ValueName) → no_steps (value_listing l n) ≡ then_ok (value_place l n) (λ (c : CallRef). Ok [])
+values_agree l n = go (value_place l n) refl
+  where
+    go : (r : Result CallRef Refusal) → value_place l n ≡ r
+        → no_steps (then_ok (then_ok r (λ c. ok_or (found_at l c) NotFound)) (λ v. Ok (value_data l.files v.file v.span.from v.details))) ≡ then_ok r (λ (c : CallRef). Ok [])
+    go (Err e) is = refl
+    go (Ok c) is =
+        let there = values_are_there l n c is in
+        ap (λ o. no_steps (then_ok (ok_or (option_map (found_in (bytes_at c.file l.files) c.file) o) NotFound) (λ v. Ok (value_data l.files v.file v.span.from v.details)))) there.1
+
 -- ---- commands that are performed
 
 is_made : (x : Result Data Refusal) (steps : List Step) → no_steps x ≡ Ok steps → (d : Data) × (x ≡ Ok d)
@@ -193,3 +211,6 @@ targets_listed l id = listed_as l (command.TargetInfo id) (target_listing l id) 
 
 pub calls_listed : CallsListed
 calls_listed l r id = listed_as l (command.KwargsInfo r id) (kwargs_listing l r id) (sym (calls_agree l r id)) (λ m is. calls_agree l r id ∙ is)
+
+pub values_listed : ValuesListed
+values_listed l n = listed_as l (command.ArgumentInfo n) (value_listing l n) (sym (values_agree l n)) (λ m is. values_agree l n ∙ is)

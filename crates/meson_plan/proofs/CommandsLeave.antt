@@ -109,7 +109,7 @@ module _ (old new : Loaded) (c : Command) (done : Done) (is : IsProject old) (p 
       record { file = t.0; is_file = t.1; named = t.2 }
 
   value_left : (name : ValueName) (change : ValueChange) → Means old (command.Argument name change) (Ok p.made.steps) → ValueLeft old name change (plain_trees old) (plain_trees new)
-  value_left name change means = values_left old name change means.0 p.made.steps (plain_trees new) means.1 stepped
+  value_left name change means = values_left old is name change means.0 p.made.steps (plain_trees new) means.1 stepped
 
 pub commands-leave : CommandsLeave
 commands-leave old new (command.SourcesAdd id names) done is p = sources_come old new (command.SourcesAdd id names) done is p id names p.made.are_planned

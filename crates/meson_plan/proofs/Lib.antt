@@ -10,3 +10,4 @@ mod KeptAfter
 pub mod Agreeing
 mod Unlisted
 mod Answered
+pub mod ExpressionTexts

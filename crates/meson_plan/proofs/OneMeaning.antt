@@ -1,10 +1,11 @@
 -- A command means one thing of the files and trees of a project.
-use Rattle.std.proofs.Common.{◌≡◌, sym, ap₂, ◌∙◌}
+use Rattle.std.proofs.Common.{◌≡◌, [], Ok, sym, ap, ap₂, ◌∙◌}
+use Rattle.meson_splice.specs.Patch.{then_ok}
 use Rattle.meson_calls.specs.Loading.{Loaded, named_trees, project, trees}
 use Rattle.meson_steps.specs.Done.{Meaning}
 use Rattle.meson_steps.specs.declared.command.Command.{Command}
 use Rattle.meson_steps.specs.declared.command.Command.TheVariants as command
-use Rattle.meson_places.proofs.OneMeaning.{arguments_one, arguments_same}
+use Rattle.meson_places.proofs.OneMeaning.{arguments_one, arguments_same, value_places_same}
 use Rattle.meson_plan.specs.Planning.{Means, planned}
 
 pub means-one : (l : Loaded) (c : Command) (r s : Meaning) → Means l c r → Means l c s → r ≡ s
@@ -23,6 +24,7 @@ means-one l (command.KwargsInfo r id) m n p q = sym p ∙ q
 means-one l (command.OptionsSet pairs) m n p q = sym p ∙ q
 means-one l (command.OptionsDelete names) m n p q = sym p ∙ q
 means-one l (command.Argument name change) m n p q = sym p.1 ∙ arguments_one l name change p.0 q.0 ∙ q.1
+means-one l (command.ArgumentInfo name) m n p q = sym p ∙ q
 
 module _ (l k : Loaded) (same_files : l.files ≡ k.files) (same_trees : trees l ≡ trees k) where
   same-plan : (c : Command) (m : Meaning) → planned (project l) c ≡ m → planned (project k) c ≡ m
@@ -43,4 +45,5 @@ module _ (l k : Loaded) (same_files : l.files ≡ k.files) (same_trees : trees l
   means-same (command.KwargsInfo r id) m is = same-plan (command.KwargsInfo r id) m is
   means-same (command.OptionsSet pairs) m is = same-plan (command.OptionsSet pairs) m is
   means-same (command.OptionsDelete names) m is = same-plan (command.OptionsDelete names) m is
+  means-same (command.ArgumentInfo name) m is = sym (ap (λ r. then_ok r (λ c. Ok [])) (value_places_same l k same_files same_trees name)) ∙ is
   means-same (command.Argument name change) m is = (is.0, sym (arguments_same l k same_files same_trees name change is.0) ∙ is.1)

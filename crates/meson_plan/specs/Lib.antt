@@ -4,4 +4,5 @@ pub mod Details
 pub mod Listing
 pub mod ListingLaws
 pub mod Effects
+pub mod Values
 pub mod inside

@@ -1,4 +1,4 @@
--- What an info command lists of the call that an id names, by the files and trees of the project. Meson manual, Rewriter.
+-- What an info command lists of the call that an id names, or of the value that a name names, by the files and trees of the project. Meson manual, Rewriter.
 use Rattle.std.specs.Prelude.{ℕ, Bool, true, false, List, [], ◌∷◌, Option, Some, None, option_map, option_and_then, Result, Ok, Err}
 use Rattle.serde_json.specs.Data.{Data}
 use Rattle.meson_splice.specs.Patch.{then_ok}
@@ -9,12 +9,15 @@ use Rattle.meson_calls.specs.declared.refusal.Refusal.{Refusal}
 use Rattle.meson_calls.specs.declared.refusal.Refusal.TheVariants.{NotFound}
 use Rattle.meson_calls.specs.Finding.{the_call}
 use Rattle.meson_calls.specs.Loading.{Loaded, project}
+use Rattle.meson_steps.specs.declared.argument.ValueName.{ValueName}
 use Rattle.meson_steps.specs.declared.command.Command.{Command}
 use Rattle.meson_steps.specs.declared.command.Command.TheVariants as command
 use Rattle.meson_variables.specs.TargetSources.{sources}
 use Rattle.meson_sources.specs.Extras.{extra_files}
 use Rattle.meson_details.specs.Details.{head, keywords}
 use Rattle.meson_listing.specs.Entries.{target_data, call_data}
+use Rattle.meson_listing.specs.Values.{value_data}
+use Rattle.meson_plan.specs.Values.{the_value}
 
 -- of the call at a place, if there is one
 abbrev pub target_at : Loaded → CallRef → Option (Result Data Refusal)
@@ -38,15 +41,21 @@ target_listing l id = then_ok (the_call (project l) role.Target id) (λ c. or_no
 abbrev pub kwargs_listing : Loaded → Role → List ℕ → Result Data Refusal
 kwargs_listing l r id = then_ok (the_call (project l) r id) (λ c. or_not_found (call_listing l r c.place))
 
+-- of the value that a name names
+abbrev pub value_listing : Loaded → ValueName → Result Data Refusal
+value_listing l n = then_ok (the_value l n) (λ v. Ok (value_data l.files v.file v.span.from v.details))
+
 -- ---- what a command reports of the files and trees as they are: an info command its listing, the others nothing
 
 abbrev pub told : Loaded → Command → Result (List Data) Refusal
 told l (command.TargetInfo target) = then_ok (target_listing l target) (λ d. Ok (d ∷ []))
 told l (command.KwargsInfo role id) = then_ok (kwargs_listing l role id) (λ d. Ok (d ∷ []))
+told l (command.ArgumentInfo name) = then_ok (value_listing l name) (λ d. Ok (d ∷ []))
 told l _ = Ok []
 
 -- whether a command only reports, and changes nothing
 abbrev pub asks : Command → Bool
 asks (command.TargetInfo target) = true
 asks (command.KwargsInfo role id) = true
+asks (command.ArgumentInfo name) = true
 asks _ = false

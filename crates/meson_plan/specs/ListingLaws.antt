@@ -1,17 +1,22 @@
 -- What the listings promise, in terms of the commands.
-use Rattle.std.specs.Prelude.{◌≡◌, ℕ, List, [], Result, Ok, Err}
+use Rattle.std.specs.Prelude.{◌≡◌, ℕ, List, [], map, Result, Ok, Err}
 use Rattle.serde_json.specs.Data.{Data}
+use Rattle.meson_lex.specs.declared.kinds.Span.{Span}
 use Rattle.meson_splice.specs.Patch.{then_ok}
+use Rattle.meson_syntax.specs.Tree.{Argument, plain, named, pair, Expression}
 use Rattle.meson_calls.specs.declared.call.Role.{Role}
 use Rattle.meson_calls.specs.declared.refusal.Refusal.{Refusal}
 use Rattle.meson_calls.specs.Loading.{Loaded, IsProject, project}
+use Rattle.meson_details.specs.Details.{shown_value}
+use Rattle.meson_details.specs.Values.{contents}
+use Rattle.meson_steps.specs.declared.argument.ValueName.{ValueName}
 use Rattle.meson_steps.specs.declared.command.Command.{Command}
 use Rattle.meson_steps.specs.declared.command.Command.TheVariants as command
 use Rattle.meson_steps.specs.declared.command.Done.{Done}
 use Rattle.meson_steps.specs.Steps.{Step}
 use Rattle.meson_plan.specs.Performing.{MayRefuse, Performs}
 use Rattle.meson_plan.specs.Planning.{planned}
-use Rattle.meson_plan.specs.Listing.{target_listing, kwargs_listing}
+use Rattle.meson_plan.specs.Listing.{target_listing, kwargs_listing, value_listing}
 
 -- ---- A listing is made exactly if its info command can be planned, which has no steps, and it is refused in the same way.
 
@@ -42,3 +47,17 @@ TargetsListed = (l : Loaded) (id : List ℕ) → IsListedAs l (command.TargetInf
 
 abbrev pub CallsListed : Type 0
 CallsListed = (l : Loaded) (r : Role) (id : List ℕ) → IsListedAs l (command.KwargsInfo r id) (kwargs_listing l r id)
+
+abbrev pub ValuesListed : Type 0
+ValuesListed = (l : Loaded) (n : ValueName) → IsListedAs l (command.ArgumentInfo n) (value_listing l n)
+
+-- ---- What is reported of a call, an array or a dictionary are the values of all its elements, each once and in their order.
+
+-- of an entry what is after its colon
+abbrev pub element_value : {S : Type 0} → Argument S → Expression S
+element_value (plain e) = e
+element_value (named s x e) = e
+element_value (pair s k v) = v
+
+abbrev pub ContentsAreAll : Type 0
+ContentsAreAll = (source : List ℕ) (xs : List (Argument Span)) → map (λ c. c.1) (contents source xs) ≡ map (λ x. shown_value source (element_value x)) xs

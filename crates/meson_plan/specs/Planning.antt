@@ -17,6 +17,7 @@ use Rattle.meson_targets.specs.TargetEdits.{target_added, target_removed}
 use Rattle.meson_keywords.specs.Tasks.{each_made, set_entry, delete_entry, add_entry, remove_entry, set_option_entry, delete_option_entry}
 use Rattle.meson_keywords.specs.TaskSteps.{call_changed}
 use Rattle.meson_places.specs.Arguments.{MayBeMade, argument_steps}
+use Rattle.meson_places.specs.NamedValues.{value_place}
 use Rattle.meson_steps.specs.Done.{Meaning}
 use Rattle.meson_steps.specs.Steps.{Step}
 
@@ -30,7 +31,7 @@ call_asked r c = then_ok (call_told r c) (λ _. Ok [])
 
 -- ---- commands
 
--- what a command means by the calls of a project alone; nothing where a value is changed
+-- what a command means by the calls of a project alone; nothing where a value is changed or reported
 abbrev pub planned : {S : Type 0} → Project S → Command → Result (List Step) Refusal
 planned p (command.SourcesAdd target sources) = then_ok (the_call p role.Target target) (λ c. sources_added p c sources)
 planned p (command.SourcesRemove target sources) = then_ok (the_call p role.Target target) (λ c. sources_removed p c sources)
@@ -47,8 +48,11 @@ planned p (command.KwargsInfo r id) = then_ok (the_call p r id) (λ c. call_aske
 planned p (command.OptionsSet pairs) = then_ok (the_call p role.Project (codes "/")) (call_changed p (each_made set_option_entry pairs))
 planned p (command.OptionsDelete names) = then_ok (the_call p role.Project (codes "/")) (call_changed p (each_made delete_option_entry names))
 planned p (command.Argument name change) = Ok []
+planned p (command.ArgumentInfo name) = Ok []
 
--- What a command means. A change of a value, whose values may be given, also reads the files: where lines begin, and how its neighbours are written.
+-- What a command means. A change of a value, whose values may be given, also reads the files: where lines begin, and how its neighbours are written. A value
+-- that is reported has to be there.
 abbrev pub Means : Loaded → Command → Meaning → Type 0
 Means l (command.Argument name change) meant = (may : MayBeMade change) × (argument_steps l name change may ≡ meant)
+Means l (command.ArgumentInfo name) meant = then_ok (value_place l name) (λ c. Ok []) ≡ meant
 Means l c meant = planned (project l) c ≡ meant

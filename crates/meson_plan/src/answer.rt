@@ -10,7 +10,7 @@ ghost use Rattle.meson_plan.specs.ListingLaws.{DoesNothing};
 ghost use Rattle.meson_plan.specs.Performing.{KeepsUntouched, MayRefuse, Performs};
 ghost use Rattle.meson_splice.specs.Patch.{patched_all};
 
-use crate::listing::{info_kwargs, info_target};
+use crate::listing::{info_argument, info_kwargs, info_target};
 use crate::project::Project;
 use meson_calls::Refusal;
 use meson_splice::{Change, Many};
@@ -32,7 +32,7 @@ pub fn asks(command: &Command) -> bool
 {
     matches!(
         command,
-        Command::TargetInfo { .. } | Command::KwargsInfo { .. }
+        Command::TargetInfo { .. } | Command::KwargsInfo { .. } | Command::ArgumentInfo { .. }
     )
 }
 
@@ -75,6 +75,11 @@ impl Project {
             }
             Command::KwargsInfo { role, id } => {
                 let listing = info_kwargs(alloc, self, *role, id.get())?;
+                let answer = listed(alloc, listing)?;
+                Ok(answer)
+            }
+            Command::ArgumentInfo { name } => {
+                let listing = info_argument(alloc, self, name)?;
                 let answer = listed(alloc, listing)?;
                 Ok(answer)
             }

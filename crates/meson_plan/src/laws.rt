@@ -1,7 +1,7 @@
 //! Laws of commands and of what they report. The functions do nothing: what they ensure is the law.
 
 ghost use Rattle.meson_plan.specs.Effects.{CommandsLeave};
-ghost use Rattle.meson_plan.specs.ListingLaws.{CallsAgree, CallsListed, TargetsAgree, TargetsListed};
+ghost use Rattle.meson_plan.specs.ListingLaws.{CallsAgree, CallsListed, ContentsAreAll, TargetsAgree, TargetsListed, ValuesListed};
 
 /// What is there after a command that is performed. A command on keyword arguments or options names one call. Of that call it leaves what it says, and nothing
 /// else. A key that is set has the new value alone, and one that is deleted has none. Values that are added are after the old ones, and those that are removed
@@ -31,4 +31,14 @@ pub fn targets_listed()
 /// The same for keyword arguments.
 pub fn calls_listed()
     ensures { CallsListed }
+{}
+
+/// The same for a value.
+pub fn values_listed()
+    ensures { ValuesListed }
+{}
+
+/// The listing of a call, an array or a dictionary has the values of all its elements, each once and in their order.
+pub fn contents_are_all()
+    ensures { ContentsAreAll }
 {}

@@ -9,12 +9,15 @@ pub mod listing;
 mod order;
 mod planning;
 mod project;
+mod values;
 
 pub use answer::Answer;
 pub use details::TargetDetails;
-pub use listing::{info_kwargs, info_target};
+pub use listing::{info_argument, info_kwargs, info_target};
 pub use meson_calls::{CallRef, LoadFault, MAX_FILES, Refusal, Role, Unloaded, subdirs};
 pub use meson_details::{Head, Shown};
+pub use meson_steps::argument::ValueName;
 pub use meson_steps::command::{Command, Done, Setting};
 pub use meson_variables::{SourceItem, Sources};
 pub use project::Project;
+pub use values::{FoundValue, find_value};

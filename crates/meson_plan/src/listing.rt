@@ -1,14 +1,16 @@
-//! The listing of the one call that an id names.
+//! The listing of the one call that an id names, and that of the value that a name names.
 
 ghost use Rattle.std.specs.Prelude.{◌≡◌, IfOk, Ok};
 ghost use Rattle.serde_json.specs.View.{view};
 ghost use Rattle.meson_calls.specs.Refusals.{RefusedAs};
-ghost use Rattle.meson_plan.specs.Listing.{kwargs_listing, target_listing};
+ghost use Rattle.meson_plan.specs.Listing.{kwargs_listing, target_listing, value_listing};
 
 use crate::details::TargetDetails;
 use crate::project::Project;
+use crate::values::find_value;
 use meson_calls::{Refusal, Role};
-use meson_listing::{call_object, target_object};
+use meson_listing::{call_object, target_object, value_object};
+use meson_steps::argument::ValueName;
 use serde_json::Value;
 use std::alloc::Global;
 
@@ -43,4 +45,17 @@ pub fn info_kwargs(alloc: Global, project: &Project, role: Role, id: &str) -> Re
     let keywords = project.keywords(alloc, role, &call)?;
     let listing = call_object(alloc, project.files(), call.file, head, keywords)?;
     Ok(listing)
+}
+
+/// What is reported of a value: where it is, of a call its function and name, what is in a call, an array or a dictionary, and any other value itself.
+///
+/// # Errors
+/// The place or the value is not found, or out of memory.
+pub fn info_argument(alloc: Global, project: &Project, name: &ValueName) -> Result<Value, Refusal>
+    ensures listed { IfOk result (λ v. value_listing project.now name.now ≡ Ok (view v)) }
+    ensures refused { RefusedAs result (value_listing project.now name.now) }
+{
+    let value = find_value(alloc, project, name)?;
+    let files = project.files();
+    Ok(value_object(alloc, files, value.file, value.span.from, value.details)?)
 }

@@ -114,6 +114,7 @@ pub(crate) fn order_of(command: &Command) -> Order<'_>
         Command::TargetRemove { target } => Order::Planned(Plan::RemoveTarget(target.get())),
         Command::TargetInfo { .. } => unreachable!(),
         Command::KwargsInfo { .. } => unreachable!(),
+        Command::ArgumentInfo { .. } => unreachable!(),
         Command::KwargsSet { role, id, pairs } => {
             Order::Changed(on_call(*role, id, AskedWords::Set(pairs.get())))
         }

@@ -68,6 +68,10 @@ words_advice json words = option_map (λ w. plain_advice json w.0 w.1) words
 abbrev pub take_back : List ℕ
 take_back = codes "git diff shows what was changed since the run: take that back, or remove meson.rewrite-log and use git"
 
+-- what is done where there is no run to take back or to do again
+abbrev pub kept_runs : List ℕ
+kept_runs = codes "history lists the runs that can be undone and redone; a run with --no-log, or with another --sourcedir, is not among them"
+
 -- of a change of the log that is not taken back or done again
 abbrev pub splice_words : SpliceFault → Option (List ℕ × List ℕ)
 splice_words (splice.NoFile name) = Some (
@@ -76,7 +80,9 @@ splice_words (splice.NoFile name) = Some (
 )
 splice_words (splice.OutOfRange name place) = Some (codes "the log has bytes at " ++ (decimal place ++ (codes " of " ++ (name ++ codes ", which ends before them"))), take_back)
 splice_words (splice.Stale name place) = Some (codes "at byte " ++ (decimal place ++ (codes " of " ++ (name ++ codes " are other bytes than the log has"))), take_back)
-splice_words _ = None
+splice_words splice.NothingToUndo = Some (codes "the log has no run to take back, or fewer than the words say", kept_runs)
+splice_words splice.NothingToRedo = Some (codes "no run was taken back since the newest one", kept_runs)
+splice_words splice.OutOfMemory = None
 
 abbrev pub fault_advice : Bool → Stop → Option Advice
 fault_advice json (Parse name (Some text) fault advice) = Some (file_advice json name text fault)

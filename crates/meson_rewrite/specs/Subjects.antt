@@ -7,7 +7,7 @@ use Rattle.meson_explaining.specs.Names.{meant_name}
 use Rattle.meson_steps.specs.declared.argument.PlaceName.{PlaceName}
 use Rattle.meson_steps.specs.declared.argument.PlaceName.TheVariants as name
 use Rattle.meson_steps.specs.declared.command.Command.{Command}
-use Rattle.meson_steps.specs.declared.command.Command.TheVariants.{SourcesAdd, SourcesRemove, ExtraAdd, ExtraRemove, TargetAdd, TargetRemove, TargetInfo, KwargsSet, KwargsAdd, KwargsRemove, KwargsDelete, KwargsInfo, OptionsSet, OptionsDelete, Argument}
+use Rattle.meson_steps.specs.declared.command.Command.TheVariants.{SourcesAdd, SourcesRemove, ExtraAdd, ExtraRemove, TargetAdd, TargetRemove, TargetInfo, KwargsSet, KwargsAdd, KwargsRemove, KwargsDelete, KwargsInfo, OptionsSet, OptionsDelete, Argument, ArgumentInfo}
 
 -- the id of a call or a variable; a line has none
 abbrev pub id_in : PlaceName → Option (List ℕ)
@@ -33,6 +33,7 @@ id_of (KwargsInfo role id) = Some id
 id_of (OptionsSet pairs) = None
 id_of (OptionsDelete names) = None
 id_of (Argument n change) = id_in n.place.name
+id_of (ArgumentInfo n) = id_in n.place.name
 
 -- the folder of a new target
 abbrev pub folder_of : Command → Option (List ℕ)

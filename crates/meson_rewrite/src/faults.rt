@@ -18,6 +18,10 @@ use std::alloc::{AllocError, Global};
 const TAKE_BACK: &str =
     "git diff shows what was changed since the run: take that back, or remove meson.rewrite-log and use git";
 
+/// What may be done where there is no run to take back or to do again.
+const KEPT_RUNS: &str =
+    "history lists the runs that can be undone and redone; a run with --no-log, or with another --sourcedir, is not among them";
+
 /// What may be done about a project of too many files.
 const FOLDER_BELOW: &str = "--sourcedir names a folder below, whose project has fewer";
 
@@ -146,9 +150,18 @@ fn splice_words(
             format!(in alloc; "at byte {at} of {name} are other bytes than the log has")?,
             TAKE_BACK,
         ))),
-        SpliceFault::NothingToUndo | SpliceFault::NothingToRedo | SpliceFault::OutOfMemory => {
-            Ok(None)
-        }
+        SpliceFault::NothingToUndo => Ok(Some((
+            String::from_str(
+                alloc,
+                "the log has no run to take back, or fewer than the words say",
+            )?,
+            KEPT_RUNS,
+        ))),
+        SpliceFault::NothingToRedo => Ok(Some((
+            String::from_str(alloc, "no run was taken back since the newest one")?,
+            KEPT_RUNS,
+        ))),
+        SpliceFault::OutOfMemory => Ok(None),
     }
 }
 

@@ -38,7 +38,9 @@ fn id_of(command: &Command) -> Option<&Text>
         | Command::KwargsDelete { id, .. }
         | Command::KwargsInfo { id, .. } => Some(id),
         Command::OptionsSet { .. } | Command::OptionsDelete { .. } => None,
-        Command::Argument { name, .. } => id_in(&name.place.name),
+        Command::Argument { name, .. } | Command::ArgumentInfo { name } => {
+            id_in(&name.place.name)
+        }
     }
 }
 

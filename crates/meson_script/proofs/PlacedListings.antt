@@ -24,19 +24,23 @@ use Rattle.meson_sources.specs.Extras.{extra_files}
 use Rattle.meson_details.specs.Details.{head, keywords}
 use Rattle.meson_details.specs.declared.details.Head.{Head}
 use Rattle.meson_details.specs.declared.details.Shown.{Shown}
+use Rattle.meson_steps.specs.declared.argument.ValueName.{ValueName}
 use Rattle.meson_steps.specs.declared.command.Command.{Command}
 use Rattle.meson_steps.specs.declared.command.Command.TheVariants as command
 use Rattle.meson_listing.specs.Entries.{call_data, target_data}
+use Rattle.meson_listing.specs.Values.{value_data}
 use Rattle.meson_plan.specs.Details as details
 use Rattle.meson_plan.specs.Details.{no_extra, no_sources, place_found, untold}
-use Rattle.meson_plan.specs.Listing.{asks, call_listing, kwargs_listing, or_not_found, target_at, target_listing, told}
+use Rattle.meson_plan.specs.Listing.{asks, call_listing, kwargs_listing, or_not_found, target_at, target_listing, told, value_listing}
+use Rattle.meson_plan.specs.Values.{the_value}
+use Rattle.meson_plan.specs.declared.values.FoundValue.{FoundValue}
 use Rattle.meson_plan.specs.declared.details.TargetDetails.{TargetDetails}
-use Rattle.meson_inventory.specs.Info.{HasNoCallInfo, HasNoInfo, HasNoTargetInfo, IsCallInfo, IsInfo, IsTargetInfo, keyword_place_data, not_found, offset_data, placed_item_data, placed_items_data, placed_kwargs_data, placed_target_data, places_data, places_of_call, put_places, span_at, twice, with_members, with_position}
+use Rattle.meson_inventory.specs.Info.{HasNoCallInfo, HasNoInfo, HasNoTargetInfo, HasNoValueInfo, IsCallInfo, IsInfo, IsTargetInfo, IsValueInfo, keyword_place_data, not_found, offset_data, placed_item_data, placed_items_data, placed_kwargs_data, placed_target_data, places_data, places_of_call, put_places, span_at, twice, with_members, with_position}
 use Rattle.meson_inventory.specs.Placed.{character_at, line_at}
 use Rattle.meson_script.specs.declared.listings.ListingForm.{ListingForm}
 use Rattle.meson_script.specs.declared.listings.ListingForm.TheVariants.{Plain, Placed}
 use Rattle.meson_script.specs.Listings.{Added, Lists, listings_text}
-use Rattle.meson_script.proofs.PlainListings.{AllPlain, all-plain, call-plain, either, put-plain, target-plain, text-plain, told-plain}
+use Rattle.meson_script.proofs.PlainListings.{AllPlain, all-plain, call-plain, either, put-plain, target-plain, text-plain, told-plain, value-plain}
 
 -- ---- numbers
 
@@ -87,9 +91,17 @@ call-info-plain : (l : Loaded) (role : Role) (id : List ℕ) (d : Data) → IsCa
 call-info-plain l role id d i =
     ap has_float i.is ∙ kwargs-placed-plain l.files i.place.file (span_at l i.place) i.its_head i.pairs (places_of_call role (expression_at (project l) i.place))
 
+value-info-plain : (l : Loaded) (n : ValueName) (d : Data) → IsValueInfo l n d → has_float d ≡ false
+value-info-plain l n d i =
+    let v = i.value in
+    ap has_float i.is
+    ∙ members-plain (with_position l.files v.file v.span) (value_data l.files v.file v.span.from v.details) (value-plain l.files v.file v.span.from v.details)
+    (λ ms p. position-plain l.files v.file v.span ms p)
+
 info-plain : (l : Loaded) (c : Command) (d : Data) → IsInfo l c (Some d) → has_float d ≡ false
 info-plain l (command.TargetInfo id) d i = target-info-plain l id d i
 info-plain l (command.KwargsInfo role id) d i = call-info-plain l role id d i
+info-plain l (command.ArgumentInfo name) d i = value-info-plain l name d i
 info-plain l (command.SourcesAdd target sources) d i = absurd (let no : ⊥ = cc in no)
 info-plain l (command.SourcesRemove target sources) d i = absurd (let no : ⊥ = cc in no)
 info-plain l (command.ExtraAdd target sources) d i = absurd (let no : ⊥ = cc in no)
@@ -164,6 +176,13 @@ no-call-listing l role id why d (twice place w is none) told =
     let there = at-place (the_call (project l) role id) place is (λ q. or_not_found (call_listing l role q)) d told in
     no-pairs-listed l.files place.file (head (project l) place) w d (subst (λ ks. call-of l.files place.file (head (project l) place) ks ≡ Ok d) none there)
 
+no-value : (r : Result FoundValue Refusal) (why : Refusal) (f : FoundValue → Result Data Refusal) (d : Data) → r ≡ Err why → then_ok r f ≡ Ok d → ⊥
+no-value (Ok v) why f d is told = let no : ⊥ = cc in no
+no-value (Err e) why f d is told = let no : ⊥ = cc in no
+
+no-value-listing : (l : Loaded) (n : ValueName) (why : Refusal) (d : Data) → HasNoValueInfo l n why → value_listing l n ≡ Ok d → ⊥
+no-value-listing l n why d h told = no-value (the_value l n) why (λ v. Ok (value_data l.files v.file v.span.from v.details)) d h told
+
 one-told : (r : Result Data Refusal) (ds : List Data) → then_ok r (λ d. let it : Result (List Data) Refusal = Ok (d ∷ []) in it) ≡ Ok ds → (d : Data) × (r ≡ Ok d)
 one-told (Ok d) ds is = (d, refl)
 one-told (Err e) ds is = absurd (let no : ⊥ = cc in no)
@@ -171,6 +190,7 @@ one-told (Err e) ds is = absurd (let no : ⊥ = cc in no)
 pub no-info : (l : Loaded) (c : Command) (why : Refusal) (ds : List Data) → HasNoInfo l c why → told l c ≡ Ok ds → ⊥
 no-info l (command.TargetInfo id) why ds h is = let d = one-told (target_listing l id) ds is in no-target-listing l id why d.0 h d.1
 no-info l (command.KwargsInfo role id) why ds h is = let d = one-told (kwargs_listing l role id) ds is in no-call-listing l role id why d.0 h d.1
+no-info l (command.ArgumentInfo name) why ds h is = let d = one-told (value_listing l name) ds is in no-value-listing l name why d.0 h d.1
 no-info l (command.SourcesAdd target sources) why ds h is = h
 no-info l (command.SourcesRemove target sources) why ds h is = h
 no-info l (command.ExtraAdd target sources) why ds h is = h
@@ -194,6 +214,7 @@ lists-in Placed l c none is = (None, is, refl)
 lists-nothing : (l : Loaded) (c : Command) → asks c ≡ false → (told l c ≡ Ok []) × IsInfo l c None
 lists-nothing l (command.TargetInfo id) quiet = absurd (let bad : ⊥ = cc in bad)
 lists-nothing l (command.KwargsInfo role id) quiet = absurd (let bad : ⊥ = cc in bad)
+lists-nothing l (command.ArgumentInfo name) quiet = absurd (let bad : ⊥ = cc in bad)
 lists-nothing l (command.SourcesAdd target ss) quiet = (refl, refl)
 lists-nothing l (command.SourcesRemove target ss) quiet = (refl, refl)
 lists-nothing l (command.ExtraAdd target ss) quiet = (refl, refl)

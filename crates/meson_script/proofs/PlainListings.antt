@@ -17,14 +17,21 @@ use Rattle.meson_calls.specs.Finding.{the_call}
 use Rattle.meson_calls.specs.Loading.{Loaded, project}
 use Rattle.meson_variables.specs.TargetSources.{sources}
 use Rattle.meson_sources.specs.Extras.{extra_files}
+use Rattle.meson_steps.specs.declared.argument.ValueName.{ValueName}
 use Rattle.meson_steps.specs.declared.command.Command.{Command}
 use Rattle.meson_steps.specs.declared.command.Command.TheVariants as command
 use Rattle.meson_details.specs.Details.{head, keywords}
+use Rattle.meson_details.specs.declared.details.ArgumentKey.{ArgumentKey}
+use Rattle.meson_details.specs.declared.details.ArgumentKey.TheVariants as key
 use Rattle.meson_details.specs.declared.details.Head.{Head}
 use Rattle.meson_details.specs.declared.details.Shown.{Shown}
 use Rattle.meson_details.specs.declared.details.Shown.TheVariants as shown
+use Rattle.meson_details.specs.declared.details.ValueDetails.{ValueDetails}
+use Rattle.meson_details.specs.declared.details.ValueDetails.TheVariants as details
 use Rattle.meson_listing.specs.Entries.{call_data, id_data, item_data, put_each, shown_data, target_data, text_or_null}
-use Rattle.meson_plan.specs.Listing.{call_listing, kwargs_listing, or_not_found, target_at, target_listing, told}
+use Rattle.meson_listing.specs.Values.{content_data, key_data, told_data, value_data}
+use Rattle.meson_plan.specs.Listing.{call_listing, kwargs_listing, or_not_found, target_at, target_listing, told, value_listing}
+use Rattle.meson_plan.specs.Values.{the_value}
 
 -- ---- the parts
 
@@ -86,6 +93,27 @@ pub all-plain : {X : Type 0} (data_of : X → Data) (xs : List X) → ((x : X) �
 all-plain data_of [] plain = refl
 all-plain data_of (x ∷ xs) plain = either (has_float (data_of x)) (items_have_float (items_of (map data_of xs))) (plain x) (all-plain data_of xs plain)
 
+-- ---- what is in a value
+
+told-data-plain : (s : Shown) → has_float (told_data s) ≡ false
+told-data-plain (shown.Text text) = refl
+told-data-plain (shown.Bool b) = refl
+told-data-plain (shown.Id name) = refl
+told-data-plain (shown.Texts texts) = texts-plain texts
+told-data-plain (shown.Ids names) = ids-plain names
+told-data-plain (shown.Opaque text) = refl
+
+key-plain : (k : ArgumentKey) → has_float (key_data k) ≡ false
+key-plain (key.Number n) = refl
+key-plain (key.Text text) = refl
+key-plain (key.Code text) = refl
+
+content-plain : (c : ArgumentKey × Shown) → has_float (content_data c) ≡ false
+content-plain c = rw (key-plain c.0, told-data-plain c.1) refl
+
+contents-plain : (cs : List (ArgumentKey × Shown)) → items_have_float (items_of (map content_data cs)) ≡ false
+contents-plain cs = all-plain content_data cs content-plain
+
 -- ---- a listing, if it is made
 
 abbrev Plain : Result Data Refusal → Type 0
@@ -129,6 +157,15 @@ call-listing-plain : (l : Loaded) (r : Role) (id : List ℕ) → Plain (kwargs_l
 call-listing-plain l r id = then-plain (the_call (project l) r id) _ (λ c. or-plain (call_listing l r c.place)
     (and-plain (head (project l) c.place) _ (λ h. map-plain (keywords l r c.place) _ (λ ks. then-plain ks _ (λ pairs. call-plain l.files c.place.file h pairs)))))
 
+pub value-plain : (files : List File) (file offset : ℕ) (d : ValueDetails) → has_float (value_data files file offset d) ≡ false
+unfolding value_data
+value-plain files file offset (details.Call function name cs) = rw (contents-plain cs, text-plain name) refl
+value-plain files file offset (details.List cs) = rw (contents-plain cs) refl
+value-plain files file offset (details.Other s) = rw (told-data-plain s) refl
+
+value-listing-plain : (l : Loaded) (n : ValueName) → Plain (value_listing l n)
+value-listing-plain l n = then-plain (the_value l n) _ (λ v. value-plain l.files v.file v.span.from v.details)
+
 -- ---- what a command lists
 
 abbrev pub AllPlain : List Data → Type 0
@@ -146,6 +183,7 @@ none-plain more is = let e : more ≡ [] = cc in subst AllPlain (sym e) refl
 
 pub told-plain : (l : Loaded) (c : Command) (more : List Data) → told l c ≡ Ok more → AllPlain more
 told-plain l (command.TargetInfo target) more is = one-plain (target_listing l target) more (target-listing-plain l target) is
+told-plain l (command.ArgumentInfo name) more is = one-plain (value_listing l name) more (value-listing-plain l name) is
 told-plain l (command.KwargsInfo r id) more is = one-plain (kwargs_listing l r id) more (call-listing-plain l r id) is
 told-plain l (command.SourcesAdd target sources) more is = none-plain more is
 told-plain l (command.SourcesRemove target sources) more is = none-plain more is

@@ -9,7 +9,7 @@ use Rattle.meson_syntax.specs.View.{view}
 use Rattle.meson_syntax.proofs.parsing.Unique.{one-spanned}
 use Rattle.meson_calls.specs.declared.refusal.Refusal.{Refusal}
 use Rattle.meson_calls.specs.Loading.{AreParsed, Loaded, trees, views}
-use Rattle.meson_script.proofs.ByTrees.{calls-same, targets-same}
+use Rattle.meson_script.proofs.ByTrees.{calls-same, targets-same, values-same}
 use Rattle.meson_steps.specs.declared.command.Command.{Command}
 use Rattle.meson_steps.specs.declared.command.Command.TheVariants as command
 use Rattle.meson_steps.specs.declared.command.Done.{Done}
@@ -46,6 +46,7 @@ only listing = then_ok listing (λ d. Ok (d ∷ []))
 
 pub told-same : (p q : Loaded) → Same p q → (c : Command) → told p c ≡ told q c
 told-same p q s (command.TargetInfo target) = ap only (targets-same p q target s.files s.trees)
+told-same p q s (command.ArgumentInfo name) = ap only (values-same p q name s.files s.trees)
 told-same p q s (command.KwargsInfo role id) = ap only (calls-same p q role id s.files s.trees)
 told-same p q s (command.SourcesAdd target sources) = refl
 told-same p q s (command.SourcesRemove target sources) = refl

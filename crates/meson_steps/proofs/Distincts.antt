@@ -4,7 +4,6 @@ use Rattle.meson_steps.proofs.Words.{if◌then◌else◌, filter, list_any, add-
 use Rattle.meson_steps.proofs.Words.{distinct_by}
 use Rattle.std.proofs.Math.Seq.{drop-cons}
 use Rattle.std.proofs.lemmas.List.Sorted.{list_any-IsPermutation, IsPermutation-reverse}
-use Rattle.std.proofs.Common.{IsUtf8}
 
 turned : (f : List ℕ → Bool) (xs : List (List ℕ)) → list_any f (reverse xs) ≡ list_any f xs
 turned f xs = sym (list_any-IsPermutation f xs (reverse xs) (IsPermutation-reverse xs))
@@ -39,14 +38,14 @@ filter_under g test (x ∷ xs) = elim (test (g x)) as (λ b. map g (if b then x 
   | false ↦ filter_under g test xs
 ]
 
--- ---- texts
+-- ---- what holds of each name
 
-pub distinct_texts : (seen names : List (List ℕ)) → All IsUtf8 names → All IsUtf8 (distinct_by seen names)
-distinct_texts seen [] all = all
-distinct_texts seen (x ∷ xs) all =
-    let rest = All-tail IsUtf8 x xs all in
-    go (one_of seen x) (distinct_texts seen xs rest) (distinct_texts (x ∷ seen) xs rest)
+pub All-distinct : (P : List ℕ → Type 0) (seen names : List (List ℕ)) → All P names → All P (distinct_by seen names)
+All-distinct P seen [] all = all
+All-distinct P seen (x ∷ xs) all =
+    let rest = All-tail P x xs all in
+    go (one_of seen x) (All-distinct P seen xs rest) (All-distinct P (x ∷ seen) xs rest)
   where
-    go : (b : Bool) → All IsUtf8 (distinct_by seen xs) → All IsUtf8 (distinct_by (x ∷ seen) xs) → All IsUtf8 (if b then distinct_by seen xs else x ∷ distinct_by (x ∷ seen) xs)
+    go : (b : Bool) → All P (distinct_by seen xs) → All P (distinct_by (x ∷ seen) xs) → All P (if b then distinct_by seen xs else x ∷ distinct_by (x ∷ seen) xs)
     go true without more = without
-    go false without more = All-cons IsUtf8 x (distinct_by (x ∷ seen) xs) (All-head IsUtf8 x xs all) more
+    go false without more = All-cons P x (distinct_by (x ∷ seen) xs) (All-head P x xs all) more

@@ -108,10 +108,11 @@ node_child _ l n a v is none level there value = absurd cc
 
 -- ---- along a path
 
-abbrev Below : (sort : Sort) (x : Node sort Nowhere) (path : List ℕ) (n : ℕ) (v : Expression Nowhere) (h : Hole Nowhere (Node sort Nowhere)) → Type 0
+abbrev pub Below : (sort : Sort) (x : Node sort Nowhere) (path : List ℕ) (n : ℕ) (v : Expression Nowhere) (h : Hole Nowhere (Node sort Nowhere)) → Type 0
 Below sort x path n v h = (put : Expression Nowhere → Node h.sort Nowhere) → Child (nth_hole Nowhere h.sort h.inside n) v put → Child (reach Nowhere sort x (path ++ n ∷ [])) v (λ y. h.back (put y))
 
-below : (sort : Sort) (x : Node sort Nowhere) (path : List ℕ) (n : ℕ) (v : Expression Nowhere) (h : Hole Nowhere (Node sort Nowhere)) → reach Nowhere sort x path ≡ Some h → Below sort x path n v h
+-- what is a child of the node that a path names is below it
+pub below : (sort : Sort) (x : Node sort Nowhere) (path : List ℕ) (n : ℕ) (v : Expression Nowhere) (h : Hole Nowhere (Node sort Nowhere)) → reach Nowhere sort x path ≡ Some h → Below sort x path n v h
 below sort x [] n v h is =
     subst (Below sort x [] n v) (some-injective _ _ is)
     (λ put c. record { before = _; behind = _; back = c.back; is = ap (option_and_then (λ g. option_map (around g.before g.behind g.back) (reach Nowhere g.sort g.inside []))) c.is; back_is = c.back_is })

@@ -49,6 +49,10 @@ pub enum ValueChange {
     SetAll(Many<Given>),
     /// Those of these values that it does not have yet are added to its last list.
     Add(Many<Given>),
+    /// What says one of these values is removed: elements of its lists, or all of it.
+    Remove(Many<Given>),
+    /// What says the old value becomes the new one: elements of its lists, or all of it.
+    Replace { old: Given, new: Given },
     /// Its argument, entry or element is removed.
     Delete,
 }
@@ -82,6 +86,8 @@ impl Drop for ValueChange {
             ValueChange::Set(_) => {}
             ValueChange::SetAll(_) => {}
             ValueChange::Add(_) => {}
+            ValueChange::Remove(_) => {}
+            ValueChange::Replace { old: _, new: _ } => {}
             ValueChange::Delete => {}
         }
     }

@@ -79,6 +79,10 @@ pub enum Command {
         name: ValueName,
         change: ValueChange,
     },
+    /// What a value is, or what is in it, is reported.
+    ArgumentInfo {
+        name: ValueName,
+    },
 }
 
 /// What a command did.
@@ -142,6 +146,7 @@ impl Drop for Command {
             Command::OptionsSet { pairs: _ } => {}
             Command::OptionsDelete { names: _ } => {}
             Command::Argument { name: _, change: _ } => {}
+            Command::ArgumentInfo { name: _ } => {}
         }
     }
 }
@@ -176,6 +181,7 @@ impl Command {
             Command::OptionsSet { .. } => "OptionsSet",
             Command::OptionsDelete { .. } => "OptionsDelete",
             Command::Argument { .. } => "Argument",
+            Command::ArgumentInfo { .. } => "ArgumentInfo",
         }
     }
 }
@@ -210,6 +216,7 @@ impl fmt::Debug for Command {
             Command::OptionsSet { pairs } => shown.field(pairs),
             Command::OptionsDelete { names } => shown.field(names),
             Command::Argument { name, change } => shown.field(name).field(change),
+            Command::ArgumentInfo { name } => shown.field(name),
         };
         shown.finish()
     }

@@ -15,7 +15,7 @@ use Rattle.meson_calls.specs.declared.call.Role.TheVariants as role
 use Rattle.meson_calls.specs.Finding.{the_call}
 use Rattle.meson_steps.specs.Plans.{ArePlanned}
 use Rattle.meson_targets.proofs.NewTargets.{as_many_named}
-use Rattle.meson_steps.proofs.Distincts.{distinct_texts}
+use Rattle.meson_steps.proofs.Distincts.{All-distinct}
 use Rattle.meson_targets.proofs.StatementsDoable.{append_doable, removal_doable}
 use Rattle.meson_targets.proofs.TargetText.{target_written, target_level, target_depth}
 use Rattle.meson_steps.proofs.OtherBytes.{as_many_plain}
@@ -93,7 +93,7 @@ module _ (old : Loaded) (whole : IsProject old) where
       let c = then_was (not_taken (targets_named p target)) _ steps b.2 in
       let d = then_was (number_in p folder) _ steps c.2 in
       let same : append_steps kind (target ∷ distinct sources) d.0 ≡ steps = let h = d.2 in cc in
-      let texts = All-cons IsUtf8 target (distinct sources) (All-head IsUtf8 target sources utf8) (distinct_texts [] sources (All-tail IsUtf8 target sources utf8)) in
+      let texts = All-cons IsUtf8 target (distinct sources) (All-head IsUtf8 target sources utf8) (All-distinct IsUtf8 [] sources (All-tail IsUtf8 target sources utf8)) in
       subst (λ ss. AreDoable ss (plain_trees old)) same
       (appended_doable kind (kind_checked kind a.0 a.1) (target ∷ distinct sources) texts d.0 (numbered p folder d.0 d.1))
 

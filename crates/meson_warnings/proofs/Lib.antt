@@ -1,1 +1,2 @@
 mod SomeNames
+mod Told

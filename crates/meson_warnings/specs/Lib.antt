@@ -1,5 +1,6 @@
 pub mod Additions
 pub mod Known
+pub mod Laws
 pub mod LeftVariables
 pub mod Overwrites
 pub mod Reads

@@ -3,6 +3,7 @@
 
 mod additions;
 mod known;
+pub mod laws;
 mod left_variables;
 mod overwrites;
 mod reads;

@@ -10,8 +10,8 @@ use Rattle.meson_calls.specs.GoodLists.{GoodArgs}
 use Rattle.meson_calls.specs.Strings.{AreGood}
 use Rattle.meson_steps.specs.Code.{IsValue}
 use Rattle.meson_steps.specs.declared.given.Given.{Given}
-use Rattle.meson_places.specs.declared.new_elements.Known.{Known}
-use Rattle.meson_places.specs.declared.new_elements.Known.TheVariants as known
+use Rattle.meson_places.specs.declared.known.Known.{Known}
+use Rattle.meson_places.specs.declared.known.Known.TheVariants as known
 use Rattle.meson_places.specs.declared.value_lists.FoundList.{FoundList}
 use Rattle.meson_places.specs.Equality.{lists_say, says}
 use Rattle.meson_places.specs.NewElements.{array_with, lone_token}

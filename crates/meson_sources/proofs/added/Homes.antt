@@ -1,6 +1,6 @@
 -- Where further files go, and that they may be put there.
 use Rattle.meson_calls.specs.Calls as calls
-use Rattle.meson_steps.proofs.Distincts.{distinct_texts}
+use Rattle.meson_steps.proofs.Distincts.{All-distinct}
 use Rattle.meson_sources.proofs.Words.{cons_option, filter_map, All, bytes_eq, if◌then◌else◌, not, Ok, option_map, ◌⊎◌, [], ap, arith, Bool, false, inl, inr}
 use Rattle.meson_sources.proofs.Words.{IsUtf8, length, List, None, Option, refl, Some, subst, suc, sym, true, zero, ℕ, ◌+◌, ◌-◌, ◌<◌, ◌∙◌, ◌∷◌, ◌≡◌, ◌≤◌}
 use Rattle.meson_sources.proofs.Words.{All-filter, All-head, All-tail, then_ok, Span, file_depth, LevelArguments, LevelFile, LevelListing, holds_pairs}
@@ -106,7 +106,7 @@ module _ (old : Loaded) (are : AreParsed old.files old.parsed) (c : CallRef) whe
 -- ---- new names are among the names
 
 pub new_texts : (marks : List (Mark Span)) (names : List (List ℕ)) → All IsUtf8 names → All IsUtf8 (new_names marks names)
-new_texts marks names all = All-filter (λ name. not (is_known marks name)) IsUtf8 (distinct names) (distinct_texts [] names all)
+new_texts marks names all = All-filter (λ name. not (is_known marks name)) IsUtf8 (distinct names) (All-distinct IsUtf8 [] names all)
 
 -- ---- the call of a target
 

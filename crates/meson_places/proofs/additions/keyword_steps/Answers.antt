@@ -1,7 +1,6 @@
 use Rattle.std.proofs.Common.{◌≡◌, Err, sym, ap, ◌∙◌, subst}
 use Rattle.std.specs.Prelude.{if◌then◌else◌}
 use Rattle.std.proofs.lemmas.Result.{IfOk-weaker}
-use Rattle.meson_syntax.specs.View.{args_view}
 use Rattle.meson_calls.specs.declared.refusal.Refusal.TheVariants.{BadName}
 use Rattle.meson_steps.specs.Meanings.{AreMeant}
 use Rattle.meson_places.specs.Changes.{added_keyword, keyword_behind}
@@ -14,21 +13,21 @@ pub returns-then-not-is_identifier-clause-refused : goal.returns-then-not-is_ide
 returns-then-not-is_identifier-clause-refused c = λ w other.
     let r = c.args.receiver in
     let is = sym (identifier_is c.is_identifier.result c.get.result.now c.is_identifier.ensures ∙ ap is_identifier c.get.ensures) ∙ c.if-not-is_identifier.true in
-    ap (λ b. if b then keyword_behind r.source.now w c.args.key.now r.list.now (args_view r.source.now r.elements.now) else Err BadName) is
+    ap (λ b. if b then keyword_behind r.spaced w c.args.key.now r.list.now r.many else Err BadName) is
 
 pub returns-clause-meant : goal.returns-clause-meant
 returns-clause-meant c = λ w is_w.
     let r = c.args.receiver in
-    let xs = args_view r.source.now r.elements.now in
+    let xs = r.many in
     let is = sym (identifier_is c.is_identifier.result c.get.result.now c.is_identifier.ensures ∙ ap is_identifier c.get.ensures) ∙ c.if-not-is_identifier.false in
-    let same : added_keyword r.source.now w c.args.key.now r.list.now xs ≡ keyword_behind r.source.now w c.args.key.now r.list.now xs =
-    ap (λ b. if b then keyword_behind r.source.now w c.args.key.now r.list.now xs else Err BadName) is in
+    let same : added_keyword r.spaced w c.args.key.now r.list.now xs ≡ keyword_behind r.spaced w c.args.key.now r.list.now xs =
+    ap (λ b. if b then keyword_behind r.spaced w c.args.key.now r.list.now xs else Err BadName) is in
     IfOk-weaker c.keyword_behind.result _ _ (λ steps m. subst (λ x. AreMeant x steps.items) (sym same) m) (c.keyword_behind.ensures.meant w is_w)
 
 pub returns-clause-refused : goal.returns-clause-refused
 returns-clause-refused c = λ w.
     let r = c.args.receiver in
-    let xs = args_view r.source.now r.elements.now in
+    let xs = r.many in
     let is = sym (identifier_is c.is_identifier.result c.get.result.now c.is_identifier.ensures ∙ ap is_identifier c.get.ensures) ∙ c.if-not-is_identifier.false in
-    refused_as c.keyword_behind.result (added_keyword r.source.now w c.args.key.now r.list.now xs) (keyword_behind r.source.now w c.args.key.now r.list.now xs)
-    (ap (λ b. if b then keyword_behind r.source.now w c.args.key.now r.list.now xs else Err BadName) is) (c.keyword_behind.ensures.refused w)
+    refused_as c.keyword_behind.result (added_keyword r.spaced w c.args.key.now r.list.now xs) (keyword_behind r.spaced w c.args.key.now r.list.now xs)
+    (ap (λ b. if b then keyword_behind r.spaced w c.args.key.now r.list.now xs else Err BadName) is) (c.keyword_behind.ensures.refused w)

@@ -4,7 +4,7 @@ use Rattle.std.specs.Str.{IsUtf8}
 use Rattle.std.proofs.lemmas.Result.{IfOk-weaker}
 use Rattle.meson_splice.specs.Patch.{then_ok}
 use Rattle.meson_calls.specs.Loading.{project}
-use Rattle.meson_places.specs.Arguments.{argument_steps, last_key, slot_steps}
+use Rattle.meson_places.specs.Arguments.{argument_steps, last_key, named_steps, slot_steps}
 use Rattle.meson_places.specs.Names.{loaded_in}
 use Rattle.meson_places.specs.Slots.{the_slot}
 use Rattle.meson_places.proofs.ArgumentsDoable.{argument_steps_are_doable}
@@ -18,9 +18,10 @@ returns-clause-plan c = λ may.
     let s = c.in_ok-slot.slot in
     let found = ap (the_slot (project l) c.in_ok-place.place) (sym c.get-keys.ensures) ∙ c.in_ok-slot.ensures.found in
     let same : argument_steps l n ch may ≡ slot_steps l c.in_ok-key.key ch may s =
-    ap (λ r. then_ok r (λ p. then_ok (the_slot (project l) p n.keys) (λ t. slot_steps l (last_key n.keys) ch may t))) c.in_ok-place.ensures.found
-    ∙ ap (λ r. then_ok r (λ t. slot_steps l (last_key n.keys) ch may t)) found
-    ∙ ap (λ k. slot_steps l k ch may s) (ap last_key (sym c.get-keys.ensures) ∙ sym c.in_ok-key.ensures.last) in
+    ap (λ r. then_ok r (λ p. then_ok (the_slot (project l) p n.keys) (λ t. named_steps l (last_key n.keys) ch may t))) c.in_ok-place.ensures.found
+    ∙ ap (λ r. then_ok r (λ t. named_steps l (last_key n.keys) ch may t)) found
+    ∙ ap (λ k. named_steps l k ch may s) (ap last_key (sym c.get-keys.ensures) ∙ sym c.in_ok-key.ensures.last)
+    ∙ ap (λ r. then_ok r (λ _. slot_steps l c.in_ok-key.key ch may s)) c.in_ok-checked_name.ensures.checked in
     let texts : All IsUtf8 n.keys = subst (All IsUtf8) c.get-keys.ensures c.in_ok-key.ensures.texts in
     IfOk-weaker c.slot_steps.result _ _
     (λ code m. record {

@@ -1,4 +1,4 @@
-use Rattle.std.proofs.Common.{◌≡◌, ℕ, List, refl, sym, ◌∙◌, subst}
+use Rattle.std.proofs.Common.{◌≡◌, ℕ, List, refl, sym, ap, ◌∙◌, subst}
 use Rattle.std.proofs.lemmas.Result.{IfOk-weaker}
 use Rattle.meson_calls.specs.Loading.{Loaded}
 use Rattle.meson_steps.specs.Meanings.{AreMeant}
@@ -6,9 +6,12 @@ use Rattle.meson_steps.specs.declared.argument.ValueChange.{ValueChange}
 use Rattle.meson_steps.specs.declared.argument.ValueChange.TheVariants as change
 use Rattle.meson_places.specs.declared.slots.Slot.{Slot}
 use Rattle.meson_steps.specs.declared.given.Given.{Given}
+use Rattle.meson_steps.specs.GivenWords.{MayBeGiven}
 use Rattle.meson_places.specs.Arguments.{MayBeMade, slot_steps}
 use Rattle.meson_places.specs.Names.{loaded_in}
 use Rattle.meson_places.specs.NewElements.{add_steps}
+use Rattle.meson_places.specs.Removals.{remove_steps}
+use Rattle.meson_places.specs.Replacements.{exchange, exchange_steps}
 use Rattle.meson_places.specs.Several.{AllMayBeGiven, set_all}
 use Rattle.meson_places.proofs.Meant.{made_fine, made_refused}
 use Rattle.meson_places.proofs.Refused.{refused_as}
@@ -17,6 +20,8 @@ use Rattle.meson_places.proofs.arguments.slot_steps.Goals as goal
 set_all_is : (l : Loaded) (key : List ℕ) (ch : ValueChange) (gs hs : List Given) → ch ≡ change.SetAll gs → hs ≡ gs → (may : MayBeMade ch) (s : Slot) → (mays : AllMayBeGiven hs) × (slot_steps l key ch may s ≡ set_all l hs mays key s)
 set_all_is l key (change.Set g) gs hs is same may s = absurd (let no : ⊥ = cc in no)
 set_all_is l key (change.Add ks) gs hs is same may s = absurd (let no : ⊥ = cc in no)
+set_all_is l key (change.Remove ks) gs hs is same may s = absurd (let no : ⊥ = cc in no)
+set_all_is l key (change.Replace old new) gs hs is same may s = absurd (let no : ⊥ = cc in no)
 set_all_is l key change.Delete gs hs is same may s = absurd (let no : ⊥ = cc in no)
 set_all_is l key (change.SetAll ks) gs hs is same may s =
     let alike : ks ≡ hs = let e : ks ≡ gs = cc in e ∙ sym same in
@@ -36,6 +41,8 @@ returns-in-SetAll-clause-refused c = λ may.
 add_is : (l : Loaded) (key : List ℕ) (ch : ValueChange) (gs hs : List Given) → ch ≡ change.Add gs → hs ≡ gs → (may : MayBeMade ch) (s : Slot) → (mays : AllMayBeGiven hs) × (slot_steps l key ch may s ≡ add_steps l hs mays key s)
 add_is l key (change.Set g) gs hs is same may s = absurd (let no : ⊥ = cc in no)
 add_is l key (change.SetAll ks) gs hs is same may s = absurd (let no : ⊥ = cc in no)
+add_is l key (change.Remove ks) gs hs is same may s = absurd (let no : ⊥ = cc in no)
+add_is l key (change.Replace old new) gs hs is same may s = absurd (let no : ⊥ = cc in no)
 add_is l key change.Delete gs hs is same may s = absurd (let no : ⊥ = cc in no)
 add_is l key (change.Add ks) gs hs is same may s =
     let alike : ks ≡ hs = let e : ks ≡ gs = cc in e ∙ sym same in
@@ -52,3 +59,49 @@ returns-in-Add-clause-refused c = λ may.
     let x = add_is l c.args.key.now c.args.change.now c.in-Add.values c.get-in-Add.result.now c.in-Add.is c.get-in-Add.ensures may c.args.slot.now in
     refused_as c.add_steps.result (slot_steps l c.args.key.now c.args.change.now may c.args.slot.now) (add_steps l c.get-in-Add.result.now x.0 c.args.key.now c.args.slot.now) x.1
     (made_refused _ _ c.add_steps.result (c.add_steps.ensures.made x.0))
+
+remove_is : (l : Loaded) (key : List ℕ) (ch : ValueChange) (gs hs : List Given) → ch ≡ change.Remove gs → hs ≡ gs → (may : MayBeMade ch) (s : Slot) → slot_steps l key ch may s ≡ remove_steps l hs key s
+remove_is l key (change.Set g) gs hs is same may s = absurd (let no : ⊥ = cc in no)
+remove_is l key (change.SetAll ks) gs hs is same may s = absurd (let no : ⊥ = cc in no)
+remove_is l key (change.Add ks) gs hs is same may s = absurd (let no : ⊥ = cc in no)
+remove_is l key (change.Replace old new) gs hs is same may s = absurd (let no : ⊥ = cc in no)
+remove_is l key change.Delete gs hs is same may s = absurd (let no : ⊥ = cc in no)
+remove_is l key (change.Remove ks) gs hs is same may s =
+    let alike : ks ≡ hs = let e : ks ≡ gs = cc in e ∙ sym same in
+    ap (λ t. remove_steps l t key s) alike
+
+pub returns-in-Remove-clause-meant : goal.returns-in-Remove-clause-meant
+returns-in-Remove-clause-meant c = λ may.
+    let x = remove_is (loaded_in c.args.sources) c.args.key.now c.args.change.now c.in-Remove.values c.get-in-Remove.result.now c.in-Remove.is c.get-in-Remove.ensures may c.args.slot.now in
+    IfOk-weaker c.remove_steps.result _ _ (λ steps m. subst (λ r. AreMeant r steps.items) (sym x) m) (made_fine _ _ c.remove_steps.result c.remove_steps.ensures.made)
+
+pub returns-in-Remove-clause-refused : goal.returns-in-Remove-clause-refused
+returns-in-Remove-clause-refused c = λ may.
+    let l = loaded_in c.args.sources in
+    let x = remove_is l c.args.key.now c.args.change.now c.in-Remove.values c.get-in-Remove.result.now c.in-Remove.is c.get-in-Remove.ensures may c.args.slot.now in
+    refused_as c.remove_steps.result (slot_steps l c.args.key.now c.args.change.now may c.args.slot.now) (remove_steps l c.get-in-Remove.result.now c.args.key.now c.args.slot.now) x
+    (made_refused _ _ c.remove_steps.result c.remove_steps.ensures.made)
+
+replace_is : (l : Loaded) (key : List ℕ) (ch : ValueChange) (old new : Given) → ch ≡ change.Replace old new → (may : MayBeMade ch) (s : Slot) → (mays : MayBeGiven new) × (slot_steps l key ch may s ≡ exchange_steps l (exchange old new mays) key s)
+replace_is l key (change.Set g) old new is may s = absurd (let no : ⊥ = cc in no)
+replace_is l key (change.SetAll ks) old new is may s = absurd (let no : ⊥ = cc in no)
+replace_is l key (change.Add ks) old new is may s = absurd (let no : ⊥ = cc in no)
+replace_is l key (change.Remove ks) old new is may s = absurd (let no : ⊥ = cc in no)
+replace_is l key change.Delete old new is may s = absurd (let no : ⊥ = cc in no)
+replace_is l key (change.Replace was now) old new is may s =
+    let same_old : was ≡ old = cc in
+    let same_new : now ≡ new = cc in
+    subst (λ o. (mays : MayBeGiven new) × (exchange_steps l (exchange was now may) key s ≡ exchange_steps l (exchange o new mays) key s)) same_old
+    (subst (λ n. (mays : MayBeGiven n) × (exchange_steps l (exchange was now may) key s ≡ exchange_steps l (exchange was n mays) key s)) same_new (may, refl))
+
+pub returns-in-Replace-clause-meant : goal.returns-in-Replace-clause-meant
+returns-in-Replace-clause-meant c = λ may.
+    let x = replace_is (loaded_in c.args.sources) c.args.key.now c.args.change.now c.in-Replace.old c.in-Replace.new c.in-Replace.is may c.args.slot.now in
+    IfOk-weaker c.replace_steps.result _ _ (λ steps m. subst (λ r. AreMeant r steps.items) (sym x.1) m) (made_fine _ _ c.replace_steps.result (c.replace_steps.ensures.made x.0))
+
+pub returns-in-Replace-clause-refused : goal.returns-in-Replace-clause-refused
+returns-in-Replace-clause-refused c = λ may.
+    let l = loaded_in c.args.sources in
+    let x = replace_is l c.args.key.now c.args.change.now c.in-Replace.old c.in-Replace.new c.in-Replace.is may c.args.slot.now in
+    refused_as c.replace_steps.result (slot_steps l c.args.key.now c.args.change.now may c.args.slot.now) (exchange_steps l (exchange c.in-Replace.old c.in-Replace.new x.0) c.args.key.now c.args.slot.now) x.1
+    (made_refused _ _ c.replace_steps.result (c.replace_steps.ensures.made x.0))

@@ -4,6 +4,7 @@ use Rattle.meson_splice.specs.Files.{bytes_at}
 use Rattle.meson_calls.specs.Loading.{project}
 use Rattle.meson_calls.specs.Project.{expression_at}
 use Rattle.meson_steps.specs.Meanings.{AreMeant}
+use Rattle.meson_places.specs.Colons.{ends_in_file}
 use Rattle.meson_places.specs.Changes.{added_to, set_steps, set_there}
 use Rattle.meson_places.specs.Names.{loaded_in}
 use Rattle.meson_places.specs.Values.{written_given}
@@ -50,5 +51,5 @@ pub returns-in_ok-value-in-Absent-clause-refused : goal.returns-in_ok-value-in-A
 returns-in_ok-value-in-Absent-clause-refused c = λ w.
     let l = loaded_in c.args.sources in
     let list = c.in-Absent.list in
-    refused_as c.added_to.result (set_steps l c.args.given.now w c.args.key.now c.args.slot.now) (added_to (bytes_at list.file l.files) w c.in-Absent.key list (expression_at (project l) list))
+    refused_as c.added_to.result (set_steps l c.args.given.now w c.args.key.now c.args.slot.now) (added_to (bytes_at list.file l.files) (ends_in_file l list.file) w c.in-Absent.key list (expression_at (project l) list))
     (ap (set_steps l c.args.given.now w c.args.key.now) c.in-Absent.is) (c.added_to.ensures.refused w)

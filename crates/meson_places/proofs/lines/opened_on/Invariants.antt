@@ -6,4 +6,4 @@ use Rattle.meson_places.proofs.lines.opened_on.Given as goal
 
 abbrev pub invariant-loop-list : goal.invariant-loop-list
 invariant-loop-list l =
-    l.found.items ++ filter_map (opens_on l.source l.line) (into_iter_items l.list-iterator) ≡ filter_map (opens_on l.source l.line) l.fn.lists.items
+    l.found.items ++ filter_map (opens_on l.line.source.now l.line.number) (into_iter_items l.list-iterator) ≡ filter_map (opens_on l.line.source.now l.line.number) l.fn.lists.items

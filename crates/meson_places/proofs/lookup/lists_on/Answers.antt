@@ -39,11 +39,11 @@ returns c =
     let line = c.args.line in
     let tree = get_or trees file c.index-sources-file.result in
     let bytes = bytes_at file files in
-    let source = c.bytes-source.result.now in
     let whole : lists_on (loaded_in c.args.sources) file line ≡ filter_map (opens_on bytes line) (lists_opened (parts_of_file file (view bytes tree))) =
     ap (lists_among bytes file line) (nth_there files trees file c.index-sources-file.result (as_many files trees c.requires) c.if-file-sources.false) in
     let opened : c.in_ok-lists.lists.items ≡ lists_opened (parts_of_file file (view bytes tree)) =
     c.in_ok-lists.ensures ∙ ap (λ b. lists_opened (parts_of_file file (view b tree))) c.bytes-source.ensures in
-    let same : filter_map (opens_on source line) c.in_ok-lists.lists.items ≡ lists_on (loaded_in c.args.sources) file line =
-    ap (λ b. filter_map (opens_on b line) c.in_ok-lists.lists.items) c.bytes-source.ensures ∙ ap (filter_map (opens_on bytes line)) opened ∙ sym whole in
+    let same : filter_map (opens_on c.find.result.source.now c.find.result.number) c.in_ok-lists.lists.items ≡ lists_on (loaded_in c.args.sources) file line =
+    ap (λ n. filter_map (opens_on c.find.result.source.now n) c.in_ok-lists.lists.items) c.find.ensures.number
+    ∙ ap (λ b. filter_map (opens_on b line) c.in_ok-lists.lists.items) (c.find.ensures.source ∙ c.bytes-source.ensures) ∙ ap (filter_map (opens_on bytes line)) opened ∙ sym whole in
     IfOk-weaker c.opened_on.result _ _ (λ found is. is ∙ same) c.opened_on.ensures

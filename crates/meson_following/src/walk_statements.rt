@@ -1,0 +1,408 @@
+//! The walk through the statements of the files of a project, in the order of evaluation.
+
+ghost use Rattle.std.specs.Prelude.{◌≡◌, ◌*◌, ◌<◌, ◌^◌, IfOk, OnOk};
+ghost use Rattle.meson_lex.specs.declared.kinds.Kind.TheVariants.{WordIf};
+ghost use Rattle.meson_syntax.specs.Grammar.{block_words, branches_words, expression_words, otherwise_words, statement_words};
+ghost use Rattle.meson_syntax.specs.Tree.{branches_of};
+ghost use Rattle.meson_syntax.specs.Tree as tree;
+ghost use Rattle.meson_following.specs.declared.walk.Trail.{Trail};
+ghost use Rattle.meson_lex.specs.declared.kinds.Span.{Span};
+ghost use Rattle.meson_syntax.specs.View.{block_view, branch_view, branches_view, expr_view, names_at, stmt_view};
+ghost use Rattle.meson_calls.specs.Loading.{IsProject, loaded_from};
+ghost use Rattle.meson_calls.specs.Project.{child};
+ghost use Rattle.meson_calls.specs.Strings.{AreGood};
+ghost use Rattle.meson_calls.specs.inside.Walks.{else_view};
+ghost use Rattle.meson_variables.specs.Variables.{one_of_names};
+ghost use Rattle.meson_following.specs.CodeFlows.{flow_view};
+ghost use Rattle.meson_following.specs.CodeMakers.{known_view};
+ghost use Rattle.meson_following.specs.Flows.{Choice, around, known_at};
+ghost use Rattle.meson_following.specs.Walks.{AreRead, Chooses, FlowsAs, MayWalk, Walks, asking, met_unless, block_flow, branch_chosen, effect_flow, evaluated_flow, file_flow, here, loop_flow, project_of, selection_flow, statement_flow, turn_flow, wanted};
+
+use crate::effects::Effect;
+use crate::flows::{Chosen, Flow};
+use crate::makers::{Known, Made, copy_known, join, touch};
+use crate::walk::{Question, Trail, Walk};
+use meson_lex::Span;
+use meson_syntax::{Block, Branch, Expr, Stmt};
+use meson_variables::setters::one_of;
+use std::alloc::{AllocError, Global};
+
+/// What is known before a turn of a loop, by what is known before the loop and by a first turn.
+fn around<'t>(alloc: Global, now: Known<'t>, once: &Flow<'t>) -> Result<Known<'t>, AllocError>
+    ensures { IfOk result (λ k. known_view k ≡ around (known_view now.entry) (flow_view once.entry.now)) }
+{
+    let end = copy_known(alloc, &once.now)?;
+    let turned = copy_known(alloc, &once.turned)?;
+    let turn = join(alloc, end, turned)?;
+    join(alloc, now, turn)
+}
+
+impl<'t> Question<'t> {
+    /// What is known of the variable where the expression at the place is evaluated, in whichever of the ways it is reached.
+    ///
+    /// # Errors
+    /// Out of memory.
+    pub fn known(&self) -> Result<Known<'t>, AllocError>
+        requires { IsProject (loaded_from self.now.files.now self.now.trees.now) }
+        ensures { IfOk result (λ k. known_view k ≡ known_at (project_of self.now) self.now.variable.now (wanted self.now)) }
+    {
+        let Some(root) = self.files.find("meson.build") else {
+            return Ok(None);
+        };
+        let mut found = None;
+        self.in_file(self.trees.len(), false, root, None, &mut found)?;
+        Ok(found)
+    }
+
+    /// The flow through the file of this number, where this many files may be inside one another. `found` is what is known at the place so far.
+    #[cycle(evaluation)]
+    fn in_file(
+        &self,
+        left: usize,
+        quiet: bool,
+        file: usize,
+        now: Known<'t>,
+        found: &mut Known<'t>,
+    ) -> Result<Flow<'t>, AllocError>
+        requires { IsProject (loaded_from self.now.files.now self.now.trees.now) }
+        ensures { IfOk result (λ f. FlowsAs quiet (wanted self.now) f (known_view found.old) (known_view found.new) (file_flow self.now left file (known_view now.entry))) }
+    {
+        if left == 0 || file >= self.trees.len() {
+            return Ok(Flow::going_on(touch(self.alloc, now)?));
+        }
+        let walk = Walk {
+            question: *self,
+            file,
+            name: self.files.name(file),
+            source: self.files.bytes(file),
+            left: left - 1,
+            quiet,
+        };
+        let mut trail = Trail {
+            path: Vec::new(self.alloc),
+            found: found.take(),
+        };
+        let flow = walk.in_block(&self.trees[file].block, now, &mut trail)?;
+        *found = trail.found.take();
+        Ok(flow)
+    }
+}
+
+impl<'t> Walk<'t> {
+    /// The flow through the block at the path.
+    #[cycle(evaluation)]
+    fn in_block(
+        &self,
+        block: &'t Block,
+        now: Known<'t>,
+        trail: &mut Trail<'t>,
+    ) -> Result<Flow<'t>, AllocError>
+        requires walks { MayWalk self.now }
+        requires good { AreRead (block_words (block_view self.now.source.now block.now)) }
+        ensures { IfOk result (λ f. Walks self.now trail.old trail.new f
+            (block_flow self.now (here self.now trail.old) (block_view self.now.source.now block.now) (known_view now.entry))) }
+    {
+        let stmts = block.statements.get();
+        let mut flow = Flow::going_on(now);
+        for i in 0..stmts.len() {
+            let now = flow.now.take();
+            let next = self.in_nth(i, &stmts[i], now, trail)?;
+            flow = Flow::then(self.question.alloc, flow, next)?;
+        }
+        Ok(flow)
+    }
+
+    /// The flow through the block that is the n-th child.
+    #[cycle(evaluation)]
+    fn in_child(
+        &self,
+        number: usize,
+        block: &'t Block,
+        now: Known<'t>,
+        trail: &mut Trail<'t>,
+    ) -> Result<Flow<'t>, AllocError>
+        requires walks { MayWalk self.now }
+        requires good { AreRead (block_words (block_view self.now.source.now block.now)) }
+        ensures { IfOk result (λ f. Walks self.now trail.old trail.new f
+            (block_flow self.now (child (here self.now trail.old) number) (block_view self.now.source.now block.now) (known_view now.entry))) }
+    {
+        trail.path.push(number)?;
+        let flow = self.in_block(block, now, trail)?;
+        trail.path.pop();
+        Ok(flow)
+    }
+
+    /// The flow through the statement that is the n-th child.
+    #[cycle(evaluation)]
+    fn in_nth(
+        &self,
+        number: usize,
+        stmt: &'t Stmt,
+        now: Known<'t>,
+        trail: &mut Trail<'t>,
+    ) -> Result<Flow<'t>, AllocError>
+        requires walks { MayWalk self.now }
+        requires good { AreRead (statement_words (stmt_view self.now.source.now stmt.now)) }
+        ensures { IfOk result (λ f. Walks self.now trail.old trail.new f
+            (statement_flow self.now (child (here self.now trail.old) number) (stmt_view self.now.source.now stmt.now) (known_view now.entry))) }
+    {
+        trail.path.push(number)?;
+        let flow = self.in_stmt(stmt, now, trail)?;
+        trail.path.pop();
+        Ok(flow)
+    }
+
+    /// The flow through the statement at the path.
+    #[cycle(evaluation)]
+    fn in_stmt(
+        &self,
+        stmt: &'t Stmt,
+        now: Known<'t>,
+        trail: &mut Trail<'t>,
+    ) -> Result<Flow<'t>, AllocError>
+        requires walks { MayWalk self.now }
+        requires good { AreRead (statement_words (stmt_view self.now.source.now stmt.now)) }
+        ensures { IfOk result (λ f. Walks self.now trail.old trail.new f
+            (statement_flow self.now (here self.now trail.old) (stmt_view self.now.source.now stmt.now) (known_view now.entry))) }
+    {
+        match stmt {
+            Stmt::Expr(value) => self.in_evaluated(value, now, trail),
+            Stmt::Assign {
+                name,
+                assignment,
+                value,
+                ..
+            } => self.in_assignment(*name, *assignment, value, now, trail),
+            Stmt::If {
+                branches,
+                otherwise,
+                ..
+            } => self.in_selection(branches.get(), otherwise, now, trail),
+            Stmt::Foreach {
+                names,
+                items,
+                body,
+                ..
+            } => self.in_iteration(names.get(), items, body, now, trail),
+            Stmt::Break(_) => Ok(Flow::left_turn(now)),
+            Stmt::Continue(_) => Ok(Flow::left_turn(now)),
+        }
+    }
+
+    /// The flow through an expression that is a statement.
+    #[cycle(evaluation)]
+    fn in_evaluated(
+        &self,
+        value: &'t Expr,
+        now: Known<'t>,
+        trail: &mut Trail<'t>,
+    ) -> Result<Flow<'t>, AllocError>
+        requires walks { MayWalk self.now }
+        requires good { AreGood (expression_words (expr_view self.now.source.now value.now)) }
+        ensures { IfOk result (λ f. Walks self.now trail.old trail.new f
+            (evaluated_flow self.now (child (here self.now trail.old) 0) (expr_view self.now.source.now value.now) (known_view now.entry))) }
+    {
+        match value {
+            Expr::Call {
+                name,
+                arguments,
+                ..
+            } => {
+                let mut flow = self.in_arguments(arguments, now, trail)?;
+                let effect = self.effect(*name, arguments)?;
+                let now = flow.now.take();
+                let next = self.after_effect(effect, now, trail)?;
+                Flow::then(self.question.alloc, flow, next)
+            }
+            _ => self.in_expr(0, value, now, trail),
+        }
+    }
+
+    /// The flow through what a call does.
+    #[cycle(evaluation)]
+    fn after_effect(
+        &self,
+        effect: Effect,
+        now: Known<'t>,
+        trail: &mut Trail<'t>,
+    ) -> Result<Flow<'t>, AllocError>
+        requires { MayWalk self.now }
+        ensures { IfOk result (λ f. Walks self.now trail.old trail.new f (effect_flow self.now effect (known_view now.entry))) }
+    {
+        let alloc = self.question.alloc;
+        match effect {
+            Effect::Nothing => Ok(Flow::going_on(now)),
+            Effect::Sets => Ok(Flow::going_on(Some(Made::unknown(alloc)))),
+            Effect::MaySet => Ok(Flow::going_on(touch(alloc, now)?)),
+            Effect::Unsets => Ok(Flow::going_on(None)),
+            Effect::Stops => Ok(Flow::going_on(None)),
+            Effect::Leaves => Ok(Flow::left_file(now)),
+            Effect::Enters { file, condition } => {
+                let skipped = if condition {
+                    copy_known(alloc, &now)?
+                } else {
+                    None
+                };
+                let flow = self
+                    .question
+                    .in_file(self.left, self.quiet, file, now, &mut trail.found)?;
+                Flow::entered(alloc, skipped, flow)
+            }
+        }
+    }
+
+    /// The flow through a loop.
+    #[cycle(evaluation)]
+    fn in_iteration(
+        &self,
+        names: &[Span],
+        items: &'t Expr,
+        body: &'t Block,
+        now: Known<'t>,
+        trail: &mut Trail<'t>,
+    ) -> Result<Flow<'t>, AllocError>
+        requires walks { MayWalk self.now }
+        requires items { AreGood (expression_words (expr_view self.now.source.now items.now)) }
+        requires body { AreRead (block_words (block_view self.now.source.now body.now)) }
+        ensures { (s : Span) → IfOk result (λ f. Walks self.now trail.old trail.new f (statement_flow self.now (here self.now trail.old)
+            (tree.iteration s (names_at self.now.source.now names.now) (expr_view self.now.source.now items.now) (block_view self.now.source.now body.now)) (known_view now.entry))) }
+    {
+        let mut flow = self.in_expr(0, items, now, trail)?;
+        let now = flow.now.take();
+        let sets = one_of(self.source, names, self.question.variable);
+        let next = self.in_loop(sets, body, now, trail)?;
+        Flow::then(self.question.alloc, flow, next)
+    }
+
+    /// The flow through the turns of a loop. A first one, in which nothing is asked, says what is known before each.
+    #[cycle(evaluation)]
+    fn in_loop(
+        &self,
+        sets: bool,
+        body: &'t Block,
+        now: Known<'t>,
+        trail: &mut Trail<'t>,
+    ) -> Result<Flow<'t>, AllocError>
+        requires walks { MayWalk self.now }
+        requires good { AreRead (block_words (block_view self.now.source.now body.now)) }
+        ensures { IfOk result (λ f. Walks self.now trail.old trail.new f
+            (loop_flow self.now (here self.now trail.old) sets (block_view self.now.source.now body.now) (known_view now.entry))) }
+    {
+        let alloc = self.question.alloc;
+        let first = copy_known(alloc, &now)?;
+        let once = self.in_turn(true, sets, body, first, trail)?;
+        let before = around(alloc, now, &once)?;
+        self.ask_in_turn(sets, body, &before, trail)?;
+        Flow::looped(alloc, before, once)
+    }
+
+    /// Asks in a turn of a loop before which this is known, unless nothing is asked.
+    #[cycle(evaluation)]
+    fn ask_in_turn(
+        &self,
+        sets: bool,
+        body: &'t Block,
+        before: &Known<'t>,
+        trail: &mut Trail<'t>,
+    ) -> Result<(), AllocError>
+        requires walks { MayWalk self.now }
+        requires good { AreRead (block_words (block_view self.now.source.now body.now)) }
+        ensures back { OnOk result (trail.new.path.items ≡ trail.old.path.items) }
+        ensures found { OnOk result (known_view trail.new.found ≡ met_unless self.now.quiet (wanted self.now.question) (known_view trail.old.found)
+            (turn_flow self.now (here self.now trail.old) sets (block_view self.now.source.now body.now) (known_view before.now)).arrivals) }
+    {
+        if self.quiet {
+            return Ok(());
+        }
+        let now = copy_known(self.question.alloc, before)?;
+        self.in_turn(false, sets, body, now, trail)?;
+        Ok(())
+    }
+
+    /// The flow through a turn of a loop, of which a name may be the variable.
+    #[cycle(evaluation)]
+    fn in_turn(
+        &self,
+        quiet: bool,
+        sets: bool,
+        body: &'t Block,
+        now: Known<'t>,
+        trail: &mut Trail<'t>,
+    ) -> Result<Flow<'t>, AllocError>
+        requires walks { MayWalk self.now }
+        requires good { AreRead (block_words (block_view self.now.source.now body.now)) }
+        ensures { IfOk result (λ f. Walks (asking self.now quiet) trail.old trail.new f
+            (turn_flow self.now (here self.now trail.old) sets (block_view self.now.source.now body.now) (known_view now.entry))) }
+    {
+        let now = if sets {
+            Some(Made::unknown(self.question.alloc))
+        } else {
+            now
+        };
+        let walk = Walk {
+            question: self.question,
+            file: self.file,
+            name: self.name,
+            source: self.source,
+            left: self.left,
+            quiet,
+        };
+        walk.in_child(1, body, now, trail)
+    }
+
+    /// The flow through conditions, the blocks that they lead to, and the block after `else`.
+    #[cycle(evaluation)]
+    fn in_selection(
+        &self,
+        branches: &'t [Branch],
+        otherwise: &'t Option<Block>,
+        now: Known<'t>,
+        trail: &mut Trail<'t>,
+    ) -> Result<Flow<'t>, AllocError>
+        requires walks { MayWalk self.now }
+        requires branches { AreRead (branches_words (branches_of (branches_view self.now.source.now branches.now)) WordIf) }
+        requires otherwise { AreRead (otherwise_words (else_view self.now.source.now otherwise.now)) }
+        ensures { IfOk result (λ f. Walks self.now trail.old trail.new f
+            (selection_flow self.now (here self.now trail.old) (branches_of (branches_view self.now.source.now branches.now))
+            (else_view self.now.source.now otherwise.now) (known_view now.entry))) }
+    {
+        let mut chosen = Chosen {
+            taken: Flow::going_on(None),
+            left: now,
+        };
+        for i in 0..branches.len() {
+            chosen = self.in_branch(i, &branches[i], chosen, trail)?;
+        }
+        let Chosen { taken, left } = chosen;
+        let last = match otherwise {
+            Some(block) => self.in_child(2 * branches.len(), block, left, trail)?,
+            None => Flow::going_on(left),
+        };
+        Flow::either(self.question.alloc, taken, last)
+    }
+
+    /// The flow through a further condition and the block that it leads to.
+    #[cycle(evaluation)]
+    fn in_branch(
+        &self,
+        number: usize,
+        branch: &'t Branch,
+        chosen: Chosen<'t>,
+        trail: &mut Trail<'t>,
+    ) -> Result<Chosen<'t>, AllocError>
+        requires walks { MayWalk self.now }
+        requires small { number < 2 ^ 63 }
+        requires condition { AreGood (expression_words (branch_view self.now.source.now branch.now).0) }
+        requires block { AreRead (block_words (branch_view self.now.source.now branch.now).1) }
+        ensures { (start : Trail) (before : Choice Span) → Chooses self.now start trail.old chosen.entry before → IfOk result (λ c. Chooses self.now start trail.new c
+            (branch_chosen self.now (here self.now trail.old) (2 * number) (branch_view self.now.source.now branch.now) before)) }
+    {
+        let alloc = self.question.alloc;
+        let Chosen { taken, left } = chosen;
+        let condition = self.in_expr(2 * number, &branch.condition, left, trail)?;
+        let chosen = Chosen::with_condition(alloc, taken, condition)?;
+        let now = copy_known(alloc, &chosen.left)?;
+        let flow = self.in_child(2 * number + 1, &branch.block, now, trail)?;
+        chosen.with_block(alloc, flow)
+    }
+}

@@ -1,0 +1,44 @@
+-- The lists of a value as the code finds them: whether there are any.
+use Rattle.std.proofs.Common.{◌≡◌, ℕ, List, [], ◌∷◌, length, Result, refl, sym, ap, ◌∙◌, arith}
+use Rattle.meson_lex.specs.declared.kinds.Span.{Span}
+use Rattle.meson_syntax.specs.Tree.{Expression}
+use Rattle.meson_calls.specs.declared.refusal.Refusal.{Refusal}
+use Rattle.meson_calls.specs.Loading.{Loaded}
+use Rattle.meson_steps.specs.Steps.{Step}
+use Rattle.meson_steps.specs.declared.given.Given.{Given}
+use Rattle.meson_places.specs.declared.value_lists.FoundList.{FoundList}
+use Rattle.meson_places.specs.Removals.{remove_by, remove_lone, remove_said}
+use Rattle.meson_places.specs.Replacements.{Exchange, replace_by, replace_said}
+use Rattle.meson_places.specs.ValueLists.{ValueList}
+use Rattle.meson_places.specs.inside.Found.{found_lists}
+
+module _ (source : List ℕ) (fs : List FoundList) (ls : List (ValueList Span)) (found : found_lists source fs ≡ ls) where
+  module _ (key : List ℕ) (gs : List Given) (gone : Result (List Step) Refusal) (e : Expression Span) where
+    pub remove_none : length fs ≡ 0 → remove_by key source gs gone e ls ≡ remove_lone key source gs gone e
+    remove_none none = ap (remove_by key source gs gone e) (sym found) ∙ go fs none
+      where
+        go : (xs : List FoundList) → length xs ≡ 0 → remove_by key source gs gone e (found_lists source xs) ≡ remove_lone key source gs gone e
+        go [] is = refl
+        go (x ∷ xs) is = absurd (omega (arith, is))
+
+    pub remove_some : (length fs ≡ 0 → ⊥) → remove_by key source gs gone e ls ≡ remove_said key source gs (found_lists source fs)
+    remove_some some = ap (remove_by key source gs gone e) (sym found) ∙ go fs some
+      where
+        go : (xs : List FoundList) → (length xs ≡ 0 → ⊥) → remove_by key source gs gone e (found_lists source xs) ≡ remove_said key source gs (found_lists source xs)
+        go [] is = absurd (is refl)
+        go (x ∷ xs) is = refl
+
+  module _ (l : Loaded) (key : List ℕ) (x : Exchange) (otherwise : Result (List Step) Refusal) where
+    pub replace_none : length fs ≡ 0 → replace_by l key source x otherwise ls ≡ otherwise
+    replace_none none = ap (replace_by l key source x otherwise) (sym found) ∙ go fs none
+      where
+        go : (ys : List FoundList) → length ys ≡ 0 → replace_by l key source x otherwise (found_lists source ys) ≡ otherwise
+        go [] is = refl
+        go (y ∷ ys) is = absurd (omega (arith, is))
+
+    pub replace_some : (length fs ≡ 0 → ⊥) → replace_by l key source x otherwise ls ≡ replace_said l key source x (found_lists source fs)
+    replace_some some = ap (replace_by l key source x otherwise) (sym found) ∙ go fs some
+      where
+        go : (ys : List FoundList) → (length ys ≡ 0 → ⊥) → replace_by l key source x otherwise (found_lists source ys) ≡ replace_said l key source x (found_lists source ys)
+        go [] is = absurd (is refl)
+        go (y ∷ ys) is = refl
