@@ -1,5 +1,5 @@
--- What is known of a variable at each point of a project, as its files are evaluated: a pass in the order of evaluation, `if` either way, and `foreach` with any
--- number of turns. Meson manual, Syntax: variables are global, and `subdir` evaluates the file that it enters in its place.
+-- What is known of a variable at each point of a project, as its files are evaluated: a pass in the order of evaluation, `if` either way, and `foreach` with
+-- any number of turns. Meson manual, Syntax: variables are global, and `subdir` evaluates the file that it enters in its place.
 use Rattle.std.specs.Prelude.{ℕ, zero, suc, ◌+◌, ◌==◌, nat_eq, Bool, true, false, ◌&&◌, ◌||◌, List, [], ◌∷◌, ◌++◌, length, bytes_eq, if◌then◌else◌, Option, Some, None}
 use Rattle.std.specs.List.{fold, starts_with}
 use Rattle.meson_syntax.specs.Tree.{Expression, Statement, evaluate, assign, selection, iteration, breaks, continues, Branches, no_branches, branch, Otherwise, nothing_else, otherwise, Statements, no_statements, statement, Block, block, File, file}
@@ -21,8 +21,8 @@ pub record Arrival (S : Type 0) : Type 0 where
   pub at_expression : Placed (Expression S)
   pub known : Known S
 
--- What is known after a part of a file, where a turn of the loop around it ends early, and where it leaves the file; whether there is a place in it at which the
--- file is left; and the expressions that are evaluated in it, in order.
+-- What is known after a part of a file, where a turn of the loop around it ends early, and where it leaves the file; whether there is a place in it at which
+-- the file is left; and the expressions that are evaluated in it, in order.
 pub record Flow (S : Type 0) : Type 0 where
   pub now : Known S
   pub turned : Known S
@@ -60,8 +60,8 @@ either_flow f g = record {
 abbrev pub known_if : {S : Type 0} → Bool → Known S → Known S
 known_if b k = if b then k else None
 
--- A loop. Before a turn, and after the loop, is known what was known before the loop or is known after a turn that begins so. One turn says all: what it adds, it
--- adds whatever it begins with. So the file is left with what is known where a first turn leaves it, or before a later one.
+-- A loop. Before a turn, and after the loop, is known what was known before the loop or is known after a turn that begins so. One turn says all: what it adds,
+-- it adds whatever it begins with. So the file is left with what is known where a first turn leaves it, or before a later one.
 abbrev pub around : {S : Type 0} → Known S → Flow S → Known S
 around k once = joined k (joined once.now once.turned)
 
@@ -214,7 +214,8 @@ abbrev pub flow_found : {S : Type 0} → (BuildFile S → Known S → Flow S) �
 flow_found flow None k = going_on (touched k)
 flow_found flow (Some f) k = flow f k
 
--- The file of a number, where this many files may be inside one another. A file enters files in folders below its own alone. So as many as there are files are enough.
+-- The file of a number, where this many files may be inside one another. A file enters files in folders below its own alone. So as many as there are files are
+-- enough.
 abbrev pub flow_file : {S : Type 0} → Project S → List ℕ → ℕ → ℕ → Known S → Flow S
 flow_file p x zero n k = going_on (touched k)
 flow_file p x (suc left) n k = flow_found (λ f. flow_tree x (effect_of p x f.name) (flow_file p x left) n f.tree) (nth_file p n) k

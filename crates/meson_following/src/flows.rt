@@ -3,13 +3,13 @@
 ghost use Rattle.std.specs.Prelude.{◌≡◌, [], None, IfOk};
 ghost use Rattle.meson_following.specs.CodeFlows.{chosen_view, flow_view};
 ghost use Rattle.meson_following.specs.CodeMakers.{known_view};
-ghost use Rattle.meson_following.specs.Flows.{both_flow, either_flow, entered, going_on, left_file, left_turn, looped, passed, with_block, with_condition};
+ghost use Rattle.meson_following.specs.Flows.{around, both_flow, either_flow, entered, going_on, left_file, left_turn, looped, passed, with_block, with_condition};
 
 use crate::makers::{Known, copy_known, join, touch};
 use std::alloc::{AllocError, Global};
 
-/// What is known after a part of a file, where a turn of the loop around it ends early, and where it leaves the file; and whether there is a place in it at which
-/// the file is left.
+/// What is known after a part of a file, where a turn of the loop around it ends early, and where it leaves the file; and whether there is a place in it at
+/// which the file is left.
 #[derive(Drop)]
 pub struct Flow<'t> {
     pub now: Known<'t>,
@@ -112,6 +112,16 @@ impl<'t> Flow<'t> {
             ended,
             leaves: first.leaves || second.leaves,
         })
+    }
+
+    /// What is known before a turn of a loop, by what is known before the loop and by this first turn.
+    pub fn around(&self, alloc: Global, now: Known<'t>) -> Result<Known<'t>, AllocError>
+        ensures { IfOk result (λ k. known_view k ≡ around (known_view now.entry) (flow_view self.entry.now)) }
+    {
+        let end = copy_known(alloc, &self.now)?;
+        let turned = copy_known(alloc, &self.turned)?;
+        let turn = join(alloc, end, turned)?;
+        join(alloc, now, turn)
     }
 
     /// After the turns of a loop, of which one was walked through: what is known before each turn, and that turn.

@@ -13,29 +13,18 @@ ghost use Rattle.meson_calls.specs.Project.{child};
 ghost use Rattle.meson_calls.specs.Strings.{AreGood};
 ghost use Rattle.meson_calls.specs.inside.Walks.{else_view};
 ghost use Rattle.meson_variables.specs.Variables.{one_of_names};
-ghost use Rattle.meson_following.specs.CodeFlows.{flow_view};
 ghost use Rattle.meson_following.specs.CodeMakers.{known_view};
-ghost use Rattle.meson_following.specs.Flows.{Choice, around, known_at};
+ghost use Rattle.meson_following.specs.Flows.{Choice, known_at};
 ghost use Rattle.meson_following.specs.Walks.{AreRead, Chooses, FlowsAs, MayWalk, Walks, asking, met_unless, block_flow, branch_chosen, effect_flow, evaluated_flow, file_flow, here, loop_flow, project_of, selection_flow, statement_flow, turn_flow, wanted};
 
 use crate::effects::Effect;
 use crate::flows::{Chosen, Flow};
-use crate::makers::{Known, Made, copy_known, join, touch};
+use crate::makers::{Known, Made, copy_known, touch};
 use crate::walk::{Question, Trail, Walk};
 use meson_lex::Span;
 use meson_syntax::{Block, Branch, Expr, Stmt};
 use meson_variables::setters::one_of;
 use std::alloc::{AllocError, Global};
-
-/// What is known before a turn of a loop, by what is known before the loop and by a first turn.
-fn around<'t>(alloc: Global, now: Known<'t>, once: &Flow<'t>) -> Result<Known<'t>, AllocError>
-    ensures { IfOk result (λ k. known_view k ≡ around (known_view now.entry) (flow_view once.entry.now)) }
-{
-    let end = copy_known(alloc, &once.now)?;
-    let turned = copy_known(alloc, &once.turned)?;
-    let turn = join(alloc, end, turned)?;
-    join(alloc, now, turn)
-}
 
 impl<'t> Question<'t> {
     /// What is known of the variable where the expression at the place is evaluated, in whichever of the ways it is reached.
@@ -65,7 +54,8 @@ impl<'t> Question<'t> {
         found: &mut Known<'t>,
     ) -> Result<Flow<'t>, AllocError>
         requires { IsProject (loaded_from self.now.files.now self.now.trees.now) }
-        ensures { IfOk result (λ f. FlowsAs quiet (wanted self.now) f (known_view found.old) (known_view found.new) (file_flow self.now left file (known_view now.entry))) }
+        ensures { IfOk result (λ f. FlowsAs quiet (wanted self.now) f (known_view found.old) (known_view found.new)
+            (file_flow self.now left file (known_view now.entry))) }
     {
         if left == 0 || file >= self.trees.len() {
             return Ok(Flow::going_on(touch(self.alloc, now)?));
@@ -264,8 +254,9 @@ impl<'t> Walk<'t> {
         requires walks { MayWalk self.now }
         requires items { AreGood (expression_words (expr_view self.now.source.now items.now)) }
         requires body { AreRead (block_words (block_view self.now.source.now body.now)) }
-        ensures { (s : Span) → IfOk result (λ f. Walks self.now trail.old trail.new f (statement_flow self.now (here self.now trail.old)
-            (tree.iteration s (names_at self.now.source.now names.now) (expr_view self.now.source.now items.now) (block_view self.now.source.now body.now)) (known_view now.entry))) }
+        ensures { (s : Span) → let source = self.now.source.now in
+            let loop = tree.iteration s (names_at source names.now) (expr_view source items.now) (block_view source body.now) in
+            IfOk result (λ f. Walks self.now trail.old trail.new f (statement_flow self.now (here self.now trail.old) loop (known_view now.entry))) }
     {
         let mut flow = self.in_expr(0, items, now, trail)?;
         let now = flow.now.take();
@@ -291,7 +282,7 @@ impl<'t> Walk<'t> {
         let alloc = self.question.alloc;
         let first = copy_known(alloc, &now)?;
         let once = self.in_turn(true, sets, body, first, trail)?;
-        let before = around(alloc, now, &once)?;
+        let before = once.around(alloc, now)?;
         self.ask_in_turn(sets, body, &before, trail)?;
         Flow::looped(alloc, before, once)
     }
@@ -394,7 +385,8 @@ impl<'t> Walk<'t> {
         requires small { number < 2 ^ 63 }
         requires condition { AreGood (expression_words (branch_view self.now.source.now branch.now).0) }
         requires block { AreRead (block_words (branch_view self.now.source.now branch.now).1) }
-        ensures { (start : Trail) (before : Choice Span) → Chooses self.now start trail.old chosen.entry before → IfOk result (λ c. Chooses self.now start trail.new c
+        ensures { (start : Trail) (before : Choice Span) → Chooses self.now start trail.old chosen.entry before
+            → IfOk result (λ c. Chooses self.now start trail.new c
             (branch_chosen self.now (here self.now trail.old) (2 * number) (branch_view self.now.source.now branch.now) before)) }
     {
         let alloc = self.question.alloc;
