@@ -1,15 +1,18 @@
 -- The call that an id names stands at its place, with its arguments in round brackets.
-use Rattle.meson_calls.proofs.Words.{false, if◌then◌else◌, bytes_eq, Ok, ◌≡◌, ℕ, List, [], ◌∷◌, map, Some, None, refl, ap, ◌∙◌, subst, Bool, true, then_ok}
+use Rattle.meson_calls.proofs.Words.{Err, false, if◌then◌else◌, bytes_eq, Ok, ◌≡◌, ℕ, List, [], ◌∷◌, map, Some, None, refl, ap, ◌∙◌, subst, Bool, true, then_ok}
 use Rattle.meson_calls.proofs.Words.{Span, ListIn, list_in, Name, Expression, call, Statement, assign, Every, CallThere, CallsStand, Call, call_of, part_call}
-use Rattle.meson_calls.proofs.Words.{all_chosen, calls, first_literal, is, only_one, any_project, with_name, set_to, part_set_to, value_of_assignment}
-use Rattle.meson_calls.proofs.Words.{assigned_values, or_else, named_or_assigned, found, project_ids, Part, parts, Project, Placed, placed, child}
+use Rattle.meson_calls.proofs.Words.{all_chosen, first_literal, is, only_one, any_project, with_name, set_to, part_set_to, value_of_assignment}
+use Rattle.meson_calls.proofs.Words.{or_else, named_or_set, found_among, values_among, within, project_ids, Option, Result, Refusal, sym, role_calls_among, Part, parts, Project, Placed, placed, child}
 use Rattle.meson_calls.proofs.Words.{expression_at, has_role, with_role, role_calls, one_of, Role}
 use Rattle.meson_syntax.specs.declared.operator.Assignment.TheVariants as assignment
 use Rattle.meson_syntax.specs.declared.operator.Bracket.TheVariants as bracket
 use Rattle.meson_calls.specs.declared.call.Role.TheVariants as role
 use Rattle.meson_calls.specs.Parts as part
-use Rattle.meson_calls.specs.Finding.{the_call}
+use Rattle.meson_calls.specs.Finding.{call_within, the_call}
+use Rattle.meson_calls.specs.Searching.{project_names, searched_file}
+use Rattle.meson_calls.specs.declared.call.CallName.{CallName}
 use Rattle.meson_calls.proofs.CallsReached.{every_chosen, InProject, every_part}
+use Rattle.meson_calls.proofs.Searched.{every_within}
 use Rattle.meson_calls.proofs.ExpressionsAt.{list_here, expression_stands, assigned_stands}
 
 -- ---- calls at their places
@@ -81,16 +84,16 @@ every_or : {X : Type 0} (P : X → Type 0) (xs ys : List X) → Every P xs → E
 every_or P [] ys a b = b
 every_or P (x ∷ xs) ys a b = a
 
-every_role : (p : Project Span) (r : Role) → Every (RoleAt p r) (role_calls p r)
-every_role p r = every_chosen (CallAt p) (RoleAt p r) (with_role r) (role_at p r) (calls p) (every_chosen (InProject 0 p) (CallAt p) part_call (part_at p) (parts p) (every_part 0 p))
+every_among : (p : Project Span) (r : Role) (qs : List (Placed (Part Span))) → Every (InProject 0 p) qs → Every (RoleAt p r) (role_calls_among qs r)
+every_among p r qs all = every_chosen (CallAt p) (RoleAt p r) (with_role r) (role_at p r) (all_chosen part_call qs) (every_chosen (InProject 0 p) (CallAt p) part_call (part_at p) qs all)
 
-every_named : (p : Project Span) (r : Role) (id : List ℕ) → Every (RoleAt p r) (named_or_assigned p r id)
-every_named p r id =
+every_named : (p : Project Span) (r : Role) (id : List ℕ) (qs : List (Placed (Part Span))) → Every (InProject 0 p) qs → Every (RoleAt p r) (named_or_set qs r id)
+every_named p r id qs all =
     every_or (RoleAt p r) _ _
-    (every_chosen (RoleAt p r) (RoleAt p r) (with_name id) (named_at p r id) (role_calls p r) (every_role p r))
-    (every_chosen (CallAt p) (RoleAt p r) (with_role r) (role_at p r) (all_chosen call_of (assigned_values p id))
-    (every_chosen (ValueAt p) (CallAt p) call_of (value_at p) (assigned_values p id)
-    (every_value p (all_chosen (part_set_to id) (parts p)) (every_chosen (InProject 0 p) (SetAt p) (part_set_to id) (set_at p id) (parts p) (every_part 0 p)))))
+    (every_chosen (RoleAt p r) (RoleAt p r) (with_name id) (named_at p r id) (role_calls_among qs r) (every_among p r qs all))
+    (every_chosen (CallAt p) (RoleAt p r) (with_role r) (role_at p r) (all_chosen call_of (values_among qs id))
+    (every_chosen (ValueAt p) (CallAt p) call_of (value_at p) (values_among qs id)
+    (every_value p (all_chosen (part_set_to id) qs) (every_chosen (InProject 0 p) (SetAt p) (part_set_to id) (set_at p id) qs all))))
 
 every_if : {X : Type 0} (P : X → Type 0) (xs : List X) (b : Bool) → Every P xs → Every P (if b then xs else [])
 every_if P xs true all = all
@@ -105,11 +108,23 @@ one_behind : (p : Project Span) (r : Role) (xs ys : List (Placed (Call Span))) (
 one_behind p r [] ys c all h = absurd cc
 one_behind p r (x ∷ xs) ys c all h = one_at p r ys c all h
 
-pub role_found : (p : Project Span) (r : Role) (id : List ℕ) (c : Placed (Call Span)) → the_call p r id ≡ Ok c → RoleAt p r c
-role_found p role.Target id c h = one_at p role.Target (found p role.Target id) c (every_named p role.Target id) h
-role_found p role.Dependency id c h = one_at p role.Dependency (found p role.Dependency id) c (every_named p role.Dependency id) h
-role_found p role.Project id c h =
-    one_behind p role.Project (role_calls p role.Project) (found p role.Project id) c (every_if (RoleAt p role.Project) (role_calls p role.Project) (one_of project_ids id) (every_role p role.Project)) h
+searched_parts : (w : Option ℕ) (p : Project Span) → Every (InProject 0 p) (within w (parts p))
+searched_parts w p = every_within (InProject 0 p) w (parts p) (every_part 0 p)
+
+pub within_found : (w : Option ℕ) (p : Project Span) (r : Role) (id : List ℕ) (c : Placed (Call Span)) → call_within w p r id ≡ Ok c → RoleAt p r c
+within_found w p role.Target id c h = one_at p role.Target _ c (every_named p role.Target id (within w (parts p)) (searched_parts w p)) h
+within_found w p role.Dependency id c h = one_at p role.Dependency _ c (every_named p role.Dependency id (within w (parts p)) (searched_parts w p)) h
+within_found w p role.Project id c h =
+    let qs = within w (parts p) in
+    one_behind p role.Project (role_calls p role.Project) _ c
+    (every_if (RoleAt p role.Project) (role_calls_among qs role.Project) (one_of project_ids id) (every_among p role.Project qs (searched_parts w p))) h
+
+pub role_found : (p : Project Span) (r : Role) (name : CallName) (c : Placed (Call Span)) → the_call p r name ≡ Ok c → RoleAt p r c
+role_found p r name c h = go (searched_file (project_names p) name.folder) h
+  where
+    go : (o : Result (Option ℕ) Refusal) → then_ok o (λ w. call_within w p r name.id) ≡ Ok c → RoleAt p r c
+    go (Ok w) k = within_found w p r name.id c k
+    go (Err e) k = absurd cc
 
 -- ---- its list
 
@@ -132,4 +147,4 @@ call_there p c at =
     record { there = h.there; is_list = h.same_list ∙ r.same; is_round = h.same_bracket ∙ r.is_round }
 
 pub calls_stand : CallsStand
-calls_stand p r id c h = call_there p c (role_found p r id c h).at
+calls_stand p r name c h = call_there p c (role_found p r name c h).at

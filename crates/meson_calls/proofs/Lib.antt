@@ -15,6 +15,8 @@ pub mod StatementParts
 pub mod FileTurns
 pub mod FirstArguments
 pub mod Picked
+pub mod Searched
+pub mod SearchedFiles
 pub mod Entered
 pub mod Standing
 pub mod GoodParts
@@ -35,6 +37,7 @@ pub mod ExpressionsAt
 pub mod CallsFound
 pub mod OneCall
 pub mod NotedCalls
+mod NamePositions
 pub mod CallLists
 pub mod FirstValue
 pub mod PartsContained

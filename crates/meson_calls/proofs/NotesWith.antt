@@ -1,10 +1,10 @@
 -- What is read off notes without the files in which none of some words stands is what is read off all notes.
 use Rattle.meson_calls.proofs.Words.{codes, if◌then◌else◌, ◌≡◌, ℕ, ◌+◌, List, [], ◌∷◌, ◌++◌, sym, ap, ap₂, subst, All-head, All-tail, then_ok, File, view}
-use Rattle.meson_calls.proofs.Words.{Parsed, assigned_places, found_places, note_has_name, note_has_role, note_sets_call, places_that, places_with_role}
+use Rattle.meson_calls.proofs.Words.{Parsed, assigned_places, found_places, named_places, places_within, Option, note_has_name, note_has_role, note_sets_call, places_that, places_with_role}
 use Rattle.meson_calls.proofs.Words.{only_one, AreParsed, named_trees, views, or_else, project_ids, noted, notes, any_place, parts_of_file, child, one_of}
 use Rattle.meson_calls.proofs.Words.{HasNone, HasNoneOf, AreNotesOf, whole, passed, AreNotesWith, sought_words, NotesGood, Role}
 use Rattle.meson_calls.specs.declared.call.Role.TheVariants as role
-use Rattle.meson_calls.specs.OnePlace.{the_place}
+use Rattle.meson_calls.specs.OnePlace.{place_within}
 use Rattle.meson_calls.proofs.NoteReadings.{Notes, notes_from, notes_after, same_read, picked_gathers, none_picked}
 use Rattle.meson_calls.proofs.NothingRead.{names_nothing, no_project, value_unnamed}
 
@@ -66,9 +66,8 @@ module _ (r : Role) (id : List ℕ) (files : List File) (parsed : List Parsed) (
         (λ bytes none n stands. none_picked (λ k. child k.place 0) (λ k. note_sets_call r id k.it) n (value_unnamed bytes r id (first_word bytes id ((92 ∷ []) ∷ []) none) n.it stands))
         0 files parsed ns parses are
 
-    pub named_found : or_else (places_that (note_has_name r id) ns) (assigned_places r id ns)
-        ≡ or_else (places_that (note_has_name r id) (notes (named_trees files (views files parsed)))) (assigned_places r id (notes (named_trees files (views files parsed))))
-    named_found = ap₂ or_else same_named same_values
+    pub named_found : (w : Option ℕ) → named_places w r id ns ≡ named_places w r id (notes (named_trees files (views files parsed)))
+    named_found w = ap₂ (λ xs ys. or_else (places_within w xs) (places_within w ys)) same_named same_values
 
 same_projects : (files : List File) (parsed : List Parsed) (ns : Notes) → AreParsed files parsed → AreNotesWith (codes "project" ∷ []) 0 files parsed ns
     → places_with_role role.Project ns ≡ places_with_role role.Project (notes (named_trees files (views files parsed)))
@@ -77,15 +76,15 @@ same_projects files parsed ns parses are =
     (λ bytes none n stands. none_picked (λ k. k.place) (λ k. note_has_role role.Project k.it) n (no_project bytes (first_word bytes (codes "project") [] none) n.it stands))
     0 files parsed ns parses are
 
-pub same_found : (r : Role) (id : List ℕ) (files : List File) (parsed : List Parsed) (ns : Notes) → AreParsed files parsed → AreNotesWith (sought_words r id) 0 files parsed ns
-    → found_places r id ns ≡ found_places r id (notes (named_trees files (views files parsed)))
-same_found role.Target id files parsed ns parses are = named_found role.Target id files parsed ns parses are
-same_found role.Dependency id files parsed ns parses are = named_found role.Dependency id files parsed ns parses are
-same_found role.Project id files parsed ns parses are = ap (λ ps. if one_of project_ids id then ps else []) (same_projects files parsed ns parses are)
+pub same_found : (w : Option ℕ) (r : Role) (id : List ℕ) (files : List File) (parsed : List Parsed) (ns : Notes) → AreParsed files parsed → AreNotesWith (sought_words r id) 0 files parsed ns
+    → found_places w r id ns ≡ found_places w r id (notes (named_trees files (views files parsed)))
+same_found w role.Target id files parsed ns parses are = named_found role.Target id files parsed ns parses are w
+same_found w role.Dependency id files parsed ns parses are = named_found role.Dependency id files parsed ns parses are w
+same_found w role.Project id files parsed ns parses are = ap (λ ps. if one_of project_ids id then places_within w ps else []) (same_projects files parsed ns parses are)
 
-pub same_place : (r : Role) (id : List ℕ) (files : List File) (parsed : List Parsed) (ns : Notes) → AreParsed files parsed → AreNotesWith (sought_words r id) 0 files parsed ns
-    → the_place r id ns ≡ the_place r id (notes (named_trees files (views files parsed)))
-same_place role.Target id files parsed ns parses are = ap only_one (same_found role.Target id files parsed ns parses are)
-same_place role.Dependency id files parsed ns parses are = ap only_one (same_found role.Dependency id files parsed ns parses are)
-same_place role.Project id files parsed ns parses are =
-    ap₂ (λ ps qs. then_ok (any_place ps) (λ _. only_one qs)) (same_projects files parsed ns parses are) (same_found role.Project id files parsed ns parses are)
+pub same_place : (w : Option ℕ) (r : Role) (id : List ℕ) (files : List File) (parsed : List Parsed) (ns : Notes) → AreParsed files parsed → AreNotesWith (sought_words r id) 0 files parsed ns
+    → place_within w r id ns ≡ place_within w r id (notes (named_trees files (views files parsed)))
+same_place w role.Target id files parsed ns parses are = ap only_one (same_found w role.Target id files parsed ns parses are)
+same_place w role.Dependency id files parsed ns parses are = ap only_one (same_found w role.Dependency id files parsed ns parses are)
+same_place w role.Project id files parsed ns parses are =
+    ap₂ (λ ps qs. then_ok (any_place ps) (λ _. only_one qs)) (same_projects files parsed ns parses are) (same_found w role.Project id files parsed ns parses are)

@@ -1,15 +1,16 @@
 -- Places of notes that pass a test, one note after another; and those of a role.
-use Rattle.meson_calls.proofs.Words.{cons_option, false, ◌&&◌, bytes_eq, if◌then◌else◌, option_map, filter, ◌≡◌, ℕ, ◌+◌, ◌<◌, List, [], ◌∷◌, ◌++◌, length, drop}
+use Rattle.meson_calls.proofs.Words.{cons_option, false, ap₂, ◌==◌, ◌&&◌, bytes_eq, if◌then◌else◌, option_map, filter, ◌≡◌, ℕ, ◌+◌, ◌<◌, List, [], ◌∷◌, ◌++◌, length, drop}
 use Rattle.meson_calls.proofs.Words.{get_or, map, refl, sym, ap, ◌∙◌, Bool, true, Option, Some, None, append_assoc, at_drop_more, Span, Name, Expression}
 use Rattle.meson_calls.proofs.Words.{Statement, evaluate, assign, selection, iteration, breaks, continues, Call, call_of, part_call, all_chosen, first_literal}
 use Rattle.meson_calls.proofs.Words.{is, note_has_name, note_sets_call, is_role_call, assigned_places, named_places, found_places, places_that}
-use Rattle.meson_calls.proofs.Words.{places_with_role, with_name, part_set_to, value_of_assignment, assigned_values, named_or_assigned, or_else, found}
+use Rattle.meson_calls.proofs.Words.{places_with_role, with_name, part_set_to, value_of_assignment, assigned_values, named_or_set, or_else, found_among, values_among, places_within, within, role_calls_among}
 use Rattle.meson_calls.proofs.Words.{project_ids, Note, a_call, an_assignment, a_loop, note_of, noted, notes, note_view, note_views, Part, parts, Project}
 use Rattle.meson_calls.proofs.Words.{Placed, placed, child, has_role, with_role, role_calls, places, one_of, CallRef, Role}
 use Rattle.meson_syntax.specs.declared.operator.Assignment.TheVariants as assignment
 use Rattle.meson_calls.specs.declared.call.Role.TheVariants as role
 use Rattle.meson_calls.specs.declared.note.Note as code
 use Rattle.meson_calls.specs.Parts.{an_expression, a_statement}
+use Rattle.meson_calls.proofs.Searched.{within_chosen, within_moved}
 
 module _ (test : Note Span → Bool) where
   pick : Bool → CallRef → List CallRef → List CallRef
@@ -161,17 +162,52 @@ either_places : {X : Type 0} (xs ys : List (Placed X)) → or_else (places xs) (
 either_places [] ys = refl
 either_places (x ∷ xs) ys = refl
 
-named : (r : Role) (id : List ℕ) (p : Project Span) → named_places r id (notes p) ≡ places (named_or_assigned p r id)
-named r id p =
-    ap (λ a. or_else a (assigned_places r id (notes p))) (name_places r id p)
-    ∙ ap (or_else (places (all_chosen (with_name id) (role_calls p r)))) (value_places r id p)
-    ∙ either_places (all_chosen (with_name id) (role_calls p r)) (all_chosen (with_role r) (all_chosen call_of (assigned_values p id)))
+-- the places of those in a file
+in_file : {X : Type 0} (n : ℕ) (xs : List (Placed X)) → filter (λ (c : CallRef). c.file == n) (places xs) ≡ places (filter (λ x. x.place.file == n) xs)
+in_file n [] = refl
+in_file {X} n (x ∷ xs) = go (x.place.file == n) (in_file n xs)
+  where
+    go : (b : Bool) → filter (λ (c : CallRef). c.file == n) (places xs) ≡ places (filter (λ y. y.place.file == n) xs)
+        → (if b then x.place ∷ filter (λ (c : CallRef). c.file == n) (places xs) else filter (λ (c : CallRef). c.file == n) (places xs))
+        ≡ places (if b then x ∷ filter (λ y. y.place.file == n) xs else filter (λ y. y.place.file == n) xs)
+    go true rest = ap (λ ps. x.place ∷ ps) rest
+    go false rest = rest
 
-project_places : (b : Bool) (p : Project Span) → (if b then places_with_role role.Project (notes p) else []) ≡ places (if b then role_calls p role.Project else [])
-project_places true p = role_places role.Project p
-project_places false p = refl
+pub searched_places : {X : Type 0} (w : Option ℕ) (xs : List (Placed X)) → places_within w (places xs) ≡ places (within w xs)
+searched_places None xs = refl
+searched_places (Some n) xs = in_file n xs
 
-pub found_notes : (r : Role) (id : List ℕ) (p : Project Span) → found_places r id (notes p) ≡ places (found p r id)
-found_notes role.Target id p = named role.Target id p
-found_notes role.Dependency id p = named role.Dependency id p
-found_notes role.Project id p = project_places (one_of project_ids id) p
+calls_searched : (w : Option ℕ) (r : Role) (qs : List (Placed (Part Span))) → within w (role_calls_among qs r) ≡ role_calls_among (within w qs) r
+calls_searched w r qs = within_chosen w (with_role r) (all_chosen part_call qs) ∙ ap (all_chosen (with_role r)) (within_chosen w part_call qs)
+
+-- what is searched of the calls of a name, and of those that a variable is set to
+named_searched : (w : Option ℕ) (r : Role) (id : List ℕ) (qs : List (Placed (Part Span))) → within w (all_chosen (with_name id) (role_calls_among qs r)) ≡ all_chosen (with_name id) (role_calls_among (within w qs) r)
+named_searched w r id qs =
+    within_chosen w (with_name id) (role_calls_among qs r) ∙ ap (all_chosen (with_name id)) (calls_searched w r qs)
+
+set_searched : (w : Option ℕ) (r : Role) (id : List ℕ) (qs : List (Placed (Part Span)))
+    → within w (all_chosen (with_role r) (all_chosen call_of (values_among qs id))) ≡ all_chosen (with_role r) (all_chosen call_of (values_among (within w qs) id))
+set_searched w r id qs =
+    within_chosen w (with_role r) (all_chosen call_of (values_among qs id))
+    ∙ ap (all_chosen (with_role r)) (within_chosen w call_of (values_among qs id)
+    ∙ ap (all_chosen call_of) (within_moved w (all_chosen (part_set_to id) qs) ∙ ap (map value_of_assignment) (within_chosen w (part_set_to id) qs)))
+
+named : (w : Option ℕ) (r : Role) (id : List ℕ) (p : Project Span) → named_places w r id (notes p) ≡ places (named_or_set (within w (parts p)) r id)
+named w r id p =
+    let cs = all_chosen (with_name id) (role_calls_among (within w (parts p)) r) in
+    let ds = all_chosen (with_role r) (all_chosen call_of (values_among (within w (parts p)) id)) in
+    ap₂ or_else
+    (ap (places_within w) (name_places r id p) ∙ searched_places w (all_chosen (with_name id) (role_calls p r)) ∙ ap places (named_searched w r id (parts p)))
+    (ap (places_within w) (value_places r id p) ∙ searched_places w (all_chosen (with_role r) (all_chosen call_of (assigned_values p id))) ∙ ap places (set_searched w r id (parts p)))
+    ∙ either_places cs ds
+
+project_places : (w : Option ℕ) (b : Bool) (p : Project Span)
+    → (if b then places_within w (places_with_role role.Project (notes p)) else []) ≡ places (if b then role_calls_among (within w (parts p)) role.Project else [])
+project_places w true p =
+    ap (places_within w) (role_places role.Project p) ∙ searched_places w (role_calls p role.Project) ∙ ap places (calls_searched w role.Project (parts p))
+project_places w false p = refl
+
+pub found_notes : (w : Option ℕ) (r : Role) (id : List ℕ) (p : Project Span) → found_places w r id (notes p) ≡ places (found_among (within w (parts p)) r id)
+found_notes w role.Target id p = named w role.Target id p
+found_notes w role.Dependency id p = named w role.Dependency id p
+found_notes w role.Project id p = project_places w (one_of project_ids id) p

@@ -80,7 +80,9 @@ pub use Rattle.meson_calls.specs.Folders.{slash_parts}
 pub use Rattle.meson_calls.specs.GoodLists.{GoodArgs, GoodArguments, GoodListing}
 pub use Rattle.meson_calls.specs.Loading.{AreParsed, HasFileName, HasTree, IsFirstUnread, name_of_file, named_trees, views}
 pub use Rattle.meson_calls.specs.NamedArguments.{IsFirstNamed, kept_arg, kept_args, number_behind, once, rest}
-pub use Rattle.meson_calls.specs.Naming.{assigned_values, found, named_or_assigned, or_else, part_set_to, project_ids, set_to, value_of_assignment, with_name}
+pub use Rattle.meson_calls.specs.Naming.{assigned_values, found, found_among, named_or_assigned, named_or_set, or_else, part_set_to, project_ids, set_to, value_of_assignment}
+pub use Rattle.meson_calls.specs.Naming.{values_among, with_name}
+pub use Rattle.meson_calls.specs.Searching.{names_of, places_within, position_of_name, project_names, searched_file, within}
 pub use Rattle.meson_calls.specs.Notes.{a_call, a_loop, an_assignment, is_set, Note, note_of, note_view, note_views, noted, notes, ranged_view, taken_view}
 pub use Rattle.meson_calls.specs.Notes.{what_view}
 pub use Rattle.meson_calls.specs.OnePlace.{any_place}
@@ -89,7 +91,7 @@ pub use Rattle.meson_calls.specs.Parts.{parts_of_arguments, parts_of_block, part
 pub use Rattle.meson_calls.specs.Parts.{parts_of_operands, parts_of_otherwise, parts_of_statement, parts_of_statements, parts_of_tail, parts_of_tails}
 pub use Rattle.meson_calls.specs.Parts.{tail_child_count}
 pub use Rattle.meson_calls.specs.Project.{BuildFile, child, expression_at, nth_file, place, place_at, Placed, placed, Project}
-pub use Rattle.meson_calls.specs.Roles.{has_role, is_target, is_target_call, one_of, places, role_calls, with_role}
+pub use Rattle.meson_calls.specs.Roles.{has_role, is_target, is_target_call, one_of, places, role_calls, role_calls_among, with_role}
 pub use Rattle.meson_calls.specs.Setters.{any_sets_by_call, AreAssignments, AreKept, AreSetters, assignment_at, assignments_in, BeginWithSetters, has_loop}
 pub use Rattle.meson_calls.specs.Setters.{is_among, is_known, is_loop, is_setter, IsKept, NoCallSets, notes_asked, sets_by_call, setters_in}
 pub use Rattle.meson_calls.specs.Spelling.{AreNotesOf, AreNotesWith, HasNone, HasNoneOf, passed, setter_words, sought_words, whole}

@@ -5,6 +5,7 @@ use Rattle.meson_splice.specs.declared.file_set.File.{File}
 use Rattle.meson_syntax.specs.declared.operator.Bracket.TheVariants as bracket
 use Rattle.meson_syntax.specs.declared.tree.Parsed.{Parsed}
 use Rattle.meson_syntax.specs.Paths.{ListAt, list_at}
+use Rattle.meson_calls.specs.declared.call.CallName.{CallName}
 use Rattle.meson_calls.specs.declared.call.CallRef.{CallRef}
 use Rattle.meson_calls.specs.declared.call.Role.{Role}
 use Rattle.meson_calls.specs.Project.{Project, BuildFile, Placed, placed, expression_at, nth_file}
@@ -38,4 +39,4 @@ pub record CallIn (trees : List Parsed) (place : CallRef) : Type 0 where
   pub there : CallThere (named_trees files (views files trees)) call
 
 abbrev pub CallsStand : Type 0
-CallsStand = (p : Project Span) (r : Role) (id : List ℕ) (c : Placed (Call Span)) → the_call p r id ≡ Ok c → CallThere p c
+CallsStand = (p : Project Span) (r : Role) (name : CallName) (c : Placed (Call Span)) → the_call p r name ≡ Ok c → CallThere p c

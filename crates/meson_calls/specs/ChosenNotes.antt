@@ -12,6 +12,7 @@ use Rattle.meson_calls.specs.Project.{Placed, child, placed}
 use Rattle.meson_calls.specs.Calls.{Call, call_of, first_literal, is}
 use Rattle.meson_calls.specs.Roles.{has_role, one_of}
 use Rattle.meson_calls.specs.Naming.{or_else, project_ids}
+use Rattle.meson_calls.specs.Searching.{places_within}
 use Rattle.meson_calls.specs.Notes.{Note, a_call, an_assignment, a_loop}
 use Rattle.meson_calls.specs.Subdirs.{entered}
 
@@ -57,13 +58,14 @@ note_sets_call r id (a_loop xs) = false
 abbrev pub assigned_places : {S : Type 0} → Role → List ℕ → List (Placed (Note S)) → List CallRef
 assigned_places r id ns = map (λ n. child n.place 0) (filter (λ n. note_sets_call r id n.it) ns)
 
-abbrev pub named_places : {S : Type 0} → Role → List ℕ → List (Placed (Note S)) → List CallRef
-named_places r id ns = or_else (places_that (note_has_name r id) ns) (assigned_places r id ns)
+abbrev pub named_places : {S : Type 0} → Option ℕ → Role → List ℕ → List (Placed (Note S)) → List CallRef
+named_places w r id ns = or_else (places_within w (places_that (note_has_name r id) ns)) (places_within w (assigned_places r id ns))
 
-abbrev pub found_places : {S : Type 0} → Role → List ℕ → List (Placed (Note S)) → List CallRef
-found_places role.Target id ns = named_places role.Target id ns
-found_places role.Dependency id ns = named_places role.Dependency id ns
-found_places role.Project id ns = if one_of project_ids id then places_with_role role.Project ns else []
+-- the places of the calls that an id names in the files that are searched
+abbrev pub found_places : {S : Type 0} → Option ℕ → Role → List ℕ → List (Placed (Note S)) → List CallRef
+found_places w role.Target id ns = named_places w role.Target id ns
+found_places w role.Dependency id ns = named_places w role.Dependency id ns
+found_places w role.Project id ns = if one_of project_ids id then places_within w (places_with_role role.Project ns) else []
 
 -- the files that the file of this name enters
 abbrev pub note_enters : {S : Type 0} → List ℕ → Note S → Option (List ℕ)

@@ -3,6 +3,7 @@ pub mod Parts
 pub mod Calls
 pub mod Folders
 pub mod Roles
+pub mod Searching
 pub mod Naming
 pub mod Subdirs
 pub mod Loading

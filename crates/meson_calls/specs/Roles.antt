@@ -6,7 +6,8 @@ use Rattle.meson_calls.specs.declared.call.CallRef.{CallRef}
 use Rattle.meson_calls.specs.declared.call.Role.{Role}
 use Rattle.meson_calls.specs.declared.call.Role.TheVariants as role
 use Rattle.meson_calls.specs.Project.{Project, Placed, expression_at}
-use Rattle.meson_calls.specs.Calls.{Call, call_of, all_chosen, calls, first_argument}
+use Rattle.meson_calls.specs.Calls.{Call, call_of, all_chosen, first_argument, part_call}
+use Rattle.meson_calls.specs.Parts.{Part, parts}
 
 -- the functions that make targets: Meson manual, Reference manual
 abbrev pub target_functions : List (List ℕ)
@@ -26,9 +27,12 @@ has_role role.Project c = bytes_eq c.function (codes "project")
 abbrev pub with_role : {S : Type 0} → Role → Call S → Option (Call S)
 with_role r c = if has_role r c then Some c else None
 
--- the calls of a role
+-- the calls of a role among some parts, and in a project
+abbrev pub role_calls_among : {S : Type 0} → List (Placed (Part S)) → Role → List (Placed (Call S))
+role_calls_among qs r = all_chosen (with_role r) (all_chosen part_call qs)
+
 abbrev pub role_calls : {S : Type 0} → Project S → Role → List (Placed (Call S))
-role_calls p r = all_chosen (with_role r) (calls p)
+role_calls p r = role_calls_among (parts p) r
 
 abbrev pub places : {X : Type 0} → List (Placed X) → List CallRef
 places xs = map (λ x. x.place) xs

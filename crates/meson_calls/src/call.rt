@@ -2,6 +2,7 @@
 
 ghost use Rattle.std.specs.Prelude.{◌≡◌};
 
+use meson_splice::Text;
 use meson_syntax::Path;
 
 /// What a command is about.
@@ -13,6 +14,34 @@ pub enum Role {
     Dependency,
     /// A call of `project`.
     Project,
+}
+
+/// What names a call: an id, and the folder whose build file alone is searched for it, if one is given. `.` is the root folder.
+#[derive(Debug, Drop)]
+pub struct CallName {
+    pub id: Text,
+    pub folder: Option<Text>,
+}
+
+/// The same, borrowed.
+#[derive(Clone, Copy)]
+pub struct BorrowedName<'n> {
+    pub id: &'n str,
+    pub folder: Option<&'n Text>,
+}
+
+impl CallName {
+    ghost use Rattle.meson_calls.specs.Searching.{name_at};
+
+    /// The name, borrowed from here.
+    pub fn as_name(&self) -> BorrowedName<'_>
+        ensures { name_at result ≡ self.now }
+    {
+        BorrowedName {
+            id: self.id.get(),
+            folder: self.folder.as_ref(),
+        }
+    }
 }
 
 /// The place of a node, mostly of a call or an array: the number of its file, and the path in it.

@@ -26,12 +26,13 @@ pub mod part;
 pub mod place;
 pub mod refusal;
 pub mod roles;
+pub mod searching;
 pub mod spelling;
 pub mod taken;
 pub mod walk;
 pub mod walk_statements;
 
-pub use call::{BorrowedPlace, CallRef, Role};
+pub use call::{BorrowedName, BorrowedPlace, CallName, CallRef, Role};
 pub use entering::{entered_by, subdirs};
 pub use load_fault::{LoadFault, Unloaded};
 pub use loading::MAX_FILES;

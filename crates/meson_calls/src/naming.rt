@@ -6,7 +6,7 @@ ghost use Rattle.meson_calls.specs.Calls.{call_of};
 ghost use Rattle.meson_calls.specs.Roles.{one_of};
 ghost use Rattle.meson_calls.specs.Naming.{project_ids};
 ghost use Rattle.meson_calls.specs.Notes.{note_view, note_views};
-ghost use Rattle.meson_calls.specs.ChosenNotes.{note_has_name, note_sets_call, is_role_call, places_that, assigned_places, found_places};
+ghost use Rattle.meson_calls.specs.ChosenNotes.{note_has_name, note_sets_call, is_role_call, places_that, assigned_places, found_places, named_places};
 ghost use Rattle.meson_calls.specs.Strings.{AreGood, NotesGood, note_words};
 
 use crate::call::{CallRef, Role};
@@ -15,6 +15,7 @@ use crate::literals::first_literal_is;
 use crate::note::{Note, What};
 use crate::place::{child_place, place_of};
 use crate::roles::{has_role, text_of};
+use crate::searching::places_within;
 use meson_syntax::Expr;
 use std::alloc::{AllocError, Global};
 
@@ -113,27 +114,46 @@ fn names_project(id: &str) -> bool
     "/" == id || "//" == id
 }
 
-/// The places of the calls that an id names.
-pub fn found(
+/// The places of the calls of a role and a name in the file of this number, or in any file; if there are none, of those that a variable is set to there.
+fn named_or_assigned(
     alloc: Global,
+    within: Option<usize>,
     role: Role,
     id: &str,
     notes: &[Note<'_, '_>],
 ) -> Result<Vec<CallRef>, AllocError>
     requires { NotesGood (note_views notes.now) }
-    ensures { IfOk result (λ found. found.items ≡ found_places role id.now (note_views notes.now)) }
+    ensures { IfOk result (λ found. found.items ≡ named_places within role id.now (note_views notes.now)) }
 {
-    if matches!(role, Role::Project) {
-        if names_project(id) {
-            let found = with_role(alloc, role, notes)?;
-            return Ok(found);
-        }
-        return Ok(Vec::new(alloc));
-    }
     let named = with_name(alloc, role, id, notes)?;
+    let named = places_within(alloc, within, named)?;
     if named.is_empty() {
         let assigned = assigned_to(alloc, role, id, notes)?;
-        return Ok(assigned);
+        return places_within(alloc, within, assigned);
     }
     Ok(named)
+}
+
+/// The places of the calls that an id names in the file of this number, or in any file.
+pub fn found(
+    alloc: Global,
+    within: Option<usize>,
+    role: Role,
+    id: &str,
+    notes: &[Note<'_, '_>],
+) -> Result<Vec<CallRef>, AllocError>
+    requires { NotesGood (note_views notes.now) }
+    ensures { IfOk result (λ found. found.items ≡ found_places within role id.now (note_views notes.now)) }
+{
+    match role {
+        Role::Project => {
+            if names_project(id) {
+                let found = with_role(alloc, Role::Project, notes)?;
+                return places_within(alloc, within, found);
+            }
+            Ok(Vec::new(alloc))
+        }
+        Role::Target => named_or_assigned(alloc, within, Role::Target, id, notes),
+        Role::Dependency => named_or_assigned(alloc, within, Role::Dependency, id, notes),
+    }
 }

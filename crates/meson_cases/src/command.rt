@@ -1,5 +1,6 @@
 //! Commands by their words, which are those of the program's command line.
 
+use meson_calls::CallName;
 use meson_case_files::text_of;
 use meson_plan::{Command, Role, Setting};
 use meson_splice::{Many, Text};
@@ -109,9 +110,18 @@ fn target_add(alloc: Global, id: &str, words: &[&str]) -> Read {
     }))
 }
 
+/// What names a call: an id, and a folder if one is given.
+fn named(alloc: Global, folder: Option<&str>, id: &str) -> Result<CallName, AllocError> {
+    let folder = match folder {
+        Some(folder) => Some(text(alloc, folder)?),
+        None => None,
+    };
+    let id = text(alloc, id)?;
+    Ok(CallName { id, folder })
+}
+
 /// A command on the sources of a target.
-fn on_sources(alloc: Global, id: &str, operation: &str, words: &[&str]) -> Read {
-    let target = text(alloc, id)?;
+fn on_sources(alloc: Global, target: CallName, operation: &str, words: &[&str]) -> Read {
     let sources = texts(alloc, words)?;
     match operation {
         "add" => Ok(Some(Command::SourcesAdd { target, sources })),
@@ -122,33 +132,27 @@ fn on_sources(alloc: Global, id: &str, operation: &str, words: &[&str]) -> Read 
     }
 }
 
-fn on_target(alloc: Global, id: &str, operation: &str, words: &[&str]) -> Read {
+fn on_target(alloc: Global, target: CallName, operation: &str, words: &[&str]) -> Read {
     match operation {
-        "add_target" => target_add(alloc, id, words),
-        "rm_target" => Ok(Some(Command::TargetRemove {
-            target: text(alloc, id)?,
-        })),
-        "info" => Ok(Some(Command::TargetInfo {
-            target: text(alloc, id)?,
-        })),
-        _ => on_sources(alloc, id, operation, words),
+        "rm_target" => Ok(Some(Command::TargetRemove { target })),
+        "info" => Ok(Some(Command::TargetInfo { target })),
+        _ => on_sources(alloc, target, operation, words),
     }
 }
 
-fn on_keywords(alloc: Global, operation: &str, role: Role, id: &str, words: &[&str]) -> Read {
-    let id = text(alloc, id)?;
+fn on_keywords(alloc: Global, operation: &str, role: Role, name: CallName, words: &[&str]) -> Read {
     if operation == "info" {
-        return Ok(Some(Command::KwargsInfo { role, id }));
+        return Ok(Some(Command::KwargsInfo { role, name }));
     }
     if operation == "delete" {
         let keys = keys(alloc, words)?;
-        return Ok(Some(Command::KwargsDelete { role, id, keys }));
+        return Ok(Some(Command::KwargsDelete { role, name, keys }));
     }
     let pairs = pairs(alloc, words)?;
     match operation {
-        "set" => Ok(Some(Command::KwargsSet { role, id, pairs })),
-        "add" => Ok(Some(Command::KwargsAdd { role, id, pairs })),
-        "remove" => Ok(Some(Command::KwargsRemove { role, id, pairs })),
+        "set" => Ok(Some(Command::KwargsSet { role, name, pairs })),
+        "add" => Ok(Some(Command::KwargsAdd { role, name, pairs })),
+        "remove" => Ok(Some(Command::KwargsRemove { role, name, pairs })),
         _ => Ok(None),
     }
 }
@@ -165,15 +169,26 @@ fn on_options(alloc: Global, operation: &str, words: &[&str]) -> Read {
     }
 }
 
-/// The command that the words name, if they name one.
-pub fn command_of(alloc: Global, words: &[&str]) -> Read {
+/// The command that the words name in a folder, if they name one.
+fn command_in(alloc: Global, folder: Option<&str>, words: &[&str]) -> Read {
     match words {
-        ["target", id, operation, words @ ..] => on_target(alloc, id, operation, words),
+        ["target", id, "add_target", words @ ..] => target_add(alloc, id, words),
+        ["target", id, operation, words @ ..] => {
+            on_target(alloc, named(alloc, folder, id)?, operation, words)
+        }
         ["kwargs", operation, function, id, words @ ..] => match role_of(function) {
-            Some(role) => on_keywords(alloc, operation, role, id, words),
+            Some(role) => on_keywords(alloc, operation, role, named(alloc, folder, id)?, words),
             None => Ok(None),
         },
         ["default-options", operation, words @ ..] => on_options(alloc, operation, words),
         _ => Ok(None),
+    }
+}
+
+/// The command that the words name, if they name one.
+pub fn command_of(alloc: Global, words: &[&str]) -> Read {
+    match words {
+        ["--in", folder, words @ ..] => command_in(alloc, Some(folder), words),
+        _ => command_in(alloc, None, words),
     }
 }

@@ -1,6 +1,6 @@
 -- No subcommand asks for help or the version.
 use Rattle.std.proofs.Common.{◌≡◌, ℕ, Bool, true, false, List, Option, Some, None, Result, Ok, Err, codes, refl, ap, subst}
-use Rattle.std.specs.Prelude.{◌||◌, ◌==◌, length, IfOk, bytes_eq, if◌then◌else◌, is_some, ok_or}
+use Rattle.std.specs.Prelude.{not, ◌&&◌, ◌||◌, ◌==◌, length, IfOk, bytes_eq, if◌then◌else◌, is_some, ok_or}
 use Rattle.clap.specs.Words.{Row, Text, first_of}
 use Rattle.meson_calls.specs.declared.call.Role.{Role}
 use Rattle.meson_splice.specs.Patch.{then_ok}
@@ -28,6 +28,8 @@ use Rattle.meson_command.specs.declared.operations.OptionsWord.TheVariants as op
 use Rattle.meson_json.specs.declared.target.TargetOperation.{TargetOperation}
 use Rattle.meson_json.specs.declared.target.TargetOperation.TheVariants as target
 use Rattle.meson_json.specs.declared.target.TargetMembers.{TargetMembers}
+use Rattle.meson_calls.specs.declared.call.CallName.{CallName}
+use Rattle.meson_command.specs.Arguments.{takes_folder}
 
 abbrev pub IsPlain : Action → Type 0
 IsPlain (Help text) = ⊥
@@ -65,7 +67,7 @@ target-plain target.ExtraAdd w = tt
 target-plain target.ExtraRemove w = tt
 target-plain target.Info w = tt
 
-kwargs-plain : (o : KwargsOperation) (r : Role) (id : Text) (words : List Text) → Answers IsPlain (kwargs_by o r id words)
+kwargs-plain : (o : KwargsOperation) (r : Role) (id : CallName) (words : List Text) → Answers IsPlain (kwargs_by o r id words)
 unfolding kwargs_by
 kwargs-plain kwargs.Set r id words = after (pairs_of words) _ (λ _. ok _ tt)
 kwargs-plain kwargs.Delete r id words = after (pairs_of words) _ (λ _. ok _ tt)
@@ -84,16 +86,16 @@ script-plain : (b : Bool) (word : Text) (unknown : UnknownMembers) → IsPlain (
 script-plain true word unknown = tt
 script-plain false word unknown = tt
 
-target_action-plain : (rows : List Row) → Answers IsPlain (target_action rows)
+target_action-plain : (folder : Option Text) (rows : List Row) → Answers IsPlain (target_action folder rows)
 unfolding target_action
-target_action-plain rows = after _ _ (λ o. ok _ (target-plain o (target_words rows)))
+target_action-plain folder rows = after _ _ (λ o. ok _ (target-plain o (target_words folder rows)))
 
-kwargs_action-plain : (rows : List Row) → Answers IsPlain (kwargs_action rows)
+kwargs_action-plain : (folder : Option Text) (rows : List Row) → Answers IsPlain (kwargs_action folder rows)
 unfolding kwargs_action
-kwargs_action-plain rows =
+kwargs_action-plain folder rows =
     after (ok_or (kwargs_operation (word_at (codes "OPERATION") rows)) Usage) _ (λ o.
     after (ok_or (role_of (word_at (codes "FUNCTION") rows)) Usage) _ (λ r.
-    kwargs-plain o r (word_at (codes "ID") rows) (words_at (codes "KEY VALUE") rows)))
+    kwargs-plain o r (record { id = word_at (codes "ID") rows; folder = folder }) (words_at (codes "KEY VALUE") rows)))
 
 options_action-plain : (rows : List Row) → Answers IsPlain (options_action rows)
 unfolding options_action
@@ -131,11 +133,11 @@ list_with-plain None json sums = list-plain json sums
 list_with-plain (Some function) json sums =
     either (sums || length function == 0) _ _ (err Usage) (ok _ (listing_of-plain (bytes_eq function (codes "variable")) function json))
 
-action-plain : (name : Text) (rows : List Row) → Answers IsPlain (action_of name rows)
+action-plain : (folder : Option Text) (name : Text) (rows : List Row) → Answers IsPlain (action_of folder name rows)
 unfolding action_of other_action
-action-plain name rows =
-    either (bytes_eq name (codes "target")) _ _ (target_action-plain rows)
-    (either (bytes_eq name (codes "kwargs")) _ _ (kwargs_action-plain rows)
+action-plain folder name rows =
+    either (bytes_eq name (codes "target")) _ _ (target_action-plain folder rows)
+    (either (bytes_eq name (codes "kwargs")) _ _ (kwargs_action-plain folder rows)
     (either (bytes_eq name (codes "default-options")) _ _ (options_action-plain rows)
     (either (bytes_eq name (codes "command")) _ _ (ok (script_action rows) (script_action-plain rows))
     (either (bytes_eq name (codes "undo")) _ _ (undo-plain (first_of (codes "N") rows) (first_of (codes "FILE") rows))
@@ -161,7 +163,7 @@ argument-plain folder rows =
 within-plain : (folder : Option Text) (name : Text) (rows : List Row) → Answers IsPlain (action_within folder name rows)
 unfolding action_within
 within-plain folder name rows =
-    either (bytes_eq name (codes "arg")) _ _ (argument-plain folder rows) (either (is_some folder) _ _ (err Usage) (action-plain name rows))
+    either (bytes_eq name (codes "arg")) _ _ (argument-plain folder rows) (either (is_some folder && not (takes_folder name rows)) _ _ (err Usage) (action-plain folder name rows))
 
 titled : (rows : List Row) (a : Action) → IsPlain a → Answers (λ x. IsPlain x.action) (with_title rows a)
 titled rows a plain = either (is_title (title_in rows)) _ _ (ok _ plain) (err BadTitle)

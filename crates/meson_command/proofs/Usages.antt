@@ -45,6 +45,8 @@ use Rattle.meson_command.specs.declared.operations.OptionsWord.TheVariants as of
 use Rattle.meson_command.proofs.HelpAlone.{Clean}
 use Rattle.meson_command.proofs.NoHelp.{not_help}
 use Rattle.meson_command.proofs.Taken.{as_taken, by_help, by_version, help_alone}
+use Rattle.meson_calls.specs.declared.call.CallName.{CallName}
+use Rattle.meson_command.specs.Arguments.{takes_folder}
 
 -- ---- help and the version
 
@@ -151,7 +153,7 @@ pairs-not : (words : List Text) → pairs_of words ≡ Err Usage → ⊥
 unfolding pairs_of
 pairs-not words e = no_pairs (in_pairs words) e
 
-kwargs-not : (o : KwargsOperation) (role : Role) (id : Text) (words : List Text) → kwargs_by o role id words ≡ Err Usage → ⊥
+kwargs-not : (o : KwargsOperation) (role : Role) (id : CallName) (words : List Text) → kwargs_by o role id words ≡ Err Usage → ⊥
 unfolding kwargs_by
 kwargs-not of_kwargs.Set role id words e = after_pairs (pairs_of words) _ (pairs-not words) (λ ps x. cc) e
 kwargs-not of_kwargs.Delete role id words e = after_pairs (pairs_of words) _ (pairs-not words) (λ ps x. cc) e
@@ -185,13 +187,13 @@ one_missing None r f h e = inl refl
 one_missing (Some x) None f h e = inr refl
 one_missing (Some x) (Some y) f h e = absurd (h x y e)
 
-target-unknown : (rows : List Row) → target_action rows ≡ Err Usage → operation_of_word (word_at (codes "OPERATION") rows) ≡ None
+target-unknown : (folder : Option Text) (rows : List Row) → target_action folder rows ≡ Err Usage → operation_of_word (word_at (codes "OPERATION") rows) ≡ None
 unfolding target_action
-target-unknown rows e = missing (operation_of_word (word_at (codes "OPERATION") rows)) _ (λ o x. cc) e
+target-unknown folder rows e = missing (operation_of_word (word_at (codes "OPERATION") rows)) _ (λ o x. cc) e
 
-kwargs-unknown : (rows : List Row) → kwargs_action rows ≡ Err Usage → (kwargs_operation (word_at (codes "OPERATION") rows) ≡ None) ⊎ (role_of (word_at (codes "FUNCTION") rows) ≡ None)
+kwargs-unknown : (folder : Option Text) (rows : List Row) → kwargs_action folder rows ≡ Err Usage → (kwargs_operation (word_at (codes "OPERATION") rows) ≡ None) ⊎ (role_of (word_at (codes "FUNCTION") rows) ≡ None)
 unfolding kwargs_action
-kwargs-unknown rows e = one_missing (kwargs_operation (word_at (codes "OPERATION") rows)) (role_of (word_at (codes "FUNCTION") rows)) _ (λ o role. kwargs-not o role _ _) e
+kwargs-unknown folder rows e = one_missing (kwargs_operation (word_at (codes "OPERATION") rows)) (role_of (word_at (codes "FUNCTION") rows)) _ (λ o role. kwargs-not o role _ _) e
 
 options-unknown : (rows : List Row) → options_action rows ≡ Err Usage → options_word (word_at (codes "OPERATION") rows) ≡ None
 unfolding options_action
@@ -259,12 +261,12 @@ named : (name x : Text) → bytes_eq name x ≡ true → name ≡ x
 named name x e = (bytes_eq-Decides name x).0 e
 
 -- of another subcommand than `arg`
-unknown : (name : Text) (rows : List Row) → (bytes_eq name (codes "target") || (bytes_eq name (codes "kwargs") || is_other name)) ≡ true
-    → action_of name rows ≡ Err Usage → IsUnknown name rows
+unknown : (folder : Option Text) (name : Text) (rows : List Row) → (bytes_eq name (codes "target") || (bytes_eq name (codes "kwargs") || is_other name)) ≡ true
+    → action_of folder name rows ≡ Err Usage → IsUnknown name rows
 unfolding action_of other_action
-unknown name rows k e =
-    by_name (bytes_eq name (codes "target")) _ _ _ e k (λ b x. inl (named _ _ b, target-unknown rows x)) (λ e k.
-    by_name (bytes_eq name (codes "kwargs")) _ _ _ e k (λ b x. inr (inl (named _ _ b, kwargs-unknown rows x))) (λ e k.
+unknown folder name rows k e =
+    by_name (bytes_eq name (codes "target")) _ _ _ e k (λ b x. inl (named _ _ b, target-unknown folder rows x)) (λ e k.
+    by_name (bytes_eq name (codes "kwargs")) _ _ _ e k (λ b x. inr (inl (named _ _ b, kwargs-unknown folder rows x))) (λ e k.
     by_name (bytes_eq name (codes "default-options")) _ _ _ e k (λ b x. inr (inr (inl (named _ _ b, options-unknown rows x)))) (λ e k.
     by_name (bytes_eq name (codes "command")) _ _ _ e k (λ b x. cc) (λ e k.
     by_name (bytes_eq name (codes "undo")) _ _ _ e k (λ b x. inr (inr (inr (inl (named _ _ b, undo-unknown _ (first_of (codes "FILE") rows) x))))) (λ e k.
@@ -339,18 +341,20 @@ without false false true rest is h = cc
 without false false false rest is h = h
 
 abbrev WrongWithin : Option Text → Text → List Row → Type 0
-WrongWithin folder name rows = IsUnknown name rows ⊎ ((is_some folder ≡ true) × (name ≢ codes "arg"))
+WrongWithin folder name rows = IsUnknown name rows ⊎ ((is_some folder ≡ true) × (takes_folder name rows ≡ false) × (name ≢ codes "arg"))
 
-by_place : (folder : Option Text) (name : Text) (rows : List Row) → bytes_eq name (codes "arg") ≡ false → is_known name ≡ true → (b : Bool) → is_some folder ≡ b
-    → (if b then Err Usage else action_of name rows) ≡ Err Usage → WrongWithin folder name rows
-by_place folder name rows other k true is e = inr (is, another name (codes "arg") other)
-by_place folder name rows other k false is e =
-    inl (unknown name rows (without (bytes_eq name (codes "target")) (bytes_eq name (codes "kwargs")) (bytes_eq name (codes "arg")) (is_other name) other k) e)
+by_place : (folder : Option Text) (name : Text) (rows : List Row) → bytes_eq name (codes "arg") ≡ false → is_known name ≡ true → (b t : Bool) → is_some folder ≡ b → takes_folder name rows ≡ t
+    → (if b && not t then Err Usage else action_of folder name rows) ≡ Err Usage → WrongWithin folder name rows
+by_place folder name rows other k true false is takes e = inr (is, takes, another name (codes "arg") other)
+by_place folder name rows other k true true is takes e =
+    inl (unknown folder name rows (without (bytes_eq name (codes "target")) (bytes_eq name (codes "kwargs")) (bytes_eq name (codes "arg")) (is_other name) other k) e)
+by_place folder name rows other k false t is takes e =
+    inl (unknown folder name rows (without (bytes_eq name (codes "target")) (bytes_eq name (codes "kwargs")) (bytes_eq name (codes "arg")) (is_other name) other k) e)
 
 by_subcommand : (folder : Option Text) (name : Text) (rows : List Row) → is_known name ≡ true → (b : Bool) → bytes_eq name (codes "arg") ≡ b
-    → (if b then argument_action folder rows else (if is_some folder then Err Usage else action_of name rows)) ≡ Err Usage → WrongWithin folder name rows
+    → (if b then argument_action folder rows else (if is_some folder && not (takes_folder name rows) then Err Usage else action_of folder name rows)) ≡ Err Usage → WrongWithin folder name rows
 by_subcommand folder name rows k true is e = inl (inr (inr (inr (inr (inr (inr (named _ _ is, argument-unknown folder rows e)))))))
-by_subcommand folder name rows k false is e = by_place folder name rows is k (is_some folder) refl e
+by_subcommand folder name rows k false is e = by_place folder name rows is k (is_some folder) (takes_folder name rows) refl refl e
 
 within : (folder : Option Text) (name : Text) (rows : List Row) → is_known name ≡ true → action_within folder name rows ≡ Err Usage → WrongWithin folder name rows
 unfolding action_within
@@ -392,7 +396,7 @@ split rows (Some s) has e = by_folder rows s (names_no_folder (first_of (codes "
 
 bad_usage : (words : List Text) (name : Text) (rows : List Row) → subcommand_of program words ≡ Some (name, rows)
     → action_within (first_of (codes "FOLDER") (matches_of program words)) name rows ≡ Err Usage
-    → IsUnknown name rows ⊎ (FolderIsMisused (matches_of program words) name ⊎ TextsAreMisused (matches_of program words) name rows)
+    → IsUnknown name rows ⊎ (FolderIsMisused (matches_of program words) name rows ⊎ TextsAreMisused (matches_of program words) name rows)
 bad_usage words name rows is bad =
     elim (within (first_of (codes "FOLDER") (matches_of program words)) name rows (known words name rows is) bad) [
       | inl wrong ↦ inl wrong

@@ -2,6 +2,7 @@
 use Rattle.std.specs.Prelude.{ℕ, Bool, false, true, ◌||◌, ◌==◌, not, List, [], ◌∷◌, codes, bytes_eq, find, map, if◌then◌else◌, Option, Some, None, ok_or, unwrap_or, Result, Ok, Err, length}
 use Rattle.std.specs.Option.{option_map_or}
 use Rattle.clap.specs.Words.{Row, Text, all_of, first_of}
+use Rattle.meson_calls.specs.declared.call.CallName.{CallName}
 use Rattle.meson_calls.specs.declared.call.Role.{Role}
 use Rattle.meson_splice.specs.Patch.{then_ok}
 use Rattle.meson_steps.specs.declared.command.Command.{Command}
@@ -50,9 +51,11 @@ run command = Run (record { commands = command ∷ [] })
 
 -- ---- target ID OPERATION [SOURCE]... [--subdir SUBDIR] [--type KIND]
 
-abbrev pub target_words : List Row → TargetMembers
-target_words rows = record {
+-- in the folder alone if one is named
+abbrev pub target_words : Option Text → List Row → TargetMembers
+target_words folder rows = record {
   target = word_at (codes "ID") rows;
+  folder = folder;
   sources = words_at (codes "SOURCE") rows;
   subdir = word_at (codes "SUBDIR") rows;
   target_kind = word_or (codes "executable") (codes "KIND") rows;
@@ -62,10 +65,10 @@ abbrev pub target_by : TargetOperation → TargetMembers → Action
 target_by target.Info members = Info (target_command target.Info members)
 target_by operation members = run (target_command operation members)
 
-unfoldable pub target_action : List Row → Result Action UsageFault
-target_action rows =
+unfoldable pub target_action : Option Text → List Row → Result Action UsageFault
+target_action folder rows =
     then_ok (ok_or (operation_of_word (word_at (codes "OPERATION") rows)) Usage) (λ operation.
-    Ok (target_by operation (target_words rows)))
+    Ok (target_by operation (target_words folder rows)))
 
 -- ---- kwargs OPERATION FUNCTION ID [KEY VALUE]...
 
@@ -73,19 +76,20 @@ abbrev pub settings : List (Text × Text) → List (Text × Setting)
 settings pairs = map (λ p. (p.0, setting.Text p.1)) pairs
 
 -- `info` reads no pairs
-unfoldable pub kwargs_by : KwargsOperation → Role → Text → List Text → Result Action UsageFault
-kwargs_by kwargs.Set role id words = then_ok (pairs_of words) (λ pairs. Ok (run (command.KwargsSet role id (settings pairs))))
-kwargs_by kwargs.Delete role id words = then_ok (pairs_of words) (λ pairs. Ok (run (command.KwargsDelete role id (pair_names pairs))))
-kwargs_by kwargs.Add role id words = then_ok (pairs_of words) (λ pairs. Ok (run (command.KwargsAdd role id (settings pairs))))
-kwargs_by kwargs.Remove role id words = then_ok (pairs_of words) (λ pairs. Ok (run (command.KwargsRemove role id (settings pairs))))
-kwargs_by kwargs.RemoveRegex role id words = then_ok (pairs_of words) (λ pairs. Err Unsupported)
-kwargs_by kwargs.Info role id words = Ok (Info (command.KwargsInfo role id))
+unfoldable pub kwargs_by : KwargsOperation → Role → CallName → List Text → Result Action UsageFault
+kwargs_by kwargs.Set role name words = then_ok (pairs_of words) (λ pairs. Ok (run (command.KwargsSet role name (settings pairs))))
+kwargs_by kwargs.Delete role name words = then_ok (pairs_of words) (λ pairs. Ok (run (command.KwargsDelete role name (pair_names pairs))))
+kwargs_by kwargs.Add role name words = then_ok (pairs_of words) (λ pairs. Ok (run (command.KwargsAdd role name (settings pairs))))
+kwargs_by kwargs.Remove role name words = then_ok (pairs_of words) (λ pairs. Ok (run (command.KwargsRemove role name (settings pairs))))
+kwargs_by kwargs.RemoveRegex role name words = then_ok (pairs_of words) (λ pairs. Err Unsupported)
+kwargs_by kwargs.Info role name words = Ok (Info (command.KwargsInfo role name))
 
-unfoldable pub kwargs_action : List Row → Result Action UsageFault
-kwargs_action rows =
+-- of the call in the folder alone if one is named
+unfoldable pub kwargs_action : Option Text → List Row → Result Action UsageFault
+kwargs_action folder rows =
     then_ok (ok_or (kwargs_operation (word_at (codes "OPERATION") rows)) Usage) (λ operation.
     then_ok (ok_or (role_of (word_at (codes "FUNCTION") rows)) Usage) (λ role.
-    kwargs_by operation role (word_at (codes "ID") rows) (words_at (codes "KEY VALUE") rows)))
+    kwargs_by operation role (record { id = word_at (codes "ID") rows; folder = folder }) (words_at (codes "KEY VALUE") rows)))
 
 -- ---- default-options OPERATION [OPTION VALUE]..., or unset [OPTION]...
 
@@ -183,10 +187,11 @@ other_action subcommand rows =
     else (if bytes_eq subcommand (codes "list") then list_action rows
     else Err Usage)))
 
-unfoldable pub action_of : Text → List Row → Result Action UsageFault
-action_of subcommand rows =
-    if bytes_eq subcommand (codes "target") then target_action rows
-    else (if bytes_eq subcommand (codes "kwargs") then kwargs_action rows
+-- in the folder that is named before it; those that take none are not asked with one
+unfoldable pub action_of : Option Text → Text → List Row → Result Action UsageFault
+action_of folder subcommand rows =
+    if bytes_eq subcommand (codes "target") then target_action folder rows
+    else (if bytes_eq subcommand (codes "kwargs") then kwargs_action folder rows
     else (if bytes_eq subcommand (codes "default-options") then options_action rows
     else (if bytes_eq subcommand (codes "command") then Ok (script_action rows)
     else other_action subcommand rows)))

@@ -1,5 +1,5 @@
 -- The request of the words of `arg`, and of any subcommand in the folder that is named before it.
-use Rattle.std.specs.Prelude.{List, [], ◌∷◌, bytes_eq, codes, if◌then◌else◌, Option, Some, None, is_some, ok_or, option_and_then, option_map, Result, Ok, Err}
+use Rattle.std.specs.Prelude.{Bool, true, false, not, ◌&&◌, ◌||◌, List, [], ◌∷◌, bytes_eq, codes, if◌then◌else◌, Option, Some, None, is_some, ok_or, option_and_then, option_map, Result, Ok, Err}
 use Rattle.clap.specs.Words.{Row, Text, first_of}
 use Rattle.meson_splice.specs.Patch.{then_ok}
 use Rattle.meson_steps.specs.GivenWords.{meant_by}
@@ -11,6 +11,9 @@ use Rattle.meson_json.specs.Operations.{argument_operation}
 use Rattle.meson_json.specs.declared.names.ArgumentOperation.{ArgumentOperation}
 use Rattle.meson_json.specs.declared.names.ArgumentOperation.TheVariants as operation
 use Rattle.meson_command.specs.Actions.{action_of, run, word_at, words_at}
+use Rattle.meson_json.specs.declared.target.TargetOperation.{TargetOperation}
+use Rattle.meson_json.specs.declared.target.TargetOperation.TheVariants as target
+use Rattle.meson_command.specs.Operations.{operation_of_word}
 use Rattle.meson_command.specs.declared.asked.Action.{Action}
 use Rattle.meson_command.specs.declared.asked.Action.TheVariants.{Info}
 use Rattle.meson_command.specs.declared.fault.UsageFault.{UsageFault}
@@ -52,8 +55,17 @@ argument_action folder rows =
 
 -- ---- any subcommand
 
--- a folder is named for `arg` alone
+abbrev pub is_addition : Option TargetOperation → Bool
+is_addition (Some target.TargetAdd) = true
+is_addition _ = false
+
+-- `kwargs` takes a folder, and so do the operations on a target that is there
+abbrev pub takes_folder : Text → List Row → Bool
+takes_folder subcommand rows =
+    bytes_eq subcommand (codes "kwargs") || (bytes_eq subcommand (codes "target") && not (is_addition (operation_of_word (word_at (codes "OPERATION") rows))))
+
+-- a folder is named only for these and for `arg`
 unfoldable pub action_within : Option Text → Text → List Row → Result Action UsageFault
 action_within folder subcommand rows =
     if bytes_eq subcommand (codes "arg") then argument_action folder rows
-    else (if is_some folder then Err Usage else action_of subcommand rows)
+    else (if is_some folder && not (takes_folder subcommand rows) then Err Usage else action_of folder subcommand rows)

@@ -4,7 +4,7 @@ use Rattle.std.specs.List.{AllPairs}
 use Rattle.clap.specs.Words.{Row, Text, fault_of, first_of, matches_of, subcommand_of}
 use Rattle.clap.specs.declared.error.kind.ErrorKind.TheVariants.{DisplayHelp, DisplayVersion}
 use Rattle.meson_command.specs.Actions.{has_flag, options_by, word_at, words_at}
-use Rattle.meson_command.specs.Arguments.{action_within, values_meant}
+use Rattle.meson_command.specs.Arguments.{action_within, takes_folder, values_meant}
 use Rattle.meson_command.specs.Asking.{asked_by, help, is_dry, names_no_folder, only_asks, only_shows, texts_fit, version, wants_json}
 use Rattle.meson_json.specs.Arguments.{change_to, keys_left_out, place_named}
 use Rattle.meson_json.specs.Operations.{argument_operation, kwargs_operation, role_of}
@@ -97,9 +97,9 @@ IsUnknown subcommand rows =
     ⊎ (((subcommand ≡ codes "list") × (AsksForTwo rows ⊎ NamesNoFunction rows))
     ⊎ ((subcommand ≡ codes "arg") × IsNoArgument rows))))))
 
--- a folder is named for another subcommand than `arg`
-abbrev pub FolderIsMisused : List Row → Text → Type 0
-FolderIsMisused own subcommand = (is_some (first_of (codes "FOLDER") own) ≡ true) × (subcommand ≢ codes "arg")
+-- a folder is named for words that take none
+abbrev pub FolderIsMisused : List Row → Text → List Row → Type 0
+FolderIsMisused own subcommand rows = (is_some (first_of (codes "FOLDER") own) ≡ true) × (takes_folder subcommand rows ≡ false) × (subcommand ≢ codes "arg")
 
 -- a file of texts is named for an action that writes, or standard input would be read twice
 abbrev pub TextsAreMisused : List Row → Text → List Row → Type 0
@@ -112,4 +112,4 @@ abbrev pub UsageMeansUnknown : Type 0
 UsageMeansUnknown = (words : List Text) → fault_of program words ≡ [] → asked_by words ≡ Err Usage
     → (names_no_folder (first_of (codes "DIR") (matches_of program words)) ≡ true)
     ⊎ ((name : Text) × (rows : List Row) × (subcommand_of program words ≡ Some (name, rows))
-    × (IsUnknown name rows ⊎ (FolderIsMisused (matches_of program words) name ⊎ TextsAreMisused (matches_of program words) name rows)))
+    × (IsUnknown name rows ⊎ (FolderIsMisused (matches_of program words) name rows ⊎ TextsAreMisused (matches_of program words) name rows)))

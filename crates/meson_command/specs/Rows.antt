@@ -23,6 +23,7 @@ use Rattle.meson_command.specs.declared.asked.Asked.{Asked}
 use Rattle.meson_command.specs.declared.asked.Flags.{Flags}
 use Rattle.meson_command.specs.declared.fault.UsageFault.{UsageFault}
 use Rattle.meson_command.specs.declared.fault.UsageFault.TheVariants.{Usage, OddWords, RepeatedKey, Unsupported, BadTitle, NotCode}
+use Rattle.meson_calls.specs.Searching.{anywhere}
 
 -- a byte before the first of some words
 abbrev onto : ℕ → List (List ℕ) → List (List ℕ)
@@ -73,21 +74,23 @@ asks_titled title asked = asked_by (codes "T" ∷ codes "--title" ∷ title ∷ 
 -- what is to be done
 abbrev pub Done : Type 0
 Done =
-    asks (codes "target e add a.c b.c") (in_place (run (command.SourcesAdd (codes "e") (codes "a.c" ∷ codes "b.c" ∷ []))))
-    × asks (codes "target e rm a.c") (in_place (run (command.SourcesRemove (codes "e") (codes "a.c" ∷ []))))
-    × asks (codes "target e add_extra_files x.h") (in_place (run (command.ExtraAdd (codes "e") (codes "x.h" ∷ []))))
-    × asks (codes "target e rm_extra_files x.h") (in_place (run (command.ExtraRemove (codes "e") (codes "x.h" ∷ []))))
+    asks (codes "target e add a.c b.c") (in_place (run (command.SourcesAdd (anywhere (codes "e")) (codes "a.c" ∷ codes "b.c" ∷ []))))
+    × asks (codes "target e rm a.c") (in_place (run (command.SourcesRemove (anywhere (codes "e")) (codes "a.c" ∷ []))))
+    × asks (codes "target e add_extra_files x.h") (in_place (run (command.ExtraAdd (anywhere (codes "e")) (codes "x.h" ∷ []))))
+    × asks (codes "target e rm_extra_files x.h") (in_place (run (command.ExtraRemove (anywhere (codes "e")) (codes "x.h" ∷ []))))
+    × asks (codes "--in s target e rm a.c") (in_place (run (command.SourcesRemove (record { id = codes "e"; folder = Some (codes "s") }) (codes "a.c" ∷ []))))
+    × asks (codes "--in . kwargs info target e") (in_place (Info (command.KwargsInfo role.Target (record { id = codes "e"; folder = Some (codes ".") }))))
     × asks (codes "target l add_target a.c --subdir sub --type jar")
     (in_place (run (command.TargetAdd (codes "l") (codes "jar") (codes "sub") (codes "a.c" ∷ []))))
     × asks (codes "target l add_target") (in_place (run (command.TargetAdd (codes "l") (codes "executable") [] [])))
-    × asks (codes "target l rm_target a.c") (in_place (run (command.TargetRemove (codes "l"))))
+    × asks (codes "target l rm_target a.c") (in_place (run (command.TargetRemove (anywhere (codes "l")))))
     × asks (codes "kwargs set project / version 1.0.0") (in_place
-    (run (command.KwargsSet role.Project (codes "/") ((codes "version", setting.Text (codes "1.0.0")) ∷ []))))
+    (run (command.KwargsSet role.Project (anywhere (codes "/")) ((codes "version", setting.Text (codes "1.0.0")) ∷ []))))
     × asks (codes "kwargs add dependency zlib version <2") (in_place
-    (run (command.KwargsAdd role.Dependency (codes "zlib") ((codes "version", setting.Text (codes "<2")) ∷ []))))
+    (run (command.KwargsAdd role.Dependency (anywhere (codes "zlib")) ((codes "version", setting.Text (codes "<2")) ∷ []))))
     × asks (codes "kwargs remove target e link_with l") (in_place
-    (run (command.KwargsRemove role.Target (codes "e") ((codes "link_with", setting.Text (codes "l")) ∷ []))))
-    × asks (codes "kwargs delete target e install true") (in_place (run (command.KwargsDelete role.Target (codes "e") (codes "install" ∷ []))))
+    (run (command.KwargsRemove role.Target (anywhere (codes "e")) ((codes "link_with", setting.Text (codes "l")) ∷ []))))
+    × asks (codes "kwargs delete target e install true") (in_place (run (command.KwargsDelete role.Target (anywhere (codes "e")) (codes "install" ∷ []))))
     × asks (codes "default-options set cpp_std c++20") (in_place (run (command.OptionsSet ((codes "cpp_std", codes "c++20") ∷ []))))
     × asks (codes "default-options delete cpp_std c++20") (in_place (run (command.OptionsDelete (codes "cpp_std" ∷ []))))
     × asks (codes "default-options unset cpp_std werror") (in_place (run (command.OptionsDelete (codes "cpp_std" ∷ codes "werror" ∷ []))))
@@ -99,7 +102,7 @@ Done =
     × asks (codes "-s=d undo") (there (codes "d") Undo)
     × asks (codes "-s d target l add_target a.c -s sub --type jar")
     (there (codes "d") (run (command.TargetAdd (codes "l") (codes "jar") (codes "sub") (codes "a.c" ∷ []))))
-    × asks (codes "tgt e rm -s sub a.c") (in_place (run (command.SourcesRemove (codes "e") (codes "a.c" ∷ []))))
+    × asks (codes "tgt e rm -s sub a.c") (in_place (run (command.SourcesRemove (anywhere (codes "e")) (codes "a.c" ∷ []))))
     × asks (codes "def delete cpp_std c++20") (in_place (run (command.OptionsDelete (codes "cpp_std" ∷ []))))
     × asks (codes "cmd -") (in_place (ScriptFile (codes "-") unknown.Ignored))
     × asks (codes "-V undo") (in_place Undo)
@@ -172,7 +175,8 @@ Values =
     × asks (codes "arg --in s delete target e k") (Err Usage)
     × asks (codes "--in s --in s arg delete target e k") (Err Usage)
     × asks (codes "--in") (Err Usage)
-    × asks (codes "--in s target e rm a.c") (Err Usage)
+    × asks (codes "--in s target e add_target a.c") (Err Usage)
+    × asks (codes "--in s default-options set b_lto true") (Err Usage)
     × asks (codes "--in s command -") (Err Usage)
     × asks (codes "--in s list") (Err Usage)
     × asks (codes "--texts t arg delete target e k") (Err Usage)
@@ -196,7 +200,7 @@ CodeIsExpressionOrRefused = (code : List ℕ)
 -- what it is for
 abbrev pub Titled : Type 0
 Titled =
-    asks (codes "--title more target e rm a.c") (named (codes "more") (run (command.SourcesRemove (codes "e") (codes "a.c" ∷ []))))
+    asks (codes "--title more target e rm a.c") (named (codes "more") (run (command.SourcesRemove (anywhere (codes "e")) (codes "a.c" ∷ []))))
     × asks (codes "--title a --sourcedir d redo") (Ok (record { dir = Some (codes "d"); title = codes "a"; flags = no_flags; texts = None; action = Redo }))
     × asks_titled (codes "add B") (named (codes "add B") Undo)
     × asks_titled [] (in_place Undo)
@@ -210,7 +214,7 @@ Titled =
 abbrev pub Shown : Type 0
 Shown =
     asks (codes "--dry-run undo") (shown Undo)
-    × asks (codes "--dry-run target e rm a.c") (shown (run (command.SourcesRemove (codes "e") (codes "a.c" ∷ []))))
+    × asks (codes "--dry-run target e rm a.c") (shown (run (command.SourcesRemove (anywhere (codes "e")) (codes "a.c" ∷ []))))
     × asks (codes "--sourcedir d --dry-run --title a redo")
     (Ok (record { dir = Some (codes "d"); title = codes "a"; flags = dry; texts = None; action = Redo }))
     × asks (codes "--dry-run undo --to 2") (shown (UndoTo 2))
@@ -268,8 +272,8 @@ Texts =
     asks (codes "--texts t.json list") (texted no_flags (codes "t.json") (action.List false))
     × asks (codes "--texts - list --sums") (texted no_flags (codes "-") Sums)
     × asks (codes "--texts - history") (texted no_flags (codes "-") History)
-    × asks (codes "--texts=t target e info") (texted no_flags (codes "t") (Info (command.TargetInfo (codes "e"))))
-    × asks (codes "--texts t --dry-run target e rm a.c") (texted dry (codes "t") (run (command.SourcesRemove (codes "e") (codes "a.c" ∷ []))))
+    × asks (codes "--texts=t target e info") (texted no_flags (codes "t") (Info (command.TargetInfo (anywhere (codes "e")))))
+    × asks (codes "--texts t --dry-run target e rm a.c") (texted dry (codes "t") (run (command.SourcesRemove (anywhere (codes "e")) (codes "a.c" ∷ []))))
     × asks (codes "--texts - --dry-run undo") (texted dry (codes "-") Undo)
     × asks (codes "--dry-run --texts t command -") (texted dry (codes "t") (ScriptFile (codes "-") unknown.Ignored))
     × asks (codes "--dry-run --texts - command s") (texted dry (codes "-") (ScriptFile (codes "s") unknown.Ignored))
@@ -329,8 +333,8 @@ Infos =
 -- what is listed, which scripts are meant, help and the version
 abbrev pub Other : Type 0
 Other =
-    asks (codes "target e info a.c") (in_place (Info (command.TargetInfo (codes "e"))))
-    × asks (codes "kwargs info project / version") (in_place (Info (command.KwargsInfo role.Project (codes "/"))))
+    asks (codes "target e info a.c") (in_place (Info (command.TargetInfo (anywhere (codes "e")))))
+    × asks (codes "kwargs info project / version") (in_place (Info (command.KwargsInfo role.Project (anywhere (codes "/")))))
     × asks (codes "--sourcedir d history") (there (codes "d") History)
     × asks (codes "list") (in_place (action.List false))
     × asks (codes "--sourcedir d list --json") (there (codes "d") (action.List true))

@@ -36,7 +36,7 @@ fn values_meant(alloc: Global, words: &[Text]) -> Result<Vec<Given>, UsageFault>
 }
 
 /// A folder that is named, if any.
-fn folder_named(alloc: Global, folder: Option<&str>) -> Result<Option<Text>, AllocError>
+pub(crate) fn folder_named(alloc: Global, folder: Option<&str>) -> Result<Option<Text>, AllocError>
     ensures { IfOk result (λ f. f ≡ option_map (λ w. w.now) folder.entry) }
 {
     match folder {

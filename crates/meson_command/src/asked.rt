@@ -4,7 +4,7 @@ ghost use Rattle.std.specs.Prelude.{◌≡◌, ◌≢◌, [], Err, IfErr, IfOk, 
 ghost use Rattle.clap.specs.Words.{Row, Text as Word, found_of, rows_of, subcommand_rows_of, takes};
 ghost use Rattle.meson_json.specs.Titles.{is_title};
 ghost use Rattle.meson_command.specs.Actions.{action_of, other_action};
-ghost use Rattle.meson_command.specs.Arguments.{action_within};
+ghost use Rattle.meson_command.specs.Arguments.{action_within, takes_folder};
 ghost use Rattle.meson_command.specs.Asking.{asked_by, asked_from, asked_of, flags_in, names_no_folder, no_flags, only_asks, reads_input, takes_texts, texts_fit, wants_json, without_text};
 ghost use Rattle.meson_command.specs.Program.{program};
 ghost use Rattle.meson_command.specs.declared.fault.UsageFault.TheVariants.{BadTitle, OutOfMemory, Usage};
@@ -13,6 +13,7 @@ use crate::argument::argument_action;
 use crate::fault::UsageFault;
 use crate::history::{history_action, list_action, undo_action};
 use crate::kwargs::kwargs_action;
+use crate::operations::find_target_operation;
 use crate::options::options_action;
 use crate::program::named_program;
 use crate::script::script_action;
@@ -20,6 +21,7 @@ use crate::target::target_action;
 use crate::words::{is_set, word_or};
 use clap::ArgMatches;
 use clap::error::ErrorKind;
+use meson_json::target::TargetOperation;
 use meson_json::{Script, UnknownMembers, is_title, owned};
 use meson_splice::Text;
 use meson_steps::command::Command;
@@ -120,16 +122,18 @@ fn other_action(
 #[tactic(auto, unfolding(crate::specs::Actions::action_of))]
 fn action_of(
     alloc: Global,
+    folder: Option<&str>,
     subcommand: &str,
     matches: &ArgMatches<'_>,
 ) -> Result<Action, UsageFault>
-    ensures ok { IfOk result (λ a. action_of subcommand.now (rows_of (found_of matches.now)) ≡ Ok a) }
-    ensures refused { IfErr result (λ e. e ≢ OutOfMemory → action_of subcommand.now (rows_of (found_of matches.now)) ≡ Err e) }
+    ensures ok { IfOk result (λ a. action_of (option_map (λ w. w.now) folder.entry) subcommand.now (rows_of (found_of matches.now)) ≡ Ok a) }
+    ensures refused { IfErr result (λ e. e ≢ OutOfMemory
+        → action_of (option_map (λ w. w.now) folder.entry) subcommand.now (rows_of (found_of matches.now)) ≡ Err e) }
 {
     if subcommand == "target" {
-        target_action(alloc, matches)
+        target_action(alloc, folder, matches)
     } else if subcommand == "kwargs" {
-        kwargs_action(alloc, matches)
+        kwargs_action(alloc, folder, matches)
     } else if subcommand == "default-options" {
         options_action(alloc, matches)
     } else if subcommand == "command" {
@@ -139,7 +143,21 @@ fn action_of(
     }
 }
 
-/// The request of a subcommand's words, in the folder that is named before it; only `arg` has one.
+/// Whether a folder may be named before `kwargs` and `target`: `kwargs` takes one, and so do the operations on a target that is there.
+fn takes_folder(subcommand: &str, matches: &ArgMatches<'_>) -> bool
+    ensures { result ≡ takes_folder subcommand.now (rows_of (found_of matches.now)) }
+{
+    if subcommand == "kwargs" {
+        return true;
+    }
+    if subcommand != "target" {
+        return false;
+    }
+    let operation = find_target_operation(word_or(matches, "OPERATION", ""));
+    !matches!(operation, Some(TargetOperation::TargetAdd))
+}
+
+/// The request of a subcommand's words, in the folder that is named before it, if it takes one.
 #[tactic(auto, unfolding(crate::specs::Arguments::action_within))]
 fn action_within(
     alloc: Global,
@@ -153,10 +171,10 @@ fn action_within(
 {
     if subcommand == "arg" {
         argument_action(alloc, folder, matches)
-    } else if folder.is_some() {
+    } else if folder.is_some() && !takes_folder(subcommand, matches) {
         Err(UsageFault::Usage)
     } else {
-        action_of(alloc, subcommand, matches)
+        action_of(alloc, folder, subcommand, matches)
     }
 }
 
@@ -298,7 +316,7 @@ fn shown(alloc: Global, action: Action) -> Asked
 ///
 /// # Errors
 /// The first of these faults, in this order. A word is missing, unknown or one too many, a number or a place is not valid, two listings are requested or one of
-/// a function without a name, the folder is empty, or `--in` goes with another subcommand than `arg`. In words that are names with values, the last name has no
+/// a function without a name, the folder is empty, or `--in` goes with words that take no folder. In words that are names with values, the last name has no
 /// value. A name is repeated. The operation is not done here. A value of `arg` is not code. Its values are more or fewer than its operation takes.
 /// Texts are named for what writes, or standard input would be read twice. The title is not valid. And out of memory, at any time.
 pub fn command_of(alloc: Global, words: &[String]) -> Result<Asked, UsageFault>

@@ -26,7 +26,9 @@ Examples:
 
 pub(crate) const DIR: &str = "Folder of the root file [default: the working folder]";
 
-pub(crate) const IN: &str = "With arg: search the build file of this folder alone";
+pub(crate) const IN: &str = "\
+With target, kwargs or arg: search the build file
+of this folder alone";
 
 pub(crate) const DRY_RUN: &str = "Show the changes as a unified diff, and write nothing";
 
@@ -52,7 +54,7 @@ pub(crate) const TARGET: &str = "Edit, list, add or remove a target";
 
 pub(crate) const BELOW_TARGET: &str = "\
 Options of the program, before the subcommand (see meson_rewrite --help):
-  --sourcedir DIR, --title TEXT, --dry-run, --json
+  --sourcedir DIR, --in FOLDER, --title TEXT, --dry-run, --json
 
 Operations:
   add, rm                          add sources, remove sources
@@ -74,6 +76,7 @@ Examples:
   meson_rewrite target make_tables rm_extra_files tables.txt
   meson_rewrite target moon add_target moon.c --subdir src --type executable
   meson_rewrite target make_tables rm_target
+  meson_rewrite --in src target tide add moon.c
   meson_rewrite target harbor info";
 
 pub(crate) const SUBDIR: &str = "Folder of a new target [default: that of the root file]";
@@ -84,7 +87,7 @@ pub(crate) const KWARGS: &str = "Edit or list keyword arguments";
 
 pub(crate) const BELOW_KWARGS: &str = "\
 Options of the program, before the subcommand (see meson_rewrite --help):
-  --sourcedir DIR, --title TEXT, --dry-run, --json
+  --sourcedir DIR, --in FOLDER, --title TEXT, --dry-run, --json
 
 Operations:
   set     give each key its value
@@ -116,6 +119,7 @@ Examples:
   meson_rewrite kwargs add dependency zlib version '!=1.2.9'
   meson_rewrite kwargs remove dependency zlib version '<2'
   meson_rewrite kwargs delete target harbor install x
+  meson_rewrite --in src kwargs set target harbor install false
   meson_rewrite kwargs info dependency zlib";
 
 pub(crate) const ARGUMENT: &str = "Edit or list any value of a call or a variable";
@@ -140,7 +144,8 @@ Operations:
 Places, each a FUNCTION with its ID:
   target ID      a call that makes a target, by its name or variable
   project /      the project call
-  variable NAME  the value that is assigned to the variable with =
+  variable NAME  the value that is assigned to the variable with =; by the key .
+                 also what += adds to it in that file
   at FILE:LINE   the value or call that begins on this line, counted from 1;
                  else the first array or dictionary that opens on it
   other words    a call of that function, by its first argument or variable
@@ -156,12 +161,13 @@ Values:
 
 From FUNCTION on no word is an option, so values may begin with -.
 A text replaces a text or an array of texts, a truth value a truth value, and
-CODE anything.
+CODE anything. For the whole value of a variable CODE is on one line.
 
 If it is refused:
   C3   several calls have the id: use --in FOLDER, the variable, or at FILE:LINE
   C9   the value has no list: set the whole value by CODE
   C12  an assigned value can't be removed, only elements of its list
+  C20  something else reads the variable: use variable NAME and the key .
   C21  the value is of another kind: give CODE
   C22  the new value is there already: remove the old one
   C23  no value has this key: see the keys with arg info; or nothing is the

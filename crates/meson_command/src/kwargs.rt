@@ -1,16 +1,17 @@
 //! `kwargs OPERATION FUNCTION ID [KEY VALUE]...`.
 
-ghost use Rattle.std.specs.Prelude.{◌≡◌, ◌≢◌, Err, IfErr, IfOk, Ok, codes};
+ghost use Rattle.std.specs.Prelude.{◌≡◌, ◌≢◌, Err, IfErr, IfOk, Ok, codes, option_map};
 ghost use Rattle.clap.specs.Words.{found_of, rows_of};
 ghost use Rattle.meson_command.specs.Actions.{kwargs_action, kwargs_by, settings, words_at};
 ghost use Rattle.meson_command.specs.declared.fault.UsageFault.TheVariants.{OutOfMemory};
 
+use crate::argument::folder_named;
 use crate::asked::Action;
 use crate::fault::UsageFault;
 use crate::pairs::{names, pairs_at};
 use crate::words::{run, word_or};
 use clap::ArgMatches;
-use meson_calls::Role;
+use meson_calls::{CallName, Role};
 use meson_json::names::{KwargsOperation, find_kwargs_operation, find_role};
 use meson_json::owned;
 use meson_splice::{Many, Text};
@@ -34,52 +35,57 @@ fn kwargs_by(
     alloc: Global,
     operation: KwargsOperation,
     role: Role,
-    id: Text,
+    name: CallName,
     matches: &ArgMatches<'_>,
 ) -> Result<Action, UsageFault>
-    ensures ok { IfOk result (λ a. kwargs_by operation role id (words_at (codes "KEY VALUE") (rows_of (found_of matches.now))) ≡ Ok a) }
+    ensures ok { IfOk result (λ a. kwargs_by operation role name (words_at (codes "KEY VALUE") (rows_of (found_of matches.now))) ≡ Ok a) }
     ensures refused { IfErr result (λ e. e ≢ OutOfMemory
-        → kwargs_by operation role id (words_at (codes "KEY VALUE") (rows_of (found_of matches.now))) ≡ Err e) }
+        → kwargs_by operation role name (words_at (codes "KEY VALUE") (rows_of (found_of matches.now))) ≡ Err e) }
 {
     if let KwargsOperation::Info = operation {
-        return Ok(Action::Info(Command::KwargsInfo { role, id }));
+        return Ok(Action::Info(Command::KwargsInfo { role, name }));
     }
     let pairs = pairs_at(alloc, matches, "KEY VALUE")?;
     let command = match operation {
         KwargsOperation::Set => Command::KwargsSet {
             role,
-            id,
+            name,
             pairs: settings(alloc, pairs)?,
         },
         KwargsOperation::Delete => Command::KwargsDelete {
             role,
-            id,
+            name,
             keys: names(alloc, pairs)?,
         },
         KwargsOperation::Add => Command::KwargsAdd {
             role,
-            id,
+            name,
             pairs: settings(alloc, pairs)?,
         },
         KwargsOperation::Remove => Command::KwargsRemove {
             role,
-            id,
+            name,
             pairs: settings(alloc, pairs)?,
         },
         KwargsOperation::RemoveRegex => return Err(UsageFault::Unsupported),
-        KwargsOperation::Info => Command::KwargsInfo { role, id },
+        KwargsOperation::Info => Command::KwargsInfo { role, name },
     };
     run(alloc, command)
 }
 
-/// The request of the words of `kwargs`.
+/// The request of the words of `kwargs`, in the folder alone if one is named.
 ///
 /// # Errors
 /// The operation or the function is unknown; the last key has no value; a key is repeated; the operation is not done here.
 #[tactic(auto, unfolding(crate::specs::Actions::kwargs_action))]
-pub(crate) fn kwargs_action(alloc: Global, matches: &ArgMatches<'_>) -> Result<Action, UsageFault>
-    ensures ok { IfOk result (λ a. kwargs_action (rows_of (found_of matches.now)) ≡ Ok a) }
-    ensures refused { IfErr result (λ e. e ≢ OutOfMemory → kwargs_action (rows_of (found_of matches.now)) ≡ Err e) }
+pub(crate) fn kwargs_action(
+    alloc: Global,
+    folder: Option<&str>,
+    matches: &ArgMatches<'_>,
+) -> Result<Action, UsageFault>
+    ensures ok { IfOk result (λ a. kwargs_action (option_map (λ f. f.now) folder.entry) (rows_of (found_of matches.now)) ≡ Ok a) }
+    ensures refused { IfErr result (λ e. e ≢ OutOfMemory
+        → kwargs_action (option_map (λ f. f.now) folder.entry) (rows_of (found_of matches.now)) ≡ Err e) }
 {
     let Some(operation) = find_kwargs_operation(word_or(matches, "OPERATION", "")) else {
         return Err(UsageFault::Usage);
@@ -88,5 +94,6 @@ pub(crate) fn kwargs_action(alloc: Global, matches: &ArgMatches<'_>) -> Result<A
         return Err(UsageFault::Usage);
     };
     let id = owned(alloc, word_or(matches, "ID", ""))?;
-    kwargs_by(alloc, operation, role, id, matches)
+    let folder = folder_named(alloc, folder)?;
+    kwargs_by(alloc, operation, role, CallName { id, folder }, matches)
 }

@@ -1,10 +1,11 @@
 //! `target ID OPERATION [SOURCE]... [--subdir SUBDIR] [--type KIND]`.
 
-ghost use Rattle.std.specs.Prelude.{◌≡◌, ◌≢◌, Err, IfErr, IfOk, Ok};
+ghost use Rattle.std.specs.Prelude.{◌≡◌, ◌≢◌, Err, IfErr, IfOk, Ok, option_map};
 ghost use Rattle.clap.specs.Words.{found_of, rows_of};
 ghost use Rattle.meson_command.specs.Actions.{target_action, target_by, target_words};
 ghost use Rattle.meson_command.specs.declared.fault.UsageFault.TheVariants.{OutOfMemory};
 
+use crate::argument::folder_named;
 use crate::asked::Action;
 use crate::fault::UsageFault;
 use crate::operations::find_target_operation;
@@ -14,12 +15,17 @@ use meson_json::owned;
 use meson_json::target::{TargetMembers, TargetOperation, target_command};
 use std::alloc::{AllocError, Global};
 
-/// The words after the operation.
-fn target_words(alloc: Global, matches: &ArgMatches<'_>) -> Result<TargetMembers, AllocError>
-    ensures { IfOk result (λ w. w ≡ target_words (rows_of (found_of matches.now))) }
+/// The words after the operation, in the folder alone if one is named.
+fn target_words(
+    alloc: Global,
+    folder: Option<&str>,
+    matches: &ArgMatches<'_>,
+) -> Result<TargetMembers, AllocError>
+    ensures { IfOk result (λ w. w ≡ target_words (option_map (λ f. f.now) folder.entry) (rows_of (found_of matches.now))) }
 {
     Ok(TargetMembers {
         target: owned(alloc, word_or(matches, "ID", ""))?,
+        folder: folder_named(alloc, folder)?,
         sources: words_at(alloc, matches, "SOURCE")?,
         subdir: owned(alloc, word_or(matches, "SUBDIR", ""))?,
         target_kind: owned(alloc, word_or(matches, "KIND", "executable"))?,
@@ -42,17 +48,22 @@ fn target_by(
     }
 }
 
-/// The request of the words of `target`.
+/// The request of the words of `target`, in the folder alone if one is named.
 ///
 /// # Errors
 /// The operation is unknown.
 #[tactic(auto, unfolding(crate::specs::Actions::target_action))]
-pub(crate) fn target_action(alloc: Global, matches: &ArgMatches<'_>) -> Result<Action, UsageFault>
-    ensures ok { IfOk result (λ a. target_action (rows_of (found_of matches.now)) ≡ Ok a) }
-    ensures refused { IfErr result (λ e. e ≢ OutOfMemory → target_action (rows_of (found_of matches.now)) ≡ Err e) }
+pub(crate) fn target_action(
+    alloc: Global,
+    folder: Option<&str>,
+    matches: &ArgMatches<'_>,
+) -> Result<Action, UsageFault>
+    ensures ok { IfOk result (λ a. target_action (option_map (λ f. f.now) folder.entry) (rows_of (found_of matches.now)) ≡ Ok a) }
+    ensures refused { IfErr result (λ e. e ≢ OutOfMemory
+        → target_action (option_map (λ f. f.now) folder.entry) (rows_of (found_of matches.now)) ≡ Err e) }
 {
     let Some(operation) = find_target_operation(word_or(matches, "OPERATION", "")) else {
         return Err(UsageFault::Usage);
     };
-    target_by(alloc, operation, target_words(alloc, matches)?)
+    target_by(alloc, operation, target_words(alloc, folder, matches)?)
 }

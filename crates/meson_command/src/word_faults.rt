@@ -184,9 +184,13 @@ fn explain_texts(
     remarks.help_words(alloc, "--texts goes with --dry-run, list, history and info")
 }
 
-/// Whether a folder may be named for a subcommand.
-fn takes_folder(subcommand: Option<Subcommand>) -> bool {
-    matches!(subcommand, Some(Subcommand::Argument))
+/// Whether a folder may be named for the words of a subcommand.
+fn takes_folder(subcommand: Option<Subcommand>, words: &ArgMatches<'_>) -> bool {
+    match subcommand {
+        Some(Subcommand::Argument | Subcommand::Kwargs) => true,
+        Some(Subcommand::Target) => word_or(words, "OPERATION", "") != "add_target",
+        _ => false,
+    }
 }
 
 /// Explains words that are wrong usage.
@@ -201,9 +205,12 @@ fn explain_usage(
         remarks.note_words(alloc, "--sourcedir is empty")?;
         return remarks.help_words(alloc, "leave it out for the working folder");
     }
-    if matches.get_str("FOLDER").is_some() && !takes_folder(subcommand) {
+    if matches.get_str("FOLDER").is_some() && !takes_folder(subcommand, words) {
         remarks.note_words(alloc, "--in is given with words that take no folder")?;
-        return remarks.help_words(alloc, "--in FOLDER goes with arg");
+        return remarks.help_words(
+            alloc,
+            "--in FOLDER goes with arg, kwargs, and target but add_target, which takes --subdir",
+        );
     }
     match subcommand {
         Some(Subcommand::Target) => explain_target(alloc, remarks, words)?,

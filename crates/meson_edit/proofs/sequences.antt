@@ -1,3 +1,4 @@
+pub mod Assigned
 pub mod Changed
 pub mod Deepened
 pub mod Levelled

@@ -1,3 +1,6 @@
+pub mod Assigned
+pub mod FirstWords
+pub mod Trailed
 pub mod Erasing
 pub mod Removed
 pub mod Appended

@@ -1,7 +1,8 @@
--- Edits of the tree of a build file: of the elements of a list, and of whole statements.
+-- Edits of the tree of a build file: of the elements of a list, of whole statements, and of assigned values.
 use Rattle.std.specs.Prelude.{ℕ, suc, Bool, true, false, List, [], ◌∷◌, ◌++◌, take, drop, if◌then◌else◌, Option, Some, None, option_map, option_and_then}
 use Rattle.meson_syntax.specs.Tree.{Nowhere, Plain, Expression, array, Listing, listing, Argument, plain, named, pair, argument_list, arguments_of, Statement}
 use Rattle.meson_syntax.specs.Paths.{nth, list_at, value_of}
+use Rattle.meson_edit.specs.Assigned.{assigned_at}
 use Rattle.meson_edit.specs.Blocks.{block_at, statement_in, block_without, file_and_last}
 
 -- what is written, as bytes and as a tree
@@ -9,7 +10,7 @@ pub record Written (X : Type 0) : Type 0 where
   pub bytes : List ℕ
   pub node : X
 
--- One edit. A list or a block is named by its path in the file, an element or a statement by its number there.
+-- One edit. A list, a block or an assignment is named by its path in the file, an element or a statement by its number there.
 pub data Edit : Type 0 where
   -- the first element of an empty list
   First : (list : List ℕ) → Written (Argument Nowhere) → Edit
@@ -25,6 +26,8 @@ pub data Edit : Type 0 where
   RemoveStatement : (block : List ℕ) → (n : ℕ) → Edit
   -- a statement after all others of the file
   Append : Written (Statement Nowhere) → Edit
+  -- the assignment assigns another value
+  Assign : (assignment : List ℕ) → Written (Expression Nowhere) → Edit
 
 -- ---- lists
 
@@ -73,6 +76,7 @@ edited_elements (Replace path n new) list = option_and_then (exchanged n (λ v. 
 edited_elements (Wrap path n) list = option_and_then (exchanged n array_of list) (nth list n)
 edited_elements (RemoveStatement path n) list = None
 edited_elements (Append new) list = None
+edited_elements (Assign path new) list = None
 
 -- ---- edited files
 
@@ -91,3 +95,4 @@ edited (Replace path n new) f = edited_list (Replace path n new) path f
 edited (Wrap path n) f = edited_list (Wrap path n) path f
 edited (RemoveStatement path n) f = without_statement path n f
 edited (Append new) f = Some (file_and_last f new.node)
+edited (Assign path new) f = option_map (λ p. p.back new.node) (assigned_at f path)

@@ -1,5 +1,6 @@
 -- What an edit keeps. In a list: what is left and right of the touched part, but for commas, blanks and line ends. So every comment and every other element
--- stays. Of statements: all but the statement's own items and the blanks and the line end that are removed with it.
+-- stays. Of statements: all but the statement's own items and the blanks and the line end that are removed with it. Of an
+-- assignment: all but the value.
 use Rattle.std.specs.Prelude.{◌≡◌, ℕ, ◌<◌, ◌≤◌, true, List, [], ◌∷◌, ◌++◌, codes, length, Some, Ok}
 use Rattle.meson_lex.specs.declared.kinds.Span.{Span}
 use Rattle.meson_lex.specs.Items.{Lexeme, joined, IsItemList}
@@ -14,8 +15,8 @@ use Rattle.meson_syntax.specs.Tree.{Plain, Expression, File, erase}
 use Rattle.meson_syntax.specs.Paths.{ListAt, list_at, ElementAt, element_at, value_of}
 use Rattle.meson_edit.specs.Standing.{argument_span, ListStands, ElementStands, ValueStands, ListPlaces}
 use Rattle.meson_syntax.specs.Reads.{IsSpannedWithin}
-use Rattle.meson_edit.specs.Edits.{Edit, First, After, Remove, Replace, Wrap, RemoveStatement, Append, edited}
-use Rattle.meson_edit.specs.Places.{primitive_of, Writes, span_of_statement, value_span}
+use Rattle.meson_edit.specs.Edits.{Edit, First, After, Remove, Replace, Wrap, RemoveStatement, Append, Assign, edited}
+use Rattle.meson_edit.specs.Places.{primitive_of, Writes, span_of_statement, value_span, assigned_span}
 
 -- ---- lists
 
@@ -37,6 +38,7 @@ Touches items p l (Wrap path n) left right notes =
     × (part : ValueStands items p l x v) × (left ≡ part.left) × (right ≡ part.right) × (notes ≡ remarks l.inner)
 Touches items p l (RemoveStatement path n) left right notes = ⊥
 Touches items p l (Append new) left right notes = ⊥
+Touches items p l (Assign path new) left right notes = ⊥
 
 -- The new text is the old one but for the items between the brackets of the list. Of these all bytes left and right of the touched part stay, but for at most a
 -- comma, blanks and line ends beside it. Every comment and continuation stays, in order.
@@ -62,6 +64,7 @@ IsBefore (Replace path n new) m = m < n
 IsBefore (Wrap path n) m = m < n
 IsBefore (RemoveStatement path n) m = ⊥
 IsBefore (Append new) m = ⊥
+IsBefore (Assign path new) m = ⊥
 
 abbrev pub IsBehind : Edit → ℕ → Type 0
 IsBehind (First path new) m = ⊥
@@ -71,6 +74,7 @@ IsBehind (Replace path n new) m = n < m
 IsBehind (Wrap path n) m = n < m
 IsBehind (RemoveStatement path n) m = ⊥
 IsBehind (Append new) m = ⊥
+IsBehind (Assign path new) m = ⊥
 
 -- up to this offset the texts are the same
 pub record SameUpTo (to : ℕ) (bytes text : List ℕ) : Type 0 where
@@ -136,6 +140,18 @@ pub record WrapsValue (bytes text : List ℕ) (f : File Span) (path : List ℕ) 
   pub to : length (front ++ value) ≡ span.to
   pub new : text ≡ front ++ (codes "[" ++ (value ++ (codes "]" ++ back)))
 
+-- Only the bytes of the value that the assignment at this path assigns are replaced. All bytes before and after it stay.
+pub record ReplacesAssigned (bytes text : List ℕ) (f : File Span) (path new : List ℕ) : Type 0 where
+  pub span : Span
+  pub is_span : assigned_span f path ≡ Some span
+  pub front : List ℕ
+  pub was : List ℕ
+  pub back : List ℕ
+  pub old : bytes ≡ front ++ (was ++ back)
+  pub from : length front ≡ span.from
+  pub to : length (front ++ was) ≡ span.to
+  pub now : text ≡ front ++ (new ++ back)
+
 -- What an edit of the file keeps; an appended statement is after all bytes.
 abbrev pub EditKeeps : (bytes text : List ℕ) → File Span → List Lexeme → Edit → Type 0
 EditKeeps bytes text f items (First path new) = KeepsIn bytes text f items (First path new) path
@@ -145,6 +161,7 @@ EditKeeps bytes text f items (Replace path n new) = KeepsIn bytes text f items (
 EditKeeps bytes text f items (Wrap path n) = KeepsIn bytes text f items (Wrap path n) path × WrapsValue bytes text f path n
 EditKeeps bytes text f items (RemoveStatement path n) = (s : Span) × (span_of_statement f path n ≡ Some s) × KeepsAround bytes text items s
 EditKeeps bytes text f items (Append new) = (come : List ℕ) × (text ≡ bytes ++ come)
+EditKeeps bytes text f items (Assign path new) = ReplacesAssigned bytes text f path new.bytes
 
 abbrev pub EditsKeep : Type 0
 EditsKeep =

@@ -1,5 +1,6 @@
 -- What the contracts of this crate use.
 pub mod Edits
+pub mod Assigned
 pub mod Places
 pub mod Laws
 pub mod Sequences

@@ -12,8 +12,9 @@ use Rattle.meson_syntax.specs.Tree.{Argument, File}
 use Rattle.meson_syntax.specs.Grammar.{expression_words, argument_words, statement_words}
 use Rattle.meson_syntax.specs.Paths.{ListAt, list_at, list_span, nth, value_of}
 use Rattle.meson_edit.specs.Standing.{expression_span, argument_span, statement_span}
+use Rattle.meson_edit.specs.Assigned.{assigned_at}
 use Rattle.meson_edit.specs.Blocks.{block_at, statement_in, IsStatementText}
-use Rattle.meson_edit.specs.Edits.{Edit, First, After, Remove, Replace, Wrap, RemoveStatement, Append, elements}
+use Rattle.meson_edit.specs.Edits.{Edit, First, After, Remove, Replace, Wrap, RemoveStatement, Append, Assign, elements}
 
 -- ---- places
 
@@ -33,6 +34,9 @@ bracket_offset f path = option_map (λ (p : ListAt Span). (list_span {S = Span} 
 abbrev pub span_of_statement : File Span → List ℕ → ℕ → Option Span
 span_of_statement f path n = option_map statement_span (option_and_then (λ b. statement_in b.inside n) (block_at f path))
 
+abbrev pub assigned_span : File Span → List ℕ → Option Span
+assigned_span f path = option_map (λ p. expression_span p.value) (assigned_at f path)
+
 -- The edit as it is laid out: by the spans of what it names.
 abbrev pub primitive_of : File Span → Edit → Option Primitive
 primitive_of f (First path new) = option_map (λ at. layout.First at new.bytes) (bracket_offset f path)
@@ -42,6 +46,7 @@ primitive_of f (Replace path n new) = option_map (λ s. layout.Replace s new.byt
 primitive_of f (Wrap path n) = option_map layout.Wrap (value_span f path n)
 primitive_of f (RemoveStatement path n) = option_map layout.RemoveStatement (span_of_statement f path n)
 primitive_of f (Append new) = Some (layout.Append new.bytes)
+primitive_of f (Assign path new) = option_map (λ s. layout.Replace s new.bytes) (assigned_span f path)
 
 -- ---- what is written
 
@@ -52,7 +57,7 @@ pub record IsWritten (bytes : List ℕ) (words : List Word) : Type 0 where
   pub is_words : spoken items ≡ words
   pub utf8 : IsUtf8 bytes
 
--- The bytes are a statement of these words, from its first token to its last.
+-- The bytes are a statement of these words, from its first token to its last. (An expression is one; each line end in it is inside brackets.)
 pub record IsWrittenStatement (bytes : List ℕ) (words : List Word) : Type 0 where
   pub text : IsStatementText bytes words
   pub utf8 : IsUtf8 bytes
@@ -66,3 +71,4 @@ Writes (Replace path n new) = IsWritten new.bytes (expression_words new.node)
 Writes (Wrap path n) = Unit {0}
 Writes (RemoveStatement path n) = Unit {0}
 Writes (Append new) = IsWrittenStatement new.bytes (statement_words new.node)
+Writes (Assign path new) = IsWrittenStatement new.bytes (expression_words new.node)

@@ -5,7 +5,7 @@ use Rattle.meson_syntax.specs.declared.operator.Bracket.TheVariants as bracket
 use Rattle.meson_syntax.specs.Tree.{Nowhere, Plain, Expression, Listing, Argument, plain, named, pair, is_named}
 use Rattle.meson_syntax.specs.Grammar.{LevelExpression, LevelArgument, LevelFile, expression_depth, listing_depth, argument_depth, file_depth}
 use Rattle.meson_syntax.specs.Paths.{ListAt, list_at, nth}
-use Rattle.meson_edit.specs.Edits.{Written, Edit, First, After, Remove, Replace, Wrap, RemoveStatement, Append, elements, edited}
+use Rattle.meson_edit.specs.Edits.{Written, Edit, First, After, Remove, Replace, Wrap, RemoveStatement, Append, Assign, elements, edited}
 use Rattle.meson_edit.specs.Laws.{IsEditOf}
 
 -- ---- places
@@ -36,7 +36,7 @@ DepthsGrow = (t : Plain) (path : List ℕ) (q : ListAt Nowhere) → list_at t pa
 abbrev pub ListsAreShallow : Type 0
 ListsAreShallow = (t : Plain) (path : List ℕ) (q : ListAt Nowhere) → list_at t path ≡ Some q → listing_depth q.list ≤ file_depth t
 
--- the depth of what an edit of a list inserts
+-- the depth of what an edit of a list inserts, and of an assigned value
 abbrev pub new_depth : Edit → ℕ
 new_depth (First path new) = argument_depth new.node
 new_depth (After path n new) = argument_depth new.node
@@ -45,6 +45,7 @@ new_depth (Replace path n new) = expression_depth new.node
 new_depth (Wrap path n) = 1
 new_depth (RemoveStatement path n) = 0
 new_depth (Append new) = 0
+new_depth (Assign path new) = expression_depth new.node
 
 -- An edit of a list makes the tree deeper by no more than what it inserts.
 abbrev pub EditsDeepen : Type 0
@@ -68,6 +69,12 @@ InsertionsStayWithin =
 abbrev pub EditsDeepenByOne : Type 0
 EditsDeepenByOne = (e : Edit) (path : List ℕ) → IsEditOf path e → new_depth e ≤ 1 → (t now : Plain) → edited e t ≡ Some now → file_depth now ≤ file_depth t + 1
 
+-- Another assigned value makes the tree deeper by no more than that value; if nothing nests in it, the tree is no deeper.
+abbrev pub AssignmentsDeepen : Type 0
+AssignmentsDeepen =
+    (path : List ℕ) (new : Written (Expression Nowhere)) (t now : Plain) → edited (Assign path new) t ≡ Some now
+    → file_depth now ≤ file_depth t + expression_depth new.node
+
 -- ---- levels
 
 -- An edit keeps the levels of a tree.
@@ -82,6 +89,9 @@ WrapsKeepLevels = (path : List ℕ) (n : ℕ) → Levels (Wrap path n)
 
 abbrev pub ReplacementsKeepLevels : Type 0
 ReplacementsKeepLevels = (path : List ℕ) (n : ℕ) (new : Written (Expression Nowhere)) → LevelExpression new.node → Levels (Replace path n new)
+
+abbrev pub AssignmentsKeepLevels : Type 0
+AssignmentsKeepLevels = (path : List ℕ) (new : Written (Expression Nowhere)) → LevelExpression new.node → Levels (Assign path new)
 
 -- An element may be the first of a list of its bracket.
 abbrev pub FirstsKeepLevels : Type 0

@@ -31,6 +31,8 @@ use Rattle.meson_explaining.proofs.Firsts.{all_of, first_refused, meant_of_call,
 use Rattle.meson_explaining.proofs.NameReasons.{Free, after, bad_of_names, call_free, checked_kind_free, is_bad, kwargs_free, not_refused, once_free, or_free, placed_free, reached, removed_free, shown_free, target_free}
 use Rattle.meson_explaining.proofs.SourceReasons.{inserted_free}
 use Rattle.meson_explaining.proofs.TaskReasons.{tasks_free}
+use Rattle.meson_calls.specs.declared.call.CallName.{CallName}
+use Rattle.meson_calls.specs.Searching.{anywhere}
 
 pub same_names : {X : Type 0} (o : Option X) → o ≡ option_map (λ x. x) o
 same_names None = refl
@@ -72,7 +74,7 @@ extra_free p c names none =
 
 module _ (l : Loaded) where
   -- commands on names of sources or extra files, which are checked first
-  module _ (target : List ℕ) (named : List (List ℕ) → Command) (body : List (List ℕ) → Placed (Call Span) → Result (List Step) Refusal)
+  module _ (target : CallName) (named : List (List ℕ) → Command) (body : List (List ℕ) → Placed (Call Span) → Result (List Step) Refusal)
       (is : (names : List (List ℕ)) → planned (project l) (named names) ≡ then_ok (the_call (project l) role.Target target) (body names))
       (free : (names : List (List ℕ)) → find is_empty_name names ≡ None → (c : Placed (Call Span)) → Free is_bad (body names c))
       (lone : (c : Placed (Call Span)) → body ([] ∷ []) c ≡ Err refusal.BadName) where
@@ -87,7 +89,7 @@ module _ (l : Loaded) where
         (name ∙ same_names (find is_empty_name names)) (λ c found rest. all_of _ (empty_lone c) names) e
 
   -- commands on keyword arguments, by their entries
-  module _ {X : Type 0} (r : Role) (id : List ℕ) (test : X → Bool) (key : X → List ℕ) (named : List X → Command) (entry : X → Result (List Task) Refusal)
+  module _ {X : Type 0} (r : Role) (id : CallName) (test : X → Bool) (key : X → List ℕ) (named : List X → Command) (entry : X → Result (List Task) Refusal)
       (is : (xs : List X) → planned (project l) (named xs) ≡ then_ok (the_call (project l) r id) (call_changed (project l) (each_made entry xs)))
       (good : (x : X) → test x ≡ false → Free is_bad (entry x)) (bad : (x : X) → test x ≡ true → entry x ≡ Err refusal.BadName) where
     entries_meant : (xs : List X) → alone (named xs) ≡ map (λ x. (key x, named (x ∷ []))) xs → meant_name l (named xs) refusal.BadName ≡ option_map key (find test xs)
@@ -203,10 +205,10 @@ module _ (l : Loaded) where
   bad_meant (command.KwargsInfo r id) =
       never (command.KwargsInfo r id) (the_call (project l) r id) (λ c. call_asked r c.it) refl (call_free is_bad bad_of_names (project l) r id) (λ c. kwargs_free is_bad bad_of_names r c.it)
   bad_meant (command.OptionsSet pairs) =
-      entries_meant role.Project (codes "/") (λ p. is_bad_option p.0) (λ p. p.0) command.OptionsSet set_option_entry (λ ps. refl)
+      entries_meant role.Project (anywhere (codes "/")) (λ p. is_bad_option p.0) (λ p. p.0) command.OptionsSet set_option_entry (λ ps. refl)
       (λ p t. after is_bad (checked_option p.0) _ (option_good p.0 t) (λ u. tt)) (λ p t. ap (λ r. then_ok r (λ _. Ok (set_option p.0 p.1 ∷ []))) (option_bad p.0 t)) pairs refl refl
   bad_meant (command.OptionsDelete names) =
-      entries_meant role.Project (codes "/") is_bad_option (λ n. n) command.OptionsDelete delete_option_entry (λ ns. refl)
+      entries_meant role.Project (anywhere (codes "/")) is_bad_option (λ n. n) command.OptionsDelete delete_option_entry (λ ns. refl)
       (λ n t. after is_bad (checked_option n) _ (option_good n t) (λ u. tt)) (λ n t. ap (λ r. then_ok r (λ _. Ok (delete_option n ∷ []))) (option_bad n t)) names refl
       (same_names (find is_bad_option names))
   bad_meant (command.Argument name change) = λ e. absurd (let none : ◌≡◌ {A = Result (List Step) Refusal} (Ok []) (Err refusal.BadName) = e in let no : ⊥ = cc in no)

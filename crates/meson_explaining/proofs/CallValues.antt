@@ -21,8 +21,9 @@ use Rattle.meson_details.specs.declared.called.Called.{Called}
 use Rattle.meson_plan.specs.Details.{place_found}
 use Rattle.meson_plan.proofs.PlacesFound.{at_place}
 use Rattle.meson_explaining.specs.Values.{argument_note, call_notes, value_notes}
+use Rattle.meson_calls.specs.declared.call.CallName.{CallName}
 
-pub called_notes : (l : Loaded) (r : Role) (id key : List ℕ) (place : CallRef) (called : Called) (args : List Arg) → place_found (the_call (project l) r id) ≡ Ok place
+pub called_notes : (l : Loaded) (r : Role) (id : CallName) (key : List ℕ) (place : CallRef) (called : Called) (args : List Arg) → place_found (the_call (project l) r id) ≡ Ok place
     → expression_at (project l) place ≡ Some (called_view called) → called.source.now ≡ bytes_at place.file l.files → args ≡ (rust.out-List called.arguments.now).items
     → filter_map (argument_note place.file called.source.now key) (args_view called.source.now args) ≡ value_notes l r id key
 called_notes l r id key place called args is at source got =

@@ -17,6 +17,7 @@ use Rattle.meson_steps.specs.declared.command.Command.{Command}
 use Rattle.meson_explaining.specs.NameLaws.{HasMeantName, IsFirstRefused, NotRefused, alone}
 use Rattle.meson_explaining.specs.Names.{meant_name}
 use Rattle.meson_explaining.proofs.NameReasons.{Free, OfNames, after_ok, call_free, not_refused, reached}
+use Rattle.meson_calls.specs.declared.call.CallName.{CallName}
 
 pub none_of_one : {X : Type 0} (test : X → Bool) (x : X) → test x ≡ false → find test (x ∷ []) ≡ None
 none_of_one test x is = ap (λ b. cond b (Some x) None) is
@@ -68,7 +69,7 @@ module _ {X : Type 0} (l : Loaded) (why : Refusal) (test : X → Bool) (key : X 
       }
 
 -- A command about a call, by its names.
-module _ {X : Type 0} (l : Loaded) (q : Refusal → Bool) (apart : OfNames q) (why : Refusal) (sought : q why ≡ true) (r : Role) (id : List ℕ) (test : X → Bool) (key : X → List ℕ)
+module _ {X : Type 0} (l : Loaded) (q : Refusal → Bool) (apart : OfNames q) (why : Refusal) (sought : q why ≡ true) (r : Role) (id : CallName) (test : X → Bool) (key : X → List ℕ)
     (named : List X → Command) (body : List X → Placed (Call Span) → Result (List Step) Refusal)
     (is : (xs : List X) → planned (project l) (named xs) ≡ then_ok (the_call (project l) r id) (body xs))
     (free : (xs : List X) → find test xs ≡ None → (c : Placed (Call Span)) → the_call (project l) r id ≡ Ok c → Free q (body xs c)) where

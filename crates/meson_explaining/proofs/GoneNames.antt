@@ -37,6 +37,8 @@ use Rattle.meson_explaining.proofs.BadNames.{same_names}
 use Rattle.meson_explaining.proofs.NameReasons.{Free, after, after_ok, call_free, checked_kind_free, gone_of_names, is_gone, kwargs_free, not_refused, once_free, placed_free, reached, removed_free, shown_free, target_free}
 use Rattle.meson_explaining.proofs.SourceReasons.{inserted_free, names_valid}
 use Rattle.meson_explaining.proofs.TaskReasons.{tasks_free}
+use Rattle.meson_calls.specs.declared.call.CallName.{CallName}
+use Rattle.meson_calls.specs.Searching.{anywhere}
 
 -- ---- what a keyword that may be there once gives
 
@@ -69,7 +71,7 @@ same_find f g same (x ∷ xs) = ap (λ b. cond b (Some x) (find f xs)) (same x) 
 
 -- ---- a command that removes names from a target
 
-module _ (l : Loaded) (target : List ℕ) (items_there : List SourceItem) (named : List (List ℕ) → Command) (marks_of : Placed (Call Span) → Result (List (Mark Span)) Refusal) where
+module _ (l : Loaded) (target : CallName) (items_there : List SourceItem) (named : List (List ℕ) → Command) (marks_of : Placed (Call Span) → Result (List (Mark Span)) Refusal) where
   abbrev body : List (List ℕ) → Placed (Call Span) → Result (List Step) Refusal
   body names c = then_ok (checked_names names) (λ _. then_ok (marks_of c) (λ marks. removed_at (spots_named marks (distinct names))))
 
@@ -109,7 +111,7 @@ module _ (l : Loaded) (target : List ℕ) (items_there : List SourceItem) (named
 
 -- ---- what the target has
 
-module _ (l : Loaded) (target : List ℕ) (c : Placed (Call Span)) (found : the_call (project l) role.Target target ≡ Ok c) where
+module _ (l : Loaded) (target : CallName) (c : Placed (Call Span)) (found : the_call (project l) role.Target target ≡ Ok c) where
   at_place : call_at (project l) c.place ≡ Some c
   at_place =
       let at = (role_found (project l) role.Target target c found).at in
@@ -151,19 +153,19 @@ module _ (l : Loaded) (target : List ℕ) (c : Placed (Call Span)) (found : the_
 -- ---- each command
 
 module _ (l : Loaded) (why : Refusal) (gone : is_gone why ≡ true)
-    (from_sources : (target : List ℕ) (names : List (List ℕ)) → meant_name l (command.SourcesRemove target names) why ≡ find (is_missing (sources_at l target)) names)
-    (from_extras : (target : List ℕ) (names : List (List ℕ)) → meant_name l (command.ExtraRemove target names) why ≡ find (is_missing (extras_at l target)) names) where
+    (from_sources : (target : CallName) (names : List (List ℕ)) → meant_name l (command.SourcesRemove target names) why ≡ find (is_missing (sources_at l target)) names)
+    (from_extras : (target : CallName) (names : List (List ℕ)) → meant_name l (command.ExtraRemove target names) why ≡ find (is_missing (extras_at l target)) names) where
   abbrev Gone : Command → Type 0
   Gone c = planned (project l) c ≡ Err why → HasMeantName l c why
 
   never : (c : Command) → Free is_gone (planned (project l) c) → Gone c
   never c free e = absurd (not_refused is_gone (planned (project l) c) why free gone e)
 
-  never_of : (c : Command) (r : Role) (id : List ℕ) (f : Placed (Call Span) → Result (List Step) Refusal) → planned (project l) c ≡ then_ok (the_call (project l) r id) f
+  never_of : (c : Command) (r : Role) (id : CallName) (f : Placed (Call Span) → Result (List Step) Refusal) → planned (project l) c ≡ then_ok (the_call (project l) r id) f
       → ((x : Placed (Call Span)) → Free is_gone (f x)) → Gone c
   never_of c r id f is each = never c (subst (Free is_gone) (sym is) (after is_gone (the_call (project l) r id) f (call_free is_gone gone_of_names (project l) r id) each))
 
-  never_changed : {X : Type 0} (c : Command) (r : Role) (id : List ℕ) (entry : X → Result (List Task) Refusal) (xs : List X)
+  never_changed : {X : Type 0} (c : Command) (r : Role) (id : CallName) (entry : X → Result (List Task) Refusal) (xs : List X)
       → planned (project l) c ≡ then_ok (the_call (project l) r id) (call_changed (project l) (each_made entry xs)) → ((x : X) → Free is_gone (entry x)) → Gone c
   never_changed c r id entry xs is free =
       never_of c r id (call_changed (project l) (each_made entry xs)) is
@@ -212,8 +214,8 @@ module _ (l : Loaded) (why : Refusal) (gone : is_gone why ≡ true)
   gone_meant (command.KwargsDelete r id keys) = never_changed (command.KwargsDelete r id keys) r id (delete_entry r) keys refl (delete_free is_gone gone_of_names r)
   gone_meant (command.KwargsInfo r id) = never_of (command.KwargsInfo r id) r id (λ c. call_asked r c.it) refl (λ c. kwargs_free is_gone gone_of_names r c.it)
   gone_meant (command.OptionsSet pairs) =
-      never_changed (command.OptionsSet pairs) role.Project (codes "/") set_option_entry pairs refl (λ p. after is_gone (checked_option p.0) _ (option_free is_gone p.0 refl) (λ u. tt))
+      never_changed (command.OptionsSet pairs) role.Project (anywhere (codes "/")) set_option_entry pairs refl (λ p. after is_gone (checked_option p.0) _ (option_free is_gone p.0 refl) (λ u. tt))
   gone_meant (command.OptionsDelete names) =
-      never_changed (command.OptionsDelete names) role.Project (codes "/") delete_option_entry names refl (λ n. after is_gone (checked_option n) _ (option_free is_gone n refl) (λ u. tt))
+      never_changed (command.OptionsDelete names) role.Project (anywhere (codes "/")) delete_option_entry names refl (λ n. after is_gone (checked_option n) _ (option_free is_gone n refl) (λ u. tt))
   gone_meant (command.Argument name change) = λ e. absurd (let none : ◌≡◌ {A = Result (List Step) Refusal} (Ok []) (Err why) = e in let no : ⊥ = cc in no)
   gone_meant (command.ArgumentInfo name) = λ e. absurd (let none : ◌≡◌ {A = Result (List Step) Refusal} (Ok []) (Err why) = e in let no : ⊥ = cc in no)

@@ -5,10 +5,12 @@ use Rattle.std.specs.List.{filter_map}
 use Rattle.meson_splice.specs.Patch.{then_ok}
 use Rattle.meson_edit.specs.Edits.{elements}
 use Rattle.meson_calls.specs.Calls.{Call, keyword}
-use Rattle.meson_calls.specs.Finding.{any_project, only_one, the_call}
+use Rattle.meson_calls.specs.Finding.{any_project, call_within, only_one, the_call}
 use Rattle.meson_calls.specs.Keys.{is_key}
 use Rattle.meson_calls.specs.NamedArguments.{not_hidden, once, sources_key}
-use Rattle.meson_calls.specs.Naming.{found}
+use Rattle.meson_calls.specs.Naming.{found_among}
+use Rattle.meson_calls.specs.Searching.{file_of_folder as file_searched, numbered_file, position_of_name, project_names, searched_file, within}
+use Rattle.meson_calls.specs.Parts.{parts}
 use Rattle.meson_calls.specs.Project.{Placed, Project}
 use Rattle.meson_calls.specs.Roles.{role_calls}
 use Rattle.meson_calls.specs.declared.call.Role.{Role}
@@ -20,6 +22,7 @@ use Rattle.meson_plan.specs.Planning.{call_asked, target_told}
 use Rattle.meson_sources.specs.SourceEdits.{extra_key}
 use Rattle.meson_steps.specs.Steps.{Step}
 use Rattle.meson_targets.specs.TargetEdits.{Held, StatementPlace, alone, append_steps, checked_kind, file_number, file_of_folder, holder, is_target_kind, is_used_outside, kind_key, not_in_use, not_taken, number_in, set_to, statement_removal, target_removed, targets_named}
+use Rattle.meson_calls.specs.declared.call.CallName.{CallName}
 
 abbrev pub Free : {X : Type 0} → (Refusal → Bool) → Result X Refusal → Type 0
 Free q (Ok x) = Unit {0}
@@ -120,12 +123,19 @@ module _ (q : Refusal → Bool) (apart : OfNames q) where
   project_free [] = apart.no_project
   project_free (x ∷ xs) = tt
 
-  pub call_free : {S : Type 0} (p : Project S) (r : Role) (id : List ℕ) → Free q (the_call p r id)
-  call_free p role.Target id = one_free (found p role.Target id)
-  call_free p role.Dependency id = one_free (found p role.Dependency id)
-  call_free p role.Project id =
-      after q (any_project (role_calls p role.Project)) (λ _. only_one (found p role.Project id)) (project_free (role_calls p role.Project))
-      (λ u. one_free (found p role.Project id))
+  searched_free : (names : List (List ℕ)) (folder : Option (List ℕ)) → Free q (searched_file names folder)
+  searched_free names None = tt
+  searched_free names (Some folder) = after q (numbered_file names (file_searched folder)) (λ n. Ok (Some n)) (or_free q (position_of_name (file_searched folder) names) refusal.NoFile apart.no_file) (λ n. tt)
+
+  within_free : {S : Type 0} (w : Option ℕ) (p : Project S) (r : Role) (id : List ℕ) → Free q (call_within w p r id)
+  within_free w p role.Target id = one_free (found_among (within w (parts p)) role.Target id)
+  within_free w p role.Dependency id = one_free (found_among (within w (parts p)) role.Dependency id)
+  within_free w p role.Project id =
+      after q (any_project (role_calls p role.Project)) (λ _. only_one (found_among (within w (parts p)) role.Project id)) (project_free (role_calls p role.Project))
+      (λ u. one_free (found_among (within w (parts p)) role.Project id))
+
+  pub call_free : {S : Type 0} (p : Project S) (r : Role) (name : CallName) → Free q (the_call p r name)
+  call_free p r name = after q (searched_file (project_names p) name.folder) (λ w. call_within w p r name.id) (searched_free (project_names p) name.folder) (λ w. within_free w p r name.id)
 
   pub once_free : {X Y : Type 0} (key : List ℕ) (xs : List X) (y : Y) → Free q (once key xs y)
   once_free key [] y = tt

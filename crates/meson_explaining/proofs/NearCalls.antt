@@ -1,13 +1,14 @@
 -- The calls that are told as the nearest are near.
-use Rattle.std.proofs.Common.{◌≡◌, ℕ, zero, suc, ◌+◌, ◌/◌, ◌<◌, ◌≤◌, List, [], ◌∷◌, length, take, get_or, Option, Some, None, refl, ap, arith}
-use Rattle.std.specs.Prelude.{Bool, true, false, cond, if◌then◌else◌, filter, option_and_then}
+use Rattle.std.proofs.Common.{◌≡◌, ◌⊎◌, ◌∙◌, inl, inr, sym, ℕ, zero, suc, ◌+◌, ◌/◌, ◌<◌, ◌≤◌, List, [], ◌∷◌, length, take, get_or, Option, Some, None, refl, ap, arith}
+use Rattle.std.specs.Prelude.{min, Bool, true, false, cond, if◌then◌else◌, filter, option_and_then}
 use Rattle.std.specs.List.{All, Contains}
-use Rattle.std.proofs.lemmas.Bool.{eqb-true}
+use Rattle.std.proofs.lemmas.Bool.{cases_lt, eqb-true}
+use Rattle.std.proofs.Math.Nat.{min-eq_left, min_comm}
 use Rattle.std.proofs.lemmas.List.{get_or_default, length-take}
 use Rattle.std.proofs.lemmas.List.Elements.{All-append, All-cons, All-head, All-tail, All-take}
 use Rattle.meson_inventory.specs.declared.holdings.HeldCall.{HeldCall}
 use Rattle.meson_explaining.specs.Laws.{IsNear, NearestAreNear}
-use Rattle.meson_explaining.specs.Nearest.{edits, edits_to, far, is_far, is_long, is_number, nearer}
+use Rattle.meson_explaining.specs.Nearest.{edits, edits_to, far, fewer, is_far, is_long, is_number, nearer}
 
 no_more : {X : Type 0} (P : X → Type 0) → All P []
 no_more P = λ k d within. absurd (omega (arith, within))
@@ -27,12 +28,18 @@ passing {X} P Q p gives (x ∷ xs) all = go (p x) refl (passing P Q p gives xs (
     go true is rest = All-cons Q x (filter p xs) (gives x (All-head P x xs all) is) rest
     go false is rest = rest
 
+min-one : (m k : ℕ) → (min m k ≡ m) ⊎ (min m k ≡ k)
+min-one m k = elim (cases_lt m k) [
+  | inl less ↦ inl (min-eq_left (omega (arith, less)))
+  | inr more ↦ inr (min_comm m k ∙ min-eq_left more)
+]
+
 module _ (id : List ℕ) (cs : List HeldCall) where
   -- one of the calls, with a name that is nearer than n
   record Nearer (n : ℕ) (c : HeldCall) : Type 0 where
     among : Contains cs c
     name : List ℕ
-    is_name : c.head.name ≡ Some name
+    is_name : (c.head.name ≡ Some name) ⊎ (c.variable ≡ Some name)
     close : edits id name < n
 
   at_number : (n : ℕ) (o : Option ℕ) → is_number n o ≡ true → o ≡ Some n
@@ -43,14 +50,31 @@ module _ (id : List ℕ) (cs : List HeldCall) where
   to_name n name true is e = absurd (let no : ⊥ = cc in no)
   to_name n name false is e = cc
 
-  named : (n : ℕ) (c : HeldCall) (o : Option (List ℕ)) → c.head.name ≡ o → Contains cs c → option_and_then (edits_to id) o ≡ Some n → Nearer (suc n) c
-  named n c None is among e = absurd (let no : ⊥ = cc in no)
-  named n c (Some name) is among e =
-      let at = to_name n name (is_long name) refl e in
-      record { among = among; name = name; is_name = is; close = omega (arith, at) }
+  -- the name that is so far away
+  record At (n : ℕ) (o : Option (List ℕ)) : Type 0 where
+    name : List ℕ
+    is_name : o ≡ Some name
+    at : edits id name ≡ n
+
+  name_at : (n : ℕ) (o : Option (List ℕ)) → option_and_then (edits_to id) o ≡ Some n → At n o
+  name_at n None e = absurd (let no : ⊥ = cc in no)
+  name_at n (Some name) e = record { name = name; is_name = refl; at = to_name n name (is_long name) refl e }
+
+  one_of_two : (n : ℕ) (a b : Option ℕ) → fewer a b ≡ Some n → (a ≡ Some n) ⊎ (b ≡ Some n)
+  one_of_two n None b e = inr e
+  one_of_two n (Some m) None e = inl e
+  one_of_two n (Some m) (Some k) e = elim (min-one m k) [
+    | inl first ↦ inl (ap Some (sym first) ∙ e)
+    | inr second ↦ inr (ap Some (sym second) ∙ e)
+  ]
 
   at_distance : (n : ℕ) (c : HeldCall) → Contains cs c → is_far id n c ≡ true → Nearer (suc n) c
-  at_distance n c among is = named n c c.head.name refl among (at_number n (far id c) is)
+  at_distance n c among is = elim (one_of_two n (option_and_then (edits_to id) c.head.name) (option_and_then (edits_to id) c.variable) (at_number n (far id c) is)) [
+    | inl e ↦ let it = name_at n c.head.name e in
+        record { among = among; name = it.name; is_name = inl it.is_name; close = omega (arith, it.at) }
+    | inr e ↦ let it = name_at n c.variable e in
+        record { among = among; name = it.name; is_name = inr it.is_name; close = omega (arith, it.at) }
+  ]
 
   one_more : (n : ℕ) (c : HeldCall) → Nearer n c → Nearer (suc n) c
   one_more n c near = record { among = near.among; name = near.name; is_name = near.is_name; close = omega (arith, near.close) }

@@ -20,12 +20,13 @@ use Rattle.meson_details.specs.declared.called.Called.{Called}
 use Rattle.meson_plan.specs.Details.{place_found}
 use Rattle.meson_plan.proofs.PlacesFound.{at_place}
 use Rattle.meson_explaining.specs.Unknown.{argument_unknown, unknown_arguments, unknown_of_call}
+use Rattle.meson_calls.specs.declared.call.CallName.{CallName}
 
 after_first : (source : List ℕ) (args : List Arg) → args_view source (drop 1 args) ≡ drop 1 (args_view source args)
 after_first source [] = refl
 after_first source (a ∷ args) = refl
 
-pub unknown_found : (l : Loaded) (id key : List ℕ) (place : CallRef) (called : Called) (args : List Arg) → place_found (the_call (project l) role.Target id) ≡ Ok place
+pub unknown_found : (l : Loaded) (id : CallName) (key : List ℕ) (place : CallRef) (called : Called) (args : List Arg) → place_found (the_call (project l) role.Target id) ≡ Ok place
     → expression_at (project l) place ≡ Some (called_view called) → args ≡ (rust.out-List called.arguments.now).items
     → take 3 (filter_map (argument_unknown (project l) place.file key) (args_view called.source.now (drop 1 args))) ≡ unknown_arguments l id key
 unknown_found l id key place called args is at got =

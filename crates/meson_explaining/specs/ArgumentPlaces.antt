@@ -20,7 +20,7 @@ use Rattle.meson_inventory.specs.declared.holdings.HeldCall.{HeldCall}
 use Rattle.meson_explaining.specs.Keys.{nearest_key}
 use Rattle.meson_explaining.specs.Notes.{few_notes, further, plain_note}
 use Rattle.meson_explaining.specs.NotFound.{missing_notes, not_found}
-use Rattle.meson_explaining.specs.Targets.{folder_notes}
+use Rattle.meson_explaining.specs.Targets.{folder_notes, searched_help}
 use Rattle.meson_explaining.specs.declared.explanation.Explanation.{Explanation}
 use Rattle.meson_explaining.specs.declared.explanation.Note.{Note}
 
@@ -140,5 +140,5 @@ no_folder_notes l (Some folder) n = if is_none (only_file l.files (Some folder))
 abbrev pub place_without_file : Loaded → Search → Explanation
 place_without_file l s = record {
   notes = no_folder_notes l s.folder s.name;
-  help = codes "list shows the build files; a folder is written as src, not as src/ or ./src, and that of the root file as ." ∷ [];
+  help = searched_help ∷ [];
 }

@@ -24,7 +24,7 @@ helped notes help = record { notes = notes; help = help ∷ [] }
 -- `.` stands for the whole
 abbrev pub uncomputed_help : List ℕ → List ℕ
 uncomputed_help key =
-    if bytes_eq key (codes ".") then codes "the whole value of a variable stays; arg add adds to its list, and a number as the key names an element"
+    if bytes_eq key (codes ".") then codes "arg set gives a variable another value, which as code is on one line, as :[a, b]; arg add adds to a list"
     else codes "arg set replaces a value that is computed by code, as :[a, b]; one that is a variable is changed with variable as the FUNCTION"
 
 -- no one value has the key that is named

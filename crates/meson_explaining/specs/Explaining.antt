@@ -11,6 +11,7 @@ use Rattle.meson_inventory.specs.Holdings.{calls_named}
 use Rattle.meson_explaining.specs.declared.explanation.Explanation.{Explanation}
 use Rattle.meson_explaining.specs.declared.explanation.Note.{Note}
 use Rattle.meson_explaining.specs.Arguments.{value_explanation}
+use Rattle.meson_explaining.specs.ArgumentPlaces.{and_help, folder_lines}
 use Rattle.meson_explaining.specs.BadNames.{bad_help, bad_notes}
 use Rattle.meson_explaining.specs.Keys.{keys, nearest_key, unknown_notes, wrong_notes}
 use Rattle.meson_explaining.specs.NotFound.{not_found}
@@ -21,14 +22,16 @@ use Rattle.meson_explaining.specs.Stated.{no_project, no_such_value, other_kind,
 use Rattle.meson_explaining.specs.Targets.{in_use, no_file}
 use Rattle.meson_explaining.specs.Values.{value_notes}
 use Rattle.meson_explaining.specs.Ways.{ways}
+use Rattle.meson_calls.specs.declared.call.CallName.{CallName}
+use Rattle.meson_calls.specs.Searching.{anywhere}
 
--- the kind of the call that a command is about, and the id that is to name it; a change of a value is about none
-abbrev pub subject : Command → Role × List ℕ
+-- the kind of the call that a command is about, and what is to name it; a change of a value is about none
+abbrev pub subject : Command → Role × CallName
 subject (command.SourcesAdd target sources) = (role.Target, target)
 subject (command.SourcesRemove target sources) = (role.Target, target)
 subject (command.ExtraAdd target sources) = (role.Target, target)
 subject (command.ExtraRemove target sources) = (role.Target, target)
-subject (command.TargetAdd target kind subdir sources) = (role.Target, target)
+subject (command.TargetAdd target kind subdir sources) = (role.Target, anywhere target)
 subject (command.TargetRemove target) = (role.Target, target)
 subject (command.TargetInfo target) = (role.Target, target)
 subject (command.KwargsSet r id pairs) = (r, id)
@@ -36,16 +39,16 @@ subject (command.KwargsAdd r id pairs) = (r, id)
 subject (command.KwargsRemove r id pairs) = (r, id)
 subject (command.KwargsDelete r id keys) = (r, id)
 subject (command.KwargsInfo r id) = (r, id)
-subject (command.OptionsSet pairs) = (role.Project, codes "/")
-subject (command.OptionsDelete names) = (role.Project, codes "/")
-subject (command.Argument name change) = (role.Project, codes "/")
-subject (command.ArgumentInfo name) = (role.Project, codes "/")
+subject (command.OptionsSet pairs) = (role.Project, anywhere (codes "/"))
+subject (command.OptionsDelete names) = (role.Project, anywhere (codes "/"))
+subject (command.Argument name change) = (role.Project, anywhere (codes "/"))
+subject (command.ArgumentInfo name) = (role.Project, anywhere (codes "/"))
 
 -- ---- the id names more than one call
 
 abbrev pub ambiguous_help : Role → List ℕ
 ambiguous_help role.Project = codes "use --sourcedir FOLDER with the folder of one of them"
-ambiguous_help _ = codes "use a variable as the id, or --sourcedir FOLDER with the folder of one of them; arg at FILE:LINE names the call on a line"
+ambiguous_help _ = codes "use --in FOLDER with the folder of one of them, or a variable as the id; arg at FILE:LINE names the call on a line"
 
 abbrev pub ambiguous : Loaded → Role → List ℕ → Explanation
 ambiguous l r id = record {
@@ -62,7 +65,7 @@ unknown_help (Some key) = (codes "the nearest key is " ++ key) ∷ []
 abbrev pub unknown_key : Command → List ℕ → Explanation
 unknown_key c key = record {
   notes = unknown_notes (subject c).0 key;
-  help = unknown_help (nearest_key key (keys (subject c).0)) ++ ways c (subject c).0 (subject c).1 key;
+  help = unknown_help (nearest_key key (keys (subject c).0)) ++ ways c (subject c).0 (subject c).1.id key;
 }
 
 -- ---- the value is not of the kind that the key takes
@@ -110,7 +113,7 @@ duplicate l c key = keyword_there l c key (codes "remove one of them by hand")
 -- ---- what is said of the calls that the command names
 
 abbrev pub calls_there : Loaded → Command → ℕ → List ℕ → List ℕ → List ℕ → Explanation
-calls_there l c most more others help = record { notes = few_notes most more others (calls_named l (subject c).0 (subject c).1); help = help ∷ [] }
+calls_there l c most more others help = record { notes = few_notes most more others (calls_named l (subject c).0 (subject c).1.id); help = help ∷ [] }
 
 abbrev pub name_taken : Loaded → Command → Explanation
 name_taken l c = calls_there l c 5 [] (codes "further targets of that name") (codes "use another name, or remove that target first with rm_target")
@@ -123,8 +126,8 @@ not_statement l c =
 
 abbrev pub call_explanation : Loaded → Command → Refusal → Explanation
 call_explanation l c refusal.NoProject = no_project l
-call_explanation l c refusal.NotFound = not_found l (subject c).0 (subject c).1
-call_explanation l c refusal.Ambiguous = ambiguous l (subject c).0 (subject c).1
+call_explanation l c refusal.NotFound = and_help (not_found l (subject c).0 (subject c).1.id) (folder_lines (subject c).1.folder)
+call_explanation l c refusal.Ambiguous = ambiguous l (subject c).0 (subject c).1.id
 call_explanation l c (refusal.UnknownKey key) = unknown_key c key
 call_explanation l c (refusal.WrongKind key) = wrong_kind c key
 call_explanation l c refusal.BadName = not_valid c
@@ -139,7 +142,7 @@ call_explanation l c refusal.SourceNotFound = not_there l c
 call_explanation l c refusal.Unresolved = unresolved l c
 call_explanation l c refusal.NotRemovable = not_removable l c
 call_explanation l c refusal.NameTaken = name_taken l c
-call_explanation l c refusal.NoFile = no_file l c
+call_explanation l c refusal.NoFile = no_file l (subject c).1.folder c
 call_explanation l c refusal.NotStatement = not_statement l c
 call_explanation l c (refusal.InUse name) = in_use l c name
 call_explanation l c refusal.TooDeep = too_deep

@@ -1,5 +1,5 @@
 -- What is promised of an explanation, in the words of a reader.
-use Rattle.std.specs.Prelude.{◌≡◌, ℕ, ◌/◌, ◌≤◌, false, List, ◌++◌, codes, flat_map, length, Some, encode_utf8_all}
+use Rattle.std.specs.Prelude.{◌≡◌, ◌⊎◌, ℕ, ◌/◌, ◌≤◌, false, List, ◌++◌, codes, flat_map, length, Some, encode_utf8_all}
 use Rattle.std.specs.List.{All, Contains, list_any}
 use Rattle.std.specs.Char.{is_control}
 use Rattle.meson_inventory.specs.declared.holdings.HeldCall.{HeldCall}
@@ -8,12 +8,12 @@ use Rattle.meson_explaining.specs.Excerpts.{fault_lines}
 use Rattle.meson_explaining.specs.Lines.{printable}
 use Rattle.meson_explaining.specs.Nearest.{edits, nearest}
 
--- ---- Each of the nearest calls is one of the calls, and its name is up to a third of the id's length away from the id.
+-- ---- Each of the nearest calls is one of the calls, and its name or its variable is up to a third of the id's length away from the id.
 
 pub record IsNear (id : List ℕ) (cs : List HeldCall) (c : HeldCall) : Type 0 where
   pub among : Contains cs c
   pub name : List ℕ
-  pub is_name : c.head.name ≡ Some name
+  pub is_name : (c.head.name ≡ Some name) ⊎ (c.variable ≡ Some name)
   pub close : edits id name ≤ length id / 3
 
 -- and there are three at most

@@ -1,5 +1,5 @@
--- The calls whose names are nearest to an id, by the number of edits from one to the other.
-use Rattle.std.specs.Prelude.{ℕ, zero, suc, ◌+◌, ◌/◌, ◌==◌, nat_eq, nat_lt, Bool, false, if◌then◌else◌, List, [], ◌++◌, filter, length, map, take}
+-- The calls whose names or variables are nearest to an id, by the number of edits from one to the other.
+use Rattle.std.specs.Prelude.{ℕ, zero, suc, ◌+◌, ◌/◌, ◌==◌, min, nat_eq, nat_lt, Bool, false, if◌then◌else◌, List, [], ◌++◌, filter, length, map, take}
 use Rattle.std.specs.Prelude.{Option, Some, None, option_and_then}
 use Rattle.std.specs.Str.{chars, str_to_ascii_lowercase}
 use Rattle.strsim.specs.Edits.{levenshtein_row}
@@ -22,9 +22,14 @@ is_long name = nat_lt 100 (length name)
 abbrev pub edits_to : List ℕ → List ℕ → Option ℕ
 edits_to id name = if is_long name then None else Some (edits id name)
 
--- from an id to the name of a call, if that has a literal name
+abbrev pub fewer : Option ℕ → Option ℕ → Option ℕ
+fewer None more = more
+fewer (Some n) None = Some n
+fewer (Some n) (Some m) = Some (min n m)
+
+-- from an id to the literal name of a call or to its variable, whichever is nearer, if it has one of the two
 abbrev pub far : List ℕ → HeldCall → Option ℕ
-far id c = option_and_then (edits_to id) c.head.name
+far id c = fewer (option_and_then (edits_to id) c.head.name) (option_and_then (edits_to id) c.variable)
 
 abbrev pub is_number : ℕ → Option ℕ → Bool
 is_number n None = false

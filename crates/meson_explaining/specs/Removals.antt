@@ -19,6 +19,7 @@ use Rattle.meson_explaining.specs.Values.{value_notes}
 use Rattle.meson_explaining.specs.Written.{written_notes}
 use Rattle.meson_explaining.specs.declared.explanation.Explanation.{Explanation}
 use Rattle.meson_explaining.specs.declared.explanation.Note.{Note}
+use Rattle.meson_calls.specs.declared.call.CallName.{CallName}
 
 -- ---- names that are in no list
 
@@ -64,7 +65,7 @@ setter_notes l =
     few_notes 2 (codes ", not entered: it may set any variable") (codes "further subdir calls that are not entered") (subdirs_held l)
     ++ few_unnamed (calls_held l (codes "set_variable"))
 
-abbrev pub not_known_notes : Loaded → List ℕ → List ℕ → List SourceItem → List (List ℕ) → List Note
+abbrev pub not_known_notes : Loaded → CallName → List ℕ → List SourceItem → List (List ℕ) → List Note
 not_known_notes l target key items names =
     let name = find (is_missing items) names in
     unknown_notes name ++ written_notes l name
@@ -76,16 +77,16 @@ is_in_root (Err e) = false
 is_in_root (Ok c) = c.file == 0
 
 abbrev pub element_help : List ℕ
-element_help = codes "arg delete at FILE:LINE NUMBER removes an element, counted from 0, of the list that is set on that line"
+element_help = codes "arg remove at FILE:LINE . SOURCE removes it from the list that is set on that line"
 
 abbrev pub folder_help : Bool → List ℕ
 folder_help true = codes "--sourcedir does not help, since the target is in the root file; info counts what is not known"
 folder_help false = codes "--sourcedir with the folder of the target leaves out what other folders set; info counts what is not known"
 
-abbrev pub not_known_help : Loaded → List ℕ → List (List ℕ)
+abbrev pub not_known_help : Loaded → CallName → List (List ℕ)
 not_known_help l target = element_help ∷ folder_help (is_in_root (target_place (project l) target)) ∷ []
 
-abbrev pub not_known : Loaded → List ℕ → List ℕ → List SourceItem → List (List ℕ) → Explanation
+abbrev pub not_known : Loaded → CallName → List ℕ → List SourceItem → List (List ℕ) → Explanation
 not_known l target key items names = record { notes = not_known_notes l target key items names; help = not_known_help l target }
 
 abbrev pub unresolved : Loaded → Command → Explanation

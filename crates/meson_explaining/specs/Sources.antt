@@ -17,6 +17,7 @@ use Rattle.meson_variables.specs.declared.source.Sources.{Sources}
 use Rattle.meson_explaining.specs.declared.explanation.Note.{Note}
 use Rattle.meson_explaining.specs.Nearest.{edits, is_long}
 use Rattle.meson_explaining.specs.Notes.{further, plain_note}
+use Rattle.meson_calls.specs.declared.call.CallName.{CallName}
 
 -- ---- what the target has that an id names; nothing if it names no one target, or where that is refused
 
@@ -29,11 +30,11 @@ abbrev pub items_at : (CallRef → Option (Result Sources Refusal)) → Result (
 items_at listed (Err e) = []
 items_at listed (Ok c) = items_of (listed c.place)
 
-unfoldable pub sources_at : Loaded → List ℕ → List SourceItem
-sources_at l id = items_at (sources (project l)) (the_call (project l) role.Target id)
+unfoldable pub sources_at : Loaded → CallName → List SourceItem
+sources_at l name = items_at (sources (project l)) (the_call (project l) role.Target name)
 
-unfoldable pub extras_at : Loaded → List ℕ → List SourceItem
-extras_at l id = items_at (extra_files (project l)) (the_call (project l) role.Target id)
+unfoldable pub extras_at : Loaded → CallName → List SourceItem
+extras_at l name = items_at (extra_files (project l)) (the_call (project l) role.Target name)
 
 -- ---- names
 

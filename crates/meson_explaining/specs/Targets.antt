@@ -18,6 +18,9 @@ use Rattle.meson_explaining.specs.declared.explanation.Note.{Note}
 
 -- ---- the folder of a new target has no build file that is entered
 
+abbrev pub searched_help : List ℕ
+searched_help = codes "list shows the build files; a folder is written as src, not as src/ or ./src, and that of the root file as ."
+
 -- the build file of that number, as a whole
 abbrev pub file_note : ℕ → Note
 file_note n = record { spot = Some (record { file = n; at = 0; end = 0 }); text = codes "a build file of the project" }
@@ -31,12 +34,17 @@ abbrev pub folder_notes : ℕ → List ℕ → List Note
 folder_notes many folder =
     plain_note (codes "the project enters no build file of the folder " ++ folder) ∷ (file_notes (min 3 many) ++ further (codes "further build files") (many - 3))
 
-abbrev pub no_file : Loaded → Command → Explanation
-no_file l (command.TargetAdd target kind folder sources) = record {
+-- of a folder that alone is searched
+abbrev pub no_searched_file : Loaded → Option (List ℕ) → Explanation
+no_searched_file l None = record { notes = []; help = [] }
+no_searched_file l (Some folder) = record { notes = folder_notes (length l.files) folder; help = searched_help ∷ [] }
+
+abbrev pub no_file : Loaded → Option (List ℕ) → Command → Explanation
+no_file l searched (command.TargetAdd target kind folder sources) = record {
   notes = folder_notes (length l.files) folder;
   help = codes "make its build file and enter it by subdir; a folder is written as src, not as src/ or ./src" ∷ [];
 }
-no_file l _ = record { notes = []; help = [] }
+no_file l searched _ = no_searched_file l searched
 
 -- ---- the variable of a target is used
 
@@ -62,5 +70,5 @@ used_notes l id name =
     few_notes 1 [] (codes "further calls that the id names") (calls_named l role.Target id) ++ read_notes l name (read_in name (parts (project l)))
 
 abbrev pub in_use : Loaded → Command → List ℕ → Explanation
-in_use l (command.TargetRemove target) name = record { notes = used_notes l target name; help = in_use_help ∷ [] }
+in_use l (command.TargetRemove target) name = record { notes = used_notes l target.id name; help = in_use_help ∷ [] }
 in_use l _ name = record { notes = []; help = [] }

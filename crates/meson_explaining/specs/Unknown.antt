@@ -15,6 +15,7 @@ use Rattle.meson_calls.specs.declared.refusal.Refusal.{Refusal}
 use Rattle.meson_variables.specs.Expansion.{is_files}
 use Rattle.meson_variables.specs.Variables.{single}
 use Rattle.meson_explaining.specs.declared.explanation.Note.{Note}
+use Rattle.meson_calls.specs.declared.call.CallName.{CallName}
 
 -- Why it is not known what an expression holds. Of strings, of lists and their sums, and of variables with one value nothing is said.
 abbrev pub unknown_words : Project Span → Expression Span → Option (List ℕ)
@@ -41,5 +42,5 @@ unknown_of_call p key (Err e) = []
 unknown_of_call p key (Ok c) = take 3 (filter_map (argument_unknown p c.place.file key) (drop 1 (elements c.it.arguments)))
 
 -- of the target that an id names
-abbrev pub unknown_arguments : Loaded → List ℕ → List ℕ → List Note
-unknown_arguments l id key = unknown_of_call (project l) key (the_call (project l) role.Target id)
+abbrev pub unknown_arguments : Loaded → CallName → List ℕ → List Note
+unknown_arguments l name key = unknown_of_call (project l) key (the_call (project l) role.Target name)

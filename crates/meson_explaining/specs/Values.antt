@@ -15,6 +15,7 @@ use Rattle.meson_calls.specs.Loading.{Loaded, project}
 use Rattle.meson_calls.specs.Project.{Placed}
 use Rattle.meson_details.specs.Details.{source_text}
 use Rattle.meson_explaining.specs.declared.explanation.Note.{Note}
+use Rattle.meson_calls.specs.declared.call.CallName.{CallName}
 
 -- the first line of a text, up to a line feed (10) or a carriage return (13), and at most 60 characters of it
 abbrev pub start_of : List ℕ → List ℕ
@@ -37,5 +38,5 @@ call_notes l key (Err e) = []
 call_notes l key (Ok c) = filter_map (argument_note c.place.file (bytes_at c.place.file l.files) key) (elements c.it.arguments)
 
 -- in the one that the id names
-abbrev pub value_notes : Loaded → Role → List ℕ → List ℕ → List Note
-value_notes l r id key = call_notes l key (the_call (project l) r id)
+abbrev pub value_notes : Loaded → Role → CallName → List ℕ → List Note
+value_notes l r name key = call_notes l key (the_call (project l) r name)

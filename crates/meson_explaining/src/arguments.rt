@@ -37,7 +37,7 @@ fn uncomputed_help(key: &str) -> &'static str
     ensures { result.now ≡ uncomputed_help key.now }
 {
     if key == "." {
-        "the whole value of a variable stays; arg add adds to its list, and a number as the key names an element"
+        "arg set gives a variable another value, which as code is on one line, as :[a, b]; arg add adds to a list"
     } else {
         "arg set replaces a value that is computed by code, as :[a, b]; one that is a variable is changed with variable as the FUNCTION"
     }

@@ -4,11 +4,15 @@ ghost use Rattle.std.specs.Prelude.{◌≡◌, ◌∷◌, [], IfOk, option_map};
 ghost use Rattle.meson_explaining.specs.Sources.{source_notes};
 ghost use Rattle.meson_explaining.specs.Explaining.{ambiguous, ambiguous_help, call_explanation, explanation, list_help, not_literal, not_there};
 ghost use Rattle.meson_explaining.specs.Explaining.{unknown_help, unknown_key, with_info, wrong_kind};
+ghost use Rattle.meson_calls.specs.Searching.{name_at};
+ghost use Rattle.meson_explaining.specs.ArgumentPlaces.{and_help, folder_lines};
+ghost use Rattle.meson_explaining.specs.NotFound.{not_found};
 
 use crate::arguments::explain_value;
 use crate::calls::{Telling, add_few};
 use crate::explanation::{Explanation, Note};
 use crate::keys::{keys, nearest_key, unknown_notes, wrong_notes};
+use crate::missing_places::and_folder;
 use crate::not_found::not_found;
 use crate::reasons::{
     duplicate, hidden, in_use, name_taken, no_file, no_project, no_such_value, not_removable,
@@ -48,7 +52,7 @@ fn ambiguous_help(role: Role) -> &'static str
     match role {
         Role::Project => "use --sourcedir FOLDER with the folder of one of them",
         Role::Target | Role::Dependency => {
-            "use a variable as the id, or --sourcedir FOLDER with the folder of one of them; arg at FILE:LINE names the call on a line"
+            "use --in FOLDER with the folder of one of them, or a variable as the id; arg at FILE:LINE names the call on a line"
         }
     }
 }
@@ -59,9 +63,9 @@ fn ambiguous(
     project: &Project,
     subject: Subject<'_>,
 ) -> Result<Explanation, AllocError>
-    ensures { IfOk result (λ e. e ≡ ambiguous project.now subject.entry.role subject.entry.id.now) }
+    ensures { IfOk result (λ e. e ≡ ambiguous project.now subject.entry.role subject.entry.name.id.now) }
 {
-    let calls = calls_named(alloc, project, subject.role, subject.id)?;
+    let calls = calls_named(alloc, project, subject.role, subject.name.id)?;
     let telling = Telling {
         most: 5,
         more: "",
@@ -152,11 +156,11 @@ fn not_there(alloc: Global, project: &Project, command: &Command) -> Result<Expl
 {
     match command {
         Command::SourcesRemove { target, sources } => {
-            let items = sources_at(alloc, project, target.get())?;
+            let items = sources_at(alloc, project, target.as_name())?;
             with_info(alloc, items.get(), sources.get())
         }
         Command::ExtraRemove { target, sources } => {
-            let items = extras_at(alloc, project, target.get())?;
+            let items = extras_at(alloc, project, target.as_name())?;
             with_info(alloc, items.get(), sources.get())
         }
         _ => Ok(unexplained(alloc)),
@@ -204,6 +208,19 @@ pub fn explain(
     }
 }
 
+/// Why nothing is named.
+fn call_missing(
+    alloc: Global,
+    project: &Project,
+    subject: Subject<'_>,
+) -> Result<Explanation, AllocError>
+    ensures { let name = name_at subject.entry.name in
+        IfOk result (λ e. e ≡ and_help (not_found project.now subject.entry.role name.id) (folder_lines name.folder)) }
+{
+    let explanation = not_found(alloc, project, subject.role, subject.name.id)?;
+    and_folder(alloc, explanation, subject.name.folder)
+}
+
 /// Why any other command is refused.
 fn explain_call(
     alloc: Global,
@@ -215,10 +232,7 @@ fn explain_call(
 {
     match refusal {
         Refusal::NoProject => no_project(alloc, project),
-        Refusal::NotFound => {
-            let subject = subject_of(command);
-            not_found(alloc, project, subject.role, subject.id)
-        }
+        Refusal::NotFound => call_missing(alloc, project, subject_of(command)),
         Refusal::Ambiguous => ambiguous(alloc, project, subject_of(command)),
         Refusal::UnknownKey(key) => unknown_key(alloc, command, key.get()),
         Refusal::WrongKind(key) => wrong_kind(alloc, command, key.get()),

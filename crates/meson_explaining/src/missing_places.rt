@@ -156,12 +156,12 @@ fn nothing_there(
 }
 
 /// Adds that the build file of one folder alone is searched, if a folder is given.
-fn and_folder(
+pub(crate) fn and_folder(
     alloc: Global,
     explanation: Explanation,
-    folder: &Option<Text>,
+    folder: Option<&Text>,
 ) -> Result<Explanation, AllocError>
-    ensures { IfOk result (λ e. e ≡ and_help explanation (folder_lines folder.now)) }
+    ensures { IfOk result (λ e. e ≡ and_help explanation (folder_lines (option_map (λ f. f.now) folder.entry))) }
 {
     let Explanation { notes, help } = explanation;
     let mut lines = help.take();
@@ -186,7 +186,7 @@ pub(crate) fn place_missing(
     ensures { IfOk result (λ e. e ≡ place_missing project.now search.now) }
 {
     let explanation = nothing_there(alloc, project, &search.name)?;
-    and_folder(alloc, explanation, &search.folder)
+    and_folder(alloc, explanation, search.folder.as_ref())
 }
 
 /// The note of the file of a line.

@@ -189,11 +189,11 @@ fn missing_name(
 {
     match command {
         Command::SourcesRemove { target, sources } => {
-            let items = sources_at(alloc, project, target.get())?;
+            let items = sources_at(alloc, project, target.as_name())?;
             copied(alloc, first_missing(items.get(), sources.get()))
         }
         Command::ExtraRemove { target, sources } => {
-            let items = extras_at(alloc, project, target.get())?;
+            let items = extras_at(alloc, project, target.as_name())?;
             copied(alloc, first_missing(items.get(), sources.get()))
         }
         _ => Ok(None),

@@ -1,7 +1,7 @@
-//! The calls whose names are nearest to an id.
+//! The calls whose names or variables are nearest to an id.
 
-ghost use Rattle.std.specs.Prelude.{◌≡◌, ◌+◌, ◌/◌, ◌++◌, [], IfOk, OnOk, filter, length, map, take};
-ghost use Rattle.meson_explaining.specs.Nearest.{edits_to, far, is_far, is_number, near_notes, nearer};
+ghost use Rattle.std.specs.Prelude.{◌≡◌, ◌+◌, ◌/◌, ◌++◌, [], IfOk, OnOk, filter, length, map, option_and_then, take};
+ghost use Rattle.meson_explaining.specs.Nearest.{edits_to, far, fewer, is_far, is_number, near_notes, nearer};
 ghost use Rattle.meson_explaining.specs.Notes.{call_note};
 
 use crate::calls::call_note;
@@ -18,10 +18,13 @@ const MOST_CALLS: usize = 5000;
 /// The most calls that are reported.
 const MOST_NEAR: usize = 3;
 
-/// How many edits lead from an id to a name; None if the name is too long.
-fn edits_to(alloc: Global, id: &str, name: &Text) -> Result<Option<usize>, AllocError>
-    ensures { IfOk result (λ edits. edits ≡ edits_to id.now name.now) }
+/// How many edits lead from an id to a name; None if there is no name, or one that is too long.
+fn edits_to(alloc: Global, id: &str, name: &Option<Text>) -> Result<Option<usize>, AllocError>
+    ensures { IfOk result (λ edits. edits ≡ option_and_then (edits_to id.now) name.now) }
 {
+    let Some(name) = name else {
+        return Ok(None);
+    };
     let name = name.get();
     if name.len() > MOST_BYTES {
         return Ok(None);
@@ -30,14 +33,25 @@ fn edits_to(alloc: Global, id: &str, name: &Text) -> Result<Option<usize>, Alloc
     Ok(Some(edits))
 }
 
-/// How many edits lead from an id to the name of a call; None if it has no literal name, or one that is too long.
+/// The smaller of two numbers, or the one that there is.
+fn fewer(edits: Option<usize>, others: Option<usize>) -> Option<usize>
+    ensures { result ≡ fewer edits others }
+{
+    match (edits, others) {
+        (Some(edits), Some(others)) => Some(edits.min(others)),
+        (None, others) => others,
+        (edits, None) => edits,
+    }
+}
+
+/// How many edits lead from an id to the literal name of a call or to its variable, whichever is nearer; None if it has neither, or only longer ones than are
+/// compared.
 fn far(alloc: Global, id: &str, call: &HeldCall) -> Result<Option<usize>, AllocError>
     ensures { IfOk result (λ edits. edits ≡ far id.now call.now) }
 {
-    match &call.head.name {
-        Some(name) => edits_to(alloc, id, name),
-        None => Ok(None),
-    }
+    let name = edits_to(alloc, id, &call.head.name)?;
+    let variable = edits_to(alloc, id, &call.variable)?;
+    Ok(fewer(name, variable))
 }
 
 /// Whether there is a number, and it is this one.
@@ -120,7 +134,7 @@ fn first(calls: &[HeldCall], most: usize) -> &[HeldCall]
     &calls[..most.min(calls.len())]
 }
 
-/// The notes of the calls whose names are nearest to an id.
+/// The notes of the calls whose names or variables are nearest to an id.
 pub(crate) fn near_notes(
     alloc: Global,
     id: &str,

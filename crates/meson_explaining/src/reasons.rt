@@ -1,10 +1,10 @@
 //! Why a command is refused, where that is not about the id or about the key.
 
-ghost use Rattle.std.specs.Prelude.{◌≡◌, IfOk};
-ghost use Rattle.meson_explaining.specs.Explaining.{calls_there, duplicate, hidden, keyword_there, name_taken, not_statement, not_valid};
+ghost use Rattle.std.specs.Prelude.{◌≡◌, IfOk, option_map};
+ghost use Rattle.meson_explaining.specs.Explaining.{calls_there, duplicate, hidden, keyword_there, name_taken, not_statement, not_valid, subject};
 ghost use Rattle.meson_explaining.specs.Stated.{no_project, no_such_value, other_kind, shared, stated, there_already, too_deep, too_large};
 ghost use Rattle.meson_explaining.specs.Removals.{not_removable, unresolved};
-ghost use Rattle.meson_explaining.specs.Targets.{in_use, no_file};
+ghost use Rattle.meson_explaining.specs.Targets.{in_use, no_file, no_searched_file};
 
 use crate::bad_names::{bad_help, bad_notes, one_note};
 use crate::calls::{Telling, add_few, add_further};
@@ -17,7 +17,7 @@ use crate::targets::{folder_notes, used_notes};
 use crate::values::value_notes;
 use meson_inventory::holdings::calls_named;
 use meson_plan::Project;
-use meson_splice::Many;
+use meson_splice::{Many, Text};
 use meson_steps::command::Command;
 use std::alloc::{AllocError, Global};
 
@@ -105,7 +105,7 @@ fn calls_there(
     ensures { IfOk result (λ e. e ≡ calls_there project.now command.now telling.entry.most telling.entry.more.now telling.entry.others.now help.now) }
 {
     let subject = subject_of(command);
-    let calls = calls_named(alloc, project, subject.role, subject.id)?;
+    let calls = calls_named(alloc, project, subject.role, subject.name.id)?;
     let mut notes = Vec::new(alloc);
     add_few(alloc, &mut notes, telling, calls.get())?;
     with_help(alloc, notes, help)
@@ -155,13 +155,34 @@ pub(crate) fn not_statement(
     )
 }
 
+/// Which build files there are where that of one folder alone is to be searched.
+fn no_searched_file(
+    alloc: Global,
+    project: &Project,
+    folder: Option<&Text>,
+) -> Result<Explanation, AllocError>
+    ensures { IfOk result (λ e. e ≡ no_searched_file project.now (option_map (λ f. f.now) folder.entry)) }
+{
+    match folder {
+        Some(folder) => {
+            let notes = folder_notes(alloc, project.files().len(), folder.get())?;
+            with_help(
+                alloc,
+                notes,
+                "list shows the build files; a folder is written as src, not as src/ or ./src, and that of the root file as .",
+            )
+        }
+        None => Ok(unexplained(alloc)),
+    }
+}
+
 /// Which build files there are.
 pub(crate) fn no_file(
     alloc: Global,
     project: &Project,
     command: &Command,
 ) -> Result<Explanation, AllocError>
-    ensures { IfOk result (λ e. e ≡ no_file project.now command.now) }
+    ensures { IfOk result (λ e. e ≡ no_file project.now (subject command.now).1.folder command.now) }
 {
     match command {
         Command::TargetAdd { subdir, .. } => {
@@ -172,7 +193,7 @@ pub(crate) fn no_file(
                 "make its build file and enter it by subdir; a folder is written as src, not as src/ or ./src",
             )
         }
-        _ => Ok(unexplained(alloc)),
+        _ => no_searched_file(alloc, project, subject_of(command).name.folder),
     }
 }
 
@@ -187,7 +208,7 @@ pub(crate) fn in_use(
 {
     match command {
         Command::TargetRemove { target } => {
-            let notes = used_notes(alloc, project, target.get(), name)?;
+            let notes = used_notes(alloc, project, target.id.get(), name)?;
             with_help(
                 alloc,
                 notes,
@@ -209,12 +230,12 @@ pub(crate) fn not_removable(
     let help = "write it in a list, as in ['a.c']";
     match command {
         Command::SourcesRemove { target, sources } => {
-            let items = sources_at(alloc, project, target.get())?;
+            let items = sources_at(alloc, project, target.as_name())?;
             let notes = fixed_notes(alloc, items.get(), sources.get())?;
             with_help(alloc, notes, help)
         }
         Command::ExtraRemove { target, sources } => {
-            let items = extras_at(alloc, project, target.get())?;
+            let items = extras_at(alloc, project, target.as_name())?;
             let notes = fixed_notes(alloc, items.get(), sources.get())?;
             with_help(alloc, notes, help)
         }
@@ -232,9 +253,9 @@ pub(crate) fn unresolved(
 {
     match command {
         Command::SourcesRemove { target, sources } => {
-            let items = sources_at(alloc, project, target.get())?;
+            let items = sources_at(alloc, project, target.as_name())?;
             let lost = Lost {
-                target: target.get(),
+                target: target.as_name(),
                 key: "sources",
                 items: items.get(),
                 names: sources.get(),
@@ -242,9 +263,9 @@ pub(crate) fn unresolved(
             not_known(alloc, project, lost)
         }
         Command::ExtraRemove { target, sources } => {
-            let items = extras_at(alloc, project, target.get())?;
+            let items = extras_at(alloc, project, target.as_name())?;
             let lost = Lost {
-                target: target.get(),
+                target: target.as_name(),
                 key: "extra_files",
                 items: items.get(),
                 names: sources.get(),

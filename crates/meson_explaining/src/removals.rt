@@ -6,6 +6,7 @@ ghost use Rattle.meson_explaining.specs.Removals.{not_known_help, not_known_note
 ghost use Rattle.meson_calls.specs.Loading.{project as project_of};
 ghost use Rattle.meson_plan.specs.Details.{target_place};
 ghost use Rattle.meson_explaining.specs.Notes.{call_note};
+ghost use Rattle.meson_calls.specs.Searching.{name_at};
 
 use crate::bad_names::{one_line, one_note};
 use crate::calls::{Telling, add_few, add_further, call_note};
@@ -15,7 +16,7 @@ use crate::subject::Subject;
 use crate::unknown::unknown_arguments;
 use crate::values::value_notes;
 use crate::written::written_notes;
-use meson_calls::Refusal;
+use meson_calls::{BorrowedName, Refusal};
 use meson_inventory::holdings::{HeldCall, calls_held, holdings_of};
 use meson_plan::{Project, Role};
 use meson_splice::{Many, Text};
@@ -30,7 +31,7 @@ const MOST_SETTERS: usize = 2;
 /// Names, and the known items of a target, which are of a key.
 #[derive(Clone, Copy)]
 pub(crate) struct Lost<'l> {
-    pub target: &'l str,
+    pub target: BorrowedName<'l>,
     pub key: &'l str,
     pub items: &'l [SourceItem],
     pub names: &'l [Text],
@@ -168,7 +169,7 @@ fn not_known_notes(
     lost: Lost<'_>,
 ) -> Result<Vec<Note>, AllocError>
     ensures { let lost = lost.entry in
-        IfOk result (λ notes. notes.items ≡ not_known_notes project.now lost.target.now lost.key.now lost.items.now lost.names.now) }
+        IfOk result (λ notes. notes.items ≡ not_known_notes project.now (name_at lost.target) lost.key.now lost.items.now lost.names.now) }
 {
     let name = first_missing(lost.items, lost.names);
     let mut notes = unknown_notes(alloc, name)?;
@@ -180,7 +181,7 @@ fn not_known_notes(
     notes.append(&mut unknown)?;
     let subject = Subject {
         role: Role::Target,
-        id: lost.target,
+        name: lost.target,
     };
     let mut hidden = value_notes(alloc, project, subject, "kwargs")?;
     notes.append(&mut hidden)?;
@@ -190,8 +191,12 @@ fn not_known_notes(
 }
 
 /// Whether the target that an id names is in the root file.
-fn is_in_root(alloc: Global, project: &Project, target: &str) -> Result<bool, AllocError>
-    ensures { IfOk result (λ root. root ≡ is_in_root (target_place (project_of project.now) target.now)) }
+fn is_in_root(
+    alloc: Global,
+    project: &Project,
+    target: BorrowedName<'_>,
+) -> Result<bool, AllocError>
+    ensures { IfOk result (λ root. root ≡ is_in_root (target_place (project_of project.now) (name_at target.entry))) }
 {
     match project.find_one(alloc, Role::Target, target) {
         Ok(place) => Ok(place.file == 0),
@@ -212,13 +217,17 @@ fn folder_help(root: bool) -> &'static str
 }
 
 /// What may be done where one of the names is not among the known items of a target.
-fn not_known_help(alloc: Global, project: &Project, target: &str) -> Result<Vec<Text>, AllocError>
-    ensures { IfOk result (λ help. help.items ≡ not_known_help project.now target.now) }
+fn not_known_help(
+    alloc: Global,
+    project: &Project,
+    target: BorrowedName<'_>,
+) -> Result<Vec<Text>, AllocError>
+    ensures { IfOk result (λ help. help.items ≡ not_known_help project.now (name_at target.entry)) }
 {
     let root = is_in_root(alloc, project, target)?;
     let mut help = one_line(
         alloc,
-        "arg delete at FILE:LINE NUMBER removes an element, counted from 0, of the list that is set on that line",
+        "arg remove at FILE:LINE . SOURCE removes it from the list that is set on that line",
     )?;
     help.push(Text::of(String::from_str(alloc, folder_help(root))?))?;
     Ok(help)
@@ -231,7 +240,7 @@ pub(crate) fn not_known(
     lost: Lost<'_>,
 ) -> Result<Explanation, AllocError>
     ensures { let lost = lost.entry in
-        IfOk result (λ e. e ≡ not_known project.now lost.target.now lost.key.now lost.items.now lost.names.now) }
+        IfOk result (λ e. e ≡ not_known project.now (name_at lost.target) lost.key.now lost.items.now lost.names.now) }
 {
     let notes = not_known_notes(alloc, project, lost)?;
     let help = not_known_help(alloc, project, lost.target)?;

@@ -6,12 +6,13 @@ ghost use Rattle.meson_calls.specs.Roles.{is_target};
 ghost use Rattle.meson_sources.specs.Extras.{extra_files};
 ghost use Rattle.meson_variables.specs.TargetSources.{sources};
 ghost use Rattle.meson_explaining.specs.Sources.{close_notes, extras_at, has, is_close, is_missing, item_note, items_of, missing_note, source_notes, sources_at};
+ghost use Rattle.meson_calls.specs.Searching.{name_at};
 
 use crate::calls::{add_further, plain_note};
 use crate::distance::edits;
 use crate::explanation::{Note, Spot};
 use crate::nearest::MOST_BYTES;
-use meson_calls::{CallRef, Refusal};
+use meson_calls::{BorrowedName, CallRef, Refusal};
 use meson_plan::{Project, Role};
 use meson_splice::{Many, Text};
 use meson_variables::SourceItem;
@@ -52,7 +53,7 @@ fn extras_of(
     }
 }
 
-/// The sources of the target that an id names; none if it names no one target.
+/// The sources of the target that is named; none if no one target is.
 ///
 /// # Errors
 /// Out of memory.
@@ -60,27 +61,27 @@ fn extras_of(
 pub fn sources_at(
     alloc: Global,
     project: &Project,
-    id: &str,
+    name: BorrowedName<'_>,
 ) -> Result<Many<SourceItem>, AllocError>
-    ensures { IfOk result (λ items. items ≡ sources_at project.now id.now) }
+    ensures { IfOk result (λ items. items ≡ sources_at project.now (name_at name.entry)) }
 {
-    match project.find_one(alloc, Role::Target, id) {
+    match project.find_one(alloc, Role::Target, name) {
         Ok(target) => sources_of(alloc, project, &target),
         Err(Refusal::OutOfMemory) => Err(AllocError),
         Err(_) => Ok(Many::new(alloc)),
     }
 }
 
-/// The extra files of the target that an id names; none if it names no one target.
+/// The extra files of the target that is named; none if no one target is.
 #[tactic(auto, unfolding(crate::specs::Sources::extras_at))]
 pub(crate) fn extras_at(
     alloc: Global,
     project: &Project,
-    id: &str,
+    name: BorrowedName<'_>,
 ) -> Result<Many<SourceItem>, AllocError>
-    ensures { IfOk result (λ items. items ≡ extras_at project.now id.now) }
+    ensures { IfOk result (λ items. items ≡ extras_at project.now (name_at name.entry)) }
 {
-    match project.find_one(alloc, Role::Target, id) {
+    match project.find_one(alloc, Role::Target, name) {
         Ok(target) => extras_of(alloc, project, &target),
         Err(Refusal::OutOfMemory) => Err(AllocError),
         Err(_) => Ok(Many::new(alloc)),

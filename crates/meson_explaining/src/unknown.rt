@@ -6,10 +6,11 @@ ghost use Rattle.meson_syntax.specs.View.{arg_view, args_view, expr_view};
 ghost use Rattle.meson_variables.specs.CodeVariables.{AreVariables, project_of};
 ghost use Rattle.meson_variables.specs.Variables.{single};
 ghost use Rattle.meson_explaining.specs.Unknown.{argument_unknown, unknown_arguments, unknown_note, unknown_words};
+ghost use Rattle.meson_calls.specs.Searching.{name_at};
 
 use crate::explanation::{Note, Spot};
-use meson_calls::Refusal;
 use meson_calls::roles::text_of;
+use meson_calls::{BorrowedName, Refusal};
 use meson_details::called::call_at;
 use meson_edit::span_of;
 use meson_plan::{Project, Role};
@@ -161,10 +162,10 @@ fn all_unknown(
 pub(crate) fn unknown_arguments(
     alloc: Global,
     project: &Project,
-    target: &str,
+    target: BorrowedName<'_>,
     key: &str,
 ) -> Result<Vec<Note>, AllocError>
-    ensures { IfOk result (λ notes. notes.items ≡ unknown_arguments project.now target.now key.now) }
+    ensures { IfOk result (λ notes. notes.items ≡ unknown_arguments project.now (name_at target.entry) key.now) }
 {
     match project.find_one(alloc, Role::Target, target) {
         Ok(place) => {

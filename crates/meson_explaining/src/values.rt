@@ -7,6 +7,7 @@ ghost use Rattle.meson_syntax.specs.View.{arg_view, args_view, expr_view};
 ghost use Rattle.meson_details.specs.Details.{source_text};
 ghost use Rattle.meson_details.specs.ValueTexts.{ArgsHaveTexts, HasText};
 ghost use Rattle.meson_explaining.specs.Values.{argument_note, start_of, value_note, value_notes};
+ghost use Rattle.meson_calls.specs.Searching.{name_at};
 
 use crate::explanation::{Note, Spot};
 use crate::subject::Subject;
@@ -114,9 +115,9 @@ pub fn value_notes(
     subject: Subject<'_>,
     key: &str,
 ) -> Result<Vec<Note>, AllocError>
-    ensures { IfOk result (λ notes. notes.items ≡ value_notes project.now subject.entry.role subject.entry.id.now key.now) }
+    ensures { IfOk result (λ notes. notes.items ≡ value_notes project.now subject.entry.role (name_at subject.entry.name) key.now) }
 {
-    match project.find_one(alloc, subject.role, subject.id) {
+    match project.find_one(alloc, subject.role, subject.name) {
         Ok(place) => {
             project.reads();
             let called = call_at(project.files(), project.trees(), &place);

@@ -70,11 +70,11 @@ fn add_line(
     words: Option<(&'static str, &'static str)>,
 ) -> Result<(), AllocError>
     ensures { OnOk result (help.new.items
-        ≡ help.old.items ++ lines_for subject.entry.role subject.entry.id.now key.now (option_map (λ words. (words.0.now, words.1.now)) words.entry)) }
+        ≡ help.old.items ++ lines_for subject.entry.role subject.entry.name.id.now key.now (option_map (λ words. (words.0.now, words.1.now)) words.entry)) }
 {
     if let Some((before, after)) = words {
         let function = function_word(subject.role);
-        let id = id_word(subject.id);
+        let id = id_word(subject.name.id);
         let line = format!(in alloc; "{before} {function} {id} {key}{after}")?;
         help.push(Text::of(line))?;
     }
@@ -89,7 +89,7 @@ fn add_any_key(
     subject: Subject<'_>,
     key: &str,
 ) -> Result<(), AllocError>
-    ensures { OnOk result (help.new.items ≡ help.old.items ++ any_key_help command.now subject.entry.role subject.entry.id.now key.now) }
+    ensures { OnOk result (help.new.items ≡ help.old.items ++ any_key_help command.now subject.entry.role subject.entry.name.id.now key.now) }
 {
     if !is_bad_variable(key) {
         add_line(alloc, help, subject, key, any_key_words(command))?;
@@ -139,9 +139,9 @@ pub(crate) fn ways_for(
     subject: Subject<'_>,
     key: &str,
 ) -> Result<Vec<Text>, AllocError>
-    ensures { IfOk result (λ help. help.items ≡ ways command.now subject.entry.role subject.entry.id.now key.now) }
+    ensures { IfOk result (λ help. help.items ≡ ways command.now subject.entry.role subject.entry.name.id.now key.now) }
 {
-    let mut help = target_line(alloc, subject.id, target_words(subject.role, key))?;
+    let mut help = target_line(alloc, subject.name.id, target_words(subject.role, key))?;
     add_any_key(alloc, &mut help, command, subject, key)?;
     Ok(help)
 }

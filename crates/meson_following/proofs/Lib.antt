@@ -9,4 +9,9 @@ pub mod SearchParts
 pub mod Steps
 pub mod Turns
 pub mod Walked
+pub mod Weights
+pub mod Values
+pub mod Asking
+pub mod Followed
+pub mod MetArguments
 pub mod Entering

@@ -28,3 +28,14 @@ file_step (suc left) all d t some within is =
     let more : suc left * suc all ≡ left * suc all + suc all = suc-mul left (suc all) in
     let here : 8 * (left * suc all + d) + 6 < 8 * (suc left * suc all + 0) + 0 = omega arith in
     subst (λ n. 8 * (n * suc all + d) + 6 < t) (sym less) (subst (λ n. 8 * (left * suc all + d) + 6 < n) (sym is) here)
+
+-- a value, where one variable less may be followed
+pub value_step : (left all d k t : ℕ) → d ≤ all → k < 8 → t ≡ measure (suc left) all 0 0 → measure left all d k < t
+unfolding measure
+value_step left all d k t within step is =
+    let more : suc left * suc all ≡ left * suc all + suc all = suc-mul left (suc all) in
+    omega (arith, within, step, is, more)
+
+pub one_less : (left : ℕ) → 0 < left → suc (left - 1) ≡ left
+one_less zero some = absurd (omega (arith, some))
+one_less (suc left) some = omega arith

@@ -1,5 +1,5 @@
 -- What the targets of some build files are made of.
-use Rattle.std.specs.Prelude.{◌≡◌, ℕ, suc, Bool, true, false, List, [], ◌∷◌, codes, Some, option_map}
+use Rattle.std.specs.Prelude.{◌≡◌, ℕ, suc, Bool, true, false, List, [], ◌∷◌, codes, Option, Some, None, option_map}
 use Rattle.meson_syntax.specs.Tree.{Nowhere, conditional}
 use Rattle.meson_calls.specs.CallPlaces.{call_at}
 use Rattle.meson_calls.specs.Project.{Project, place}
@@ -91,3 +91,29 @@ Folders =
     × IsOf (beside_s (sets (codes "a.c") ∷ enters_if_found ∷ target ∷ []) (adds (codes "b.c") ∷ [])) (at_ 2)
     (sure_of (codes "a.c") ∷ some_of (codes "b.c") ∷ []) 0
     × IsOf (alone (sets (codes "a.c") ∷ does (codes "subdir") (variable (codes "k") ∷ []) ∷ target ∷ [])) (at_ 2) (some_of (codes "a.c") ∷ []) 1
+
+-- the value of a maker is followed once, however often the variable is read
+abbrev pub Once : Type 0
+Once =
+    IsOf (alone (sets (codes "a.c") ∷ made (variable src ∷ variable src ∷ []) ∷ [])) (at_ 1) (sure_of (codes "a.c") ∷ []) 0
+    × IsOf (alone (sets (codes "a.c") ∷ made (holding (codes "b.c") ∷ sum_of (variable src) (variable src) ∷ []) ∷ [])) (at_ 1)
+    (sure_of (codes "b.c") ∷ sure_of (codes "a.c") ∷ []) 0
+
+-- ---- from which folder a path begins
+
+-- the file of the innermost `files` around each literal
+abbrev pub files_around : List (Mark Nowhere) → List (Option ℕ)
+files_around [] = []
+files_around (known i ∷ ms) = i.way.files ∷ files_around ms
+files_around (opaque ∷ ms) = files_around ms
+files_around (empty q w ∷ ms) = files_around ms
+
+abbrev IsFrom : Project Nowhere → List ℕ → List (Option ℕ) → Type 0
+IsFrom p path files = option_map (λ c. files_around (follow_marks p c)) (call_at p (place 0 path)) ≡ Some files
+
+abbrev pub Beginning : Type 0
+Beginning =
+    -- in another folder, in none, and around a variable
+    IsFrom (beside_s (enters (codes "s") ∷ target ∷ []) (sets_to (files_of (codes "b.c")) ∷ [])) (at_ 1) (Some 1 ∷ [])
+    × IsFrom (alone (sets (codes "a.c") ∷ target ∷ [])) (at_ 1) (None ∷ [])
+    × IsFrom (alone (sets (codes "a.c") ∷ made (calling (codes "files") (variable src ∷ []) ∷ []) ∷ [])) (at_ 1) (Some 0 ∷ [])

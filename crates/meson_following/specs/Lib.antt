@@ -9,6 +9,10 @@ pub mod Walks
 pub mod Reads
 pub mod Lists
 pub mod Following
+pub mod CodeFollowing
+pub mod CodeLists
+pub mod CodeSites
+pub mod CodeArguments
 pub mod Samples
 pub mod Rows
 pub mod Infos

@@ -1,13 +1,20 @@
 //! What variables hold where they are read, as the build files are evaluated.
 #![tactic(auto)]
 
+pub mod arguments;
 pub mod effects;
 pub mod flows;
+pub mod follower;
 pub mod laws;
+pub mod lists;
 pub mod makers;
+pub mod marks;
 pub mod names;
+pub mod site;
 pub mod walk;
 mod walk_statements;
 
+pub use follower::Follower;
 pub use makers::{Known, Made, Maker};
+pub use marks::{Following, Item, Mark, Way};
 pub use walk::Question;

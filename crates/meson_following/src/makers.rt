@@ -38,7 +38,7 @@ pub struct Made<'t> {
 pub type Known<'t> = Option<Made<'t>>;
 
 /// Whether two places are the same.
-fn is_same_place(place: &CallRef, other: &CallRef) -> bool
+pub(crate) fn is_same_place(place: &CallRef, other: &CallRef) -> bool
     ensures { result ≡ is_same_place place.now other.now }
 {
     place.file == other.file && place.path.steps.get() == other.path.steps.get()

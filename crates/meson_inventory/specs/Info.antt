@@ -32,6 +32,7 @@ use Rattle.meson_plan.specs.Values.{the_value}
 use Rattle.meson_plan.specs.declared.values.FoundValue.{FoundValue}
 use Rattle.meson_inventory.specs.Placed.{character_at, count, line_at}
 use Rattle.meson_inventory.specs.declared.info.KeywordPlace.{KeywordPlace}
+use Rattle.meson_calls.specs.declared.call.CallName.{CallName}
 
 -- ---- places
 
@@ -85,15 +86,15 @@ placed_target_data files span t =
     (target_data files t.place.file t.head t.sources t.extra_files)
 
 -- it is that of the one target that the id names
-pub record IsTargetInfo (l : Loaded) (id : List ℕ) (info : Data) : Type 0 where
+pub record IsTargetInfo (l : Loaded) (name : CallName) (info : Data) : Type 0 where
   pub told : TargetDetails
-  pub is_place : target_place (project l) id ≡ Ok told.place
+  pub is_place : target_place (project l) name ≡ Ok told.place
   pub are_details : AreDetails (project l) told.place told
   pub is : info ≡ placed_target_data l.files (span_at l told.place) told
 
 -- why it reports nothing, except out of memory: the id names no target or more than one, or `sources:` or `extra_files:` is there twice
-abbrev pub HasNoTargetInfo : Loaded → List ℕ → Refusal → Type 0
-HasNoTargetInfo l id why = NoTarget (project l) id why
+abbrev pub HasNoTargetInfo : Loaded → CallName → Refusal → Type 0
+HasNoTargetInfo l name why = NoTarget (project l) name why
 
 -- ---- keyword arguments
 
@@ -128,9 +129,9 @@ placed_kwargs_data files file span head pairs places =
     with_members (λ ms. with_position files file span (put (codes "places") (places_data files file places) ms)) (call_data files file head pairs)
 
 -- it is that of the one call of this role that the id names
-pub record IsCallInfo (l : Loaded) (role : Role) (id : List ℕ) (info : Data) : Type 0 where
+pub record IsCallInfo (l : Loaded) (role : Role) (name : CallName) (info : Data) : Type 0 where
   pub place : CallRef
-  pub is_place : place_found (the_call (project l) role id) ≡ Ok place
+  pub is_place : place_found (the_call (project l) role name) ≡ Ok place
   pub its_head : Head
   pub is_head : head (project l) place ≡ Some its_head
   pub pairs : List (List ℕ × Shown)
@@ -138,10 +139,10 @@ pub record IsCallInfo (l : Loaded) (role : Role) (id : List ℕ) (info : Data) :
   pub is : info ≡ placed_kwargs_data l.files place.file (span_at l place) its_head pairs (places_of_call role (expression_at (project l) place))
 
 -- why it reports nothing, except out of memory: the id names no call or more than one, or a keyword argument is there twice
-pub data HasNoCallInfo (l : Loaded) (role : Role) (id : List ℕ) : Refusal → Type 0 where
-  not_found : (refusal : Refusal) → place_found (the_call (project l) role id) ≡ Err refusal → HasNoCallInfo l role id refusal
-  twice : (place : CallRef) (refusal : Refusal) → place_found (the_call (project l) role id) ≡ Ok place → keywords l role place ≡ Some (Err refusal)
-      → HasNoCallInfo l role id refusal
+pub data HasNoCallInfo (l : Loaded) (role : Role) (name : CallName) : Refusal → Type 0 where
+  not_found : (refusal : Refusal) → place_found (the_call (project l) role name) ≡ Err refusal → HasNoCallInfo l role name refusal
+  twice : (place : CallRef) (refusal : Refusal) → place_found (the_call (project l) role name) ≡ Ok place → keywords l role place ≡ Some (Err refusal)
+      → HasNoCallInfo l role name refusal
 
 -- ---- values
 

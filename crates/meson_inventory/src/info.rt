@@ -11,9 +11,11 @@ ghost use Rattle.meson_calls.specs.GoodLists.{GoodArgs};
 ghost use Rattle.meson_calls.specs.Refusals.{IfRefused};
 ghost use Rattle.meson_calls.specs.Strings.{AreGood};
 ghost use Rattle.meson_inventory.specs.Info.{HasNoCallInfo, HasNoInfo, HasNoTargetInfo, HasNoValueInfo, IsCallInfo, IsInfo, IsTargetInfo, IsValueInfo, keyword_place, keyword_place_data, offset_data, placed_item_data, placed_items_data, placed_kwargs_data, placed_target_data, places_data, put_places, range_data, with_members, with_position};
+ghost use Rattle.meson_calls.specs.Searching.{name_at};
 
 use crate::placed::offset_members;
 use crate::position_counter::PositionCounter;
+use meson_calls::BorrowedName;
 use meson_calls::keys::is_key;
 use meson_calls::roles::{identifier_text, text_of};
 use meson_details::called::call_at;
@@ -133,12 +135,16 @@ fn target_value(
 ///
 /// # Errors
 /// There is no such target or more than one, or it has `sources:` or `extra_files:` twice, or out of memory.
-pub fn placed_info_target(alloc: Global, project: &Project, id: &str) -> Result<Value, Refusal>
-    ensures listed { IfOk result (λ v. IsTargetInfo project.now id.now (view v)) }
-    ensures refused { IfRefused result (HasNoTargetInfo project.now id.now) }
+pub fn placed_info_target(
+    alloc: Global,
+    project: &Project,
+    name: BorrowedName<'_>,
+) -> Result<Value, Refusal>
+    ensures listed { IfOk result (λ v. IsTargetInfo project.now (name_at name.entry) (view v)) }
+    ensures refused { IfRefused result (HasNoTargetInfo project.now (name_at name.entry)) }
 {
     project.reads();
-    let details = project.target_details(alloc, id)?;
+    let details = project.target_details(alloc, name)?;
     let called = call_at(project.files(), project.trees(), &details.place);
     Ok(target_value(alloc, project.files(), called.span, details)?)
 }
@@ -294,13 +300,13 @@ pub fn placed_info_kwargs(
     alloc: Global,
     project: &Project,
     role: Role,
-    id: &str,
+    name: BorrowedName<'_>,
 ) -> Result<Value, Refusal>
-    ensures listed { IfOk result (λ v. IsCallInfo project.now role id.now (view v)) }
-    ensures refused { IfRefused result (HasNoCallInfo project.now role id.now) }
+    ensures listed { IfOk result (λ v. IsCallInfo project.now role (name_at name.entry) (view v)) }
+    ensures refused { IfRefused result (HasNoCallInfo project.now role (name_at name.entry)) }
 {
     project.reads();
-    let place = project.find_one(alloc, role, id)?;
+    let place = project.find_one(alloc, role, name)?;
     let head = project.head(alloc, &place)?;
     let keywords = project.keywords(alloc, role, &place)?;
     let called = call_at(project.files(), project.trees(), &place);
@@ -361,10 +367,10 @@ pub fn placed_info(
 {
     match command {
         Command::TargetInfo { target } => {
-            Ok(Some(placed_info_target(alloc, project, target.get())?))
+            Ok(Some(placed_info_target(alloc, project, target.as_name())?))
         }
-        Command::KwargsInfo { role, id } => {
-            Ok(Some(placed_info_kwargs(alloc, project, *role, id.get())?))
+        Command::KwargsInfo { role, name } => {
+            Ok(Some(placed_info_kwargs(alloc, project, *role, name.as_name())?))
         }
         Command::ArgumentInfo { name } => Ok(Some(placed_info_argument(alloc, project, name)?)),
         _ => Ok(None),

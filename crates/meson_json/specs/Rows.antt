@@ -20,6 +20,7 @@ use Rattle.meson_json.specs.Log.{log_of, logged}
 use Rattle.meson_json.specs.Scripts.{script_of}
 use Rattle.meson_json.specs.declared.member_check.UnknownMembers.TheVariants.{Ignored, Refused}
 use Rattle.meson_json.specs.declared.fault.ScriptFault.{ScriptFault}
+use Rattle.meson_calls.specs.Searching.{anywhere}
 use Rattle.meson_json.specs.declared.fault.ScriptFault.TheVariants.{NotJson, NotArray, TooMany, NotObject, UnknownType, BadField, UnknownOperation, Unsupported, UnknownMember}
 
 -- a text of JSON, in which a single quote (39) is written for a double one (34)
@@ -42,30 +43,35 @@ stands_for text c = gives text (Ok (c ∷ []))
 abbrev pub TargetEntries : Type 0
 TargetEntries =
     stands_for (codes "[{'type':'target','target':'e','operation':'src_add','sources':['b.c','a.c']}]")
-    (command.SourcesAdd (codes "e") (codes "b.c" ∷ codes "a.c" ∷ []))
-    × stands_for (codes "[{'type':'target','target':'e','operation':'src_rm','sources':['a.c']}]") (command.SourcesRemove (codes "e") (codes "a.c" ∷ []))
-    × stands_for (codes "[{'type':'target','target':'e','operation':'extra_files_add','sources':['x.h']}]") (command.ExtraAdd (codes "e") (codes "x.h" ∷ []))
-    × stands_for (codes "[{'type':'target','target':'e','operation':'extra_files_rm'}]") (command.ExtraRemove (codes "e") [])
+    (command.SourcesAdd (anywhere (codes "e")) (codes "b.c" ∷ codes "a.c" ∷ []))
+    × stands_for (codes "[{'type':'target','target':'e','operation':'src_rm','sources':['a.c']}]") (command.SourcesRemove (anywhere (codes "e")) (codes "a.c" ∷ []))
+    × stands_for (codes "[{'type':'target','target':'e','operation':'extra_files_add','sources':['x.h']}]") (command.ExtraAdd (anywhere (codes "e")) (codes "x.h" ∷ []))
+    × stands_for (codes "[{'type':'target','target':'e','operation':'extra_files_rm'}]") (command.ExtraRemove (anywhere (codes "e")) [])
     × stands_for (codes "[{'type':'target','target':'l','operation':'target_add','sources':['a.c'],'subdir':'s','target_type':'jar'}]")
     (command.TargetAdd (codes "l") (codes "jar") (codes "s") (codes "a.c" ∷ []))
     × stands_for (codes "[{'type':'target','target':'l','operation':'target_add'}]") (command.TargetAdd (codes "l") (codes "executable") [] [])
-    × stands_for (codes "[{'type':'target','target':'l','operation':'target_rm','kind':1}]") (command.TargetRemove (codes "l"))
-    × stands_for (codes "[{'type':'x','target':'e','operation':'info','type':'target'}]") (command.TargetInfo (codes "e"))
+    × stands_for (codes "[{'type':'target','target':'l','operation':'target_rm','kind':1}]") (command.TargetRemove (anywhere (codes "l")))
+    × stands_for (codes "[{'type':'x','target':'e','operation':'info','type':'target'}]") (command.TargetInfo (anywhere (codes "e")))
+    × stands_for (codes "[{'type':'target','target':'e','operation':'src_add','in':'s'}]") (command.SourcesAdd (record { id = codes "e"; folder = Some (codes "s") }) [])
+    × stands_for (codes "[{'type':'target','target':'l','operation':'target_add','in':1}]") (command.TargetAdd (codes "l") (codes "executable") [] [])
+    × gives (codes "[{'type':'target','target':'e','operation':'info','in':1}]") (Err (BadField 0 (codes "in")))
 
 -- keys and options in the order of their bytes
 abbrev pub ArgumentEntries : Type 0
 ArgumentEntries =
     stands_for (codes "[{'type':'kwargs','function':'project','id':'/','operation':'set','kwargs':{'version':'2','license':['a','b']}}]")
-    (command.KwargsSet role.Project (codes "/") ((codes "license", setting.Texts (codes "a" ∷ codes "b" ∷ []))
+    (command.KwargsSet role.Project (anywhere (codes "/")) ((codes "license", setting.Texts (codes "a" ∷ codes "b" ∷ []))
     ∷ (codes "version", setting.Text (codes "2")) ∷ []))
     × stands_for (codes "[{'type':'kwargs','function':'target','id':'e','operation':'set','kwargs':{'install':true}}]")
-    (command.KwargsSet role.Target (codes "e") ((codes "install", setting.Bool true) ∷ []))
+    (command.KwargsSet role.Target (anywhere (codes "e")) ((codes "install", setting.Bool true) ∷ []))
     × stands_for (codes "[{'type':'kwargs','function':'dependency','id':'z','operation':'add','kwargs':{'version':'<2'}}]")
-    (command.KwargsAdd role.Dependency (codes "z") ((codes "version", setting.Text (codes "<2")) ∷ []))
-    × stands_for (codes "[{'type':'kwargs','function':'dependency','id':'z','operation':'remove'}]") (command.KwargsRemove role.Dependency (codes "z") [])
+    (command.KwargsAdd role.Dependency (anywhere (codes "z")) ((codes "version", setting.Text (codes "<2")) ∷ []))
+    × stands_for (codes "[{'type':'kwargs','function':'dependency','id':'z','operation':'remove'}]") (command.KwargsRemove role.Dependency (anywhere (codes "z")) [])
     × stands_for (codes "[{'type':'kwargs','function':'target','id':'e','operation':'delete','kwargs':{'install':null,'a':1}}]")
-    (command.KwargsDelete role.Target (codes "e") (codes "a" ∷ codes "install" ∷ []))
-    × stands_for (codes "[{'type':'kwargs','function':'project','id':'/','operation':'info'}]") (command.KwargsInfo role.Project (codes "/"))
+    (command.KwargsDelete role.Target (anywhere (codes "e")) (codes "a" ∷ codes "install" ∷ []))
+    × stands_for (codes "[{'type':'kwargs','function':'project','id':'/','operation':'info'}]") (command.KwargsInfo role.Project (anywhere (codes "/")))
+    × stands_for (codes "[{'type':'kwargs','function':'target','id':'e','operation':'info','in':'.'}]")
+    (command.KwargsInfo role.Target (record { id = codes "e"; folder = Some (codes ".") }))
     × stands_for (codes "[{'type':'default_options','operation':'set','options':{'warning_level':2,'b_lto':true}}]")
     (command.OptionsSet ((codes "b_lto", codes "true") ∷ (codes "warning_level", codes "2") ∷ []))
     × stands_for (codes "[{'type':'default_options','operation':'delete','options':{'cpp_std':0}}]") (command.OptionsDelete (codes "cpp_std" ∷ []))
@@ -148,7 +154,8 @@ KnownMembers =
     gives_known (codes "[{'type':'target','target':'l','operation':'target_add','sources':['a.c'],'subdir':'s','target_type':'jar'}]")
     (Ok (command.TargetAdd (codes "l") (codes "jar") (codes "s") (codes "a.c" ∷ []) ∷ []))
     × gives_known (codes "[{'type':'kwargs','function':'target','id':'e','operation':'delete','kwargs':{'install':null,'a':1}}]")
-    (Ok (command.KwargsDelete role.Target (codes "e") (codes "a" ∷ codes "install" ∷ []) ∷ []))
+    (Ok (command.KwargsDelete role.Target (anywhere (codes "e")) (codes "a" ∷ codes "install" ∷ []) ∷ []))
+    × gives_known (codes "[{'type':'target','target':'l','operation':'target_add','in':'s'}]") (Err (UnknownMember 0 (codes "in")))
     × gives_known (codes "[{'type':'default_options','operation':'delete','options':{'cpp_std':0}}]") (Ok (command.OptionsDelete (codes "cpp_std" ∷ []) ∷ []))
     × gives_known (codes "[{'type':'target','target':'l','operation':'target_rm','kind':1}]") (Err (UnknownMember 0 (codes "kind")))
     × gives_known (codes "[{'type':'target','target':'e','operation':'info','subdir':''}]") (Err (UnknownMember 0 (codes "subdir")))

@@ -15,8 +15,11 @@ use Rattle.meson_steps.specs.declared.argument.ValueName.{ValueName}
 use Rattle.meson_steps.specs.declared.command.Command.{Command}
 use Rattle.meson_steps.specs.declared.command.Command.TheVariants as command
 use Rattle.meson_steps.specs.declared.given.Given.{Given}
+use Rattle.meson_calls.specs.declared.call.CallName.{CallName}
 use Rattle.meson_calls.specs.declared.call.Role.{Role}
 use Rattle.meson_json.specs.declared.target.TargetMembers.{TargetMembers}
+use Rattle.meson_json.specs.declared.target.TargetOperation.{TargetOperation}
+use Rattle.meson_json.specs.declared.target.TargetOperation.TheVariants as target
 use Rattle.meson_json.specs.declared.fault.ScriptFault.{ScriptFault}
 use Rattle.meson_json.specs.declared.fault.ScriptFault.TheVariants.{NotJson, NotArray, TooMany, NotObject, UnknownType, BadField, UnknownOperation, Unsupported, UnknownMember}
 use Rattle.meson_json.specs.declared.member_check.UnknownMembers.{UnknownMembers}
@@ -43,19 +46,34 @@ given read i name otherwise (Some d) = ok_or (read d) (BadField i name)
 
 -- ---- entries of type `target`
 
-unfoldable pub target_members : ℕ → Data → Result TargetMembers ScriptFault
-target_members i d =
+-- the folder of an entry, if it names one
+abbrev pub folder_at : ℕ → Data → Result (Option (List ℕ)) ScriptFault
+folder_at i d = given (λ v. option_map Some (as_str v)) i (codes "in") None (get (codes "in") d)
+
+-- that of an entry of type `target`; a new target is not searched for
+abbrev pub target_folder : ℕ → TargetOperation → Data → Result (Option (List ℕ)) ScriptFault
+target_folder i target.TargetAdd d = Ok None
+target_folder i target.SourcesAdd d = folder_at i d
+target_folder i target.SourcesRemove d = folder_at i d
+target_folder i target.TargetRemove d = folder_at i d
+target_folder i target.ExtraAdd d = folder_at i d
+target_folder i target.ExtraRemove d = folder_at i d
+target_folder i target.Info d = folder_at i d
+
+unfoldable pub target_members : ℕ → TargetOperation → Data → Result TargetMembers ScriptFault
+target_members i operation d =
     then_ok (required_text i (codes "target") d) (λ target.
     then_ok (given (λ d. option_and_then (each_of as_str) (as_array d)) i (codes "sources") [] (get (codes "sources") d)) (λ sources.
     then_ok (given as_str i (codes "subdir") [] (get (codes "subdir") d)) (λ subdir.
     then_ok (given as_str i (codes "target_type") (codes "executable") (get (codes "target_type") d)) (λ kind.
-    Ok (record { target = target; sources = sources; subdir = subdir; target_kind = kind })))))
+    then_ok (target_folder i operation d) (λ folder.
+    Ok (record { target = target; folder = folder; sources = sources; subdir = subdir; target_kind = kind }))))))
 
 unfoldable pub target_entry : ℕ → Data → Result Command ScriptFault
 target_entry i d =
     then_ok (required_text i (codes "operation") d) (λ word.
     then_ok (ok_or (target_operation word) (UnknownOperation i)) (λ operation.
-    then_ok (target_members i d) (λ m. Ok (target_command operation m))))
+    then_ok (target_members i operation d) (λ m. Ok (target_command operation m))))
 
 -- ---- entries of type `kwargs`
 
@@ -69,16 +87,16 @@ kwargs_asked i (Some kwargs.RemoveRegex) = Err (Unsupported i)
 kwargs_asked i (Some operation) = Ok operation
 
 -- `delete` and `info` take any values
-unfoldable pub kwargs_command : ℕ → KwargsOperation → Role → List ℕ → Members → Result Command ScriptFault
-kwargs_command i kwargs.Set role id ms = then_ok (ok_or (each_member setting_of ms) (BadField i (codes "kwargs")))
-    (λ pairs. Ok (command.KwargsSet role id pairs))
-kwargs_command i kwargs.Add role id ms = then_ok (ok_or (each_member setting_of ms) (BadField i (codes "kwargs")))
-    (λ pairs. Ok (command.KwargsAdd role id pairs))
-kwargs_command i kwargs.Remove role id ms = then_ok (ok_or (each_member setting_of ms) (BadField i (codes "kwargs")))
-    (λ pairs. Ok (command.KwargsRemove role id pairs))
-kwargs_command i kwargs.RemoveRegex role id ms = Err (Unsupported i)
-kwargs_command i kwargs.Delete role id ms = Ok (command.KwargsDelete role id (names_of_members ms))
-kwargs_command i kwargs.Info role id ms = Ok (command.KwargsInfo role id)
+unfoldable pub kwargs_command : ℕ → KwargsOperation → Role → CallName → Members → Result Command ScriptFault
+kwargs_command i kwargs.Set role name ms = then_ok (ok_or (each_member setting_of ms) (BadField i (codes "kwargs")))
+    (λ pairs. Ok (command.KwargsSet role name pairs))
+kwargs_command i kwargs.Add role name ms = then_ok (ok_or (each_member setting_of ms) (BadField i (codes "kwargs")))
+    (λ pairs. Ok (command.KwargsAdd role name pairs))
+kwargs_command i kwargs.Remove role name ms = then_ok (ok_or (each_member setting_of ms) (BadField i (codes "kwargs")))
+    (λ pairs. Ok (command.KwargsRemove role name pairs))
+kwargs_command i kwargs.RemoveRegex role name ms = Err (Unsupported i)
+kwargs_command i kwargs.Delete role name ms = Ok (command.KwargsDelete role name (names_of_members ms))
+kwargs_command i kwargs.Info role name ms = Ok (command.KwargsInfo role name)
 
 unfoldable pub kwargs_entry : ℕ → Data → Result Command ScriptFault
 kwargs_entry i d =
@@ -86,7 +104,9 @@ kwargs_entry i d =
     then_ok (kwargs_asked i (kwargs_operation word)) (λ operation.
     then_ok (role_at i d) (λ role.
     then_ok (required_text i (codes "id") d) (λ id.
-    then_ok (given as_object i (codes "kwargs") no_members (get (codes "kwargs") d)) (λ ms. kwargs_command i operation role id ms)))))
+    then_ok (folder_at i d) (λ folder.
+    then_ok (given as_object i (codes "kwargs") no_members (get (codes "kwargs") d)) (λ ms.
+    kwargs_command i operation role (record { id = id; folder = folder }) ms))))))
 
 -- ---- entries of type `default_options`
 
@@ -127,9 +147,6 @@ values_at i argument.Info d = Ok []
 
 abbrev pub value_command : ℕ → ArgumentOperation → ValueName → Data → Result Command ScriptFault
 value_command i operation name d = then_ok (values_at i operation d) (λ gs. ok_or (command_to operation name gs) (BadField i (codes "values")))
-
-abbrev pub folder_at : ℕ → Data → Result (Option (List ℕ)) ScriptFault
-folder_at i d = given (λ v. option_map Some (as_str v)) i (codes "in") None (get (codes "in") d)
 
 unfoldable pub value_name : ℕ → ArgumentOperation → Data → Result ValueName ScriptFault
 value_name i operation d =

@@ -1,15 +1,20 @@
 -- The command of an operation on a target.
+use Rattle.meson_calls.specs.declared.call.CallName.{CallName}
 use Rattle.meson_steps.specs.declared.command.Command.{Command}
 use Rattle.meson_steps.specs.declared.command.Command.TheVariants as command
 use Rattle.meson_json.specs.declared.target.TargetMembers.{TargetMembers}
 use Rattle.meson_json.specs.declared.target.TargetOperation.{TargetOperation}
 use Rattle.meson_json.specs.declared.target.TargetOperation.TheVariants as target
 
+-- what names the target
+abbrev pub named_by : TargetMembers → CallName
+named_by m = record { id = m.target; folder = m.folder }
+
 abbrev pub target_command : TargetOperation → TargetMembers → Command
-target_command target.SourcesAdd m = command.SourcesAdd m.target m.sources
-target_command target.SourcesRemove m = command.SourcesRemove m.target m.sources
-target_command target.TargetRemove m = command.TargetRemove m.target
+target_command target.SourcesAdd m = command.SourcesAdd (named_by m) m.sources
+target_command target.SourcesRemove m = command.SourcesRemove (named_by m) m.sources
+target_command target.TargetRemove m = command.TargetRemove (named_by m)
 target_command target.TargetAdd m = command.TargetAdd m.target m.target_kind m.subdir m.sources
-target_command target.ExtraAdd m = command.ExtraAdd m.target m.sources
-target_command target.ExtraRemove m = command.ExtraRemove m.target m.sources
-target_command target.Info m = command.TargetInfo m.target
+target_command target.ExtraAdd m = command.ExtraAdd (named_by m) m.sources
+target_command target.ExtraRemove m = command.ExtraRemove (named_by m) m.sources
+target_command target.Info m = command.TargetInfo (named_by m)

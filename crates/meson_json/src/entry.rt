@@ -4,7 +4,7 @@ ghost use Rattle.std.specs.Prelude.{◌≡◌, ◌≢◌, Err, IfErr, IfOk, Ok, 
 ghost use Rattle.serde_json.specs.View.{members_view, view};
 ghost use Rattle.meson_json.specs.Operations.{kwargs_operation};
 ghost use Rattle.meson_json.specs.Arguments.{place_named};
-ghost use Rattle.meson_json.specs.Scripts.{argument_entry, entry_of, folder_at, keys_at, keys_of, kwargs_asked, kwargs_command, kwargs_entry, options_command, options_entry, role_at, target_entry, target_members, value_command, value_name, values_at};
+ghost use Rattle.meson_json.specs.Scripts.{argument_entry, entry_of, folder_at, keys_at, keys_of, kwargs_asked, kwargs_command, kwargs_entry, options_command, options_entry, role_at, target_entry, target_folder, target_members, value_command, value_name, values_at};
 ghost use Rattle.meson_json.specs.declared.fault.ScriptFault.TheVariants.{BadField, OutOfMemory};
 ghost use Rattle.meson_json.specs.declared.names.ArgumentOperation.TheVariants as argument;
 
@@ -18,8 +18,8 @@ use crate::names::{
     ArgumentOperation, EntryType, KwargsOperation, OptionsOperation, find_argument_operation,
     find_kwargs_operation, find_options_operation, find_role, find_target_operation, find_type,
 };
-use crate::target::{TargetMembers, target_command};
-use meson_calls::Role;
+use crate::target::{TargetMembers, TargetOperation, target_command};
+use meson_calls::{CallName, Role};
 use meson_splice::{Many, Text};
 use meson_steps::argument::{PlaceName, Search, ValueName};
 use meson_steps::command::Command;
@@ -27,16 +27,57 @@ use meson_steps::given::Given;
 use serde_json::{Map, Value};
 use std::alloc::{AllocError, Global};
 
+/// The folder of an entry, if it names one.
+fn folder_at(alloc: Global, index: usize, entry: &Value) -> Result<Option<Text>, ScriptFault>
+    ensures ok { IfOk result (λ f. folder_at index (view entry.now) ≡ Ok f) }
+    ensures refused { IfErr result (λ e. e ≢ OutOfMemory → folder_at index (view entry.now) ≡ Err e) }
+{
+    let Some(member) = entry.get("in") else {
+        return Ok(None);
+    };
+    match member.as_str() {
+        Some(folder) => Ok(Some(owned(alloc, folder)?)),
+        None => Err(bad_field(alloc, index, "in")?),
+    }
+}
+
+/// That of an entry of type `target`. A new target is not searched for.
+fn target_folder(
+    alloc: Global,
+    index: usize,
+    operation: TargetOperation,
+    entry: &Value,
+) -> Result<Option<Text>, ScriptFault>
+    ensures ok { IfOk result (λ f. target_folder index operation (view entry.now) ≡ Ok f) }
+    ensures refused { IfErr result (λ e. e ≢ OutOfMemory → target_folder index operation (view entry.now) ≡ Err e) }
+{
+    match operation {
+        TargetOperation::TargetAdd => Ok(None),
+        TargetOperation::SourcesAdd => folder_at(alloc, index, entry),
+        TargetOperation::SourcesRemove => folder_at(alloc, index, entry),
+        TargetOperation::TargetRemove => folder_at(alloc, index, entry),
+        TargetOperation::ExtraAdd => folder_at(alloc, index, entry),
+        TargetOperation::ExtraRemove => folder_at(alloc, index, entry),
+        TargetOperation::Info => folder_at(alloc, index, entry),
+    }
+}
+
 #[tactic(auto, unfolding(crate::specs::Scripts::target_members))]
-fn target_members(alloc: Global, index: usize, entry: &Value) -> Result<TargetMembers, ScriptFault>
-    ensures ok { IfOk result (λ m. target_members index (view entry.now) ≡ Ok m) }
-    ensures refused { IfErr result (λ e. e ≢ OutOfMemory → target_members index (view entry.now) ≡ Err e) }
+fn target_members(
+    alloc: Global,
+    index: usize,
+    operation: TargetOperation,
+    entry: &Value,
+) -> Result<TargetMembers, ScriptFault>
+    ensures ok { IfOk result (λ m. target_members index operation (view entry.now) ≡ Ok m) }
+    ensures refused { IfErr result (λ e. e ≢ OutOfMemory → target_members index operation (view entry.now) ≡ Err e) }
 {
     Ok(TargetMembers {
         target: required_text(alloc, index, entry, "target")?,
         sources: texts_or_none(alloc, index, entry, "sources")?,
         subdir: text_or(alloc, index, entry, "subdir", "")?,
         target_kind: text_or(alloc, index, entry, "target_type", "executable")?,
+        folder: target_folder(alloc, index, operation, entry)?,
     })
 }
 
@@ -49,7 +90,7 @@ fn target_entry(alloc: Global, index: usize, entry: &Value) -> Result<Command, S
     let Some(operation) = find_target_operation(word.get()) else {
         return Err(ScriptFault::UnknownOperation(index));
     };
-    let members = target_members(alloc, index, entry)?;
+    let members = target_members(alloc, index, operation, entry)?;
     Ok(target_command(operation, members))
 }
 
@@ -84,29 +125,29 @@ fn kwargs_command(
     index: usize,
     operation: KwargsOperation,
     role: Role,
-    id: Text,
+    name: CallName,
     members: &Map<String, Value>,
 ) -> Result<Command, ScriptFault>
-    ensures ok { IfOk result (λ c. kwargs_command index operation role id (members_view members.now.entries) ≡ Ok c) }
-    ensures refused { IfErr result (λ e. e ≢ OutOfMemory → kwargs_command index operation role id (members_view members.now.entries) ≡ Err e) }
+    ensures ok { IfOk result (λ c. kwargs_command index operation role name (members_view members.now.entries) ≡ Ok c) }
+    ensures refused { IfErr result (λ e. e ≢ OutOfMemory → kwargs_command index operation role name (members_view members.now.entries) ≡ Err e) }
 {
     if let KwargsOperation::Info = operation {
-        return Ok(Command::KwargsInfo { role, id });
+        return Ok(Command::KwargsInfo { role, name });
     }
     if let KwargsOperation::RemoveRegex = operation {
         return Err(ScriptFault::Unsupported(index));
     }
     if let KwargsOperation::Delete = operation {
         let keys = names(alloc, members)?;
-        return Ok(Command::KwargsDelete { role, id, keys });
+        return Ok(Command::KwargsDelete { role, name, keys });
     }
     let Some(pairs) = settings(alloc, members)? else {
         return Err(bad_field(alloc, index, "kwargs")?);
     };
     match operation {
-        KwargsOperation::Set => Ok(Command::KwargsSet { role, id, pairs }),
-        KwargsOperation::Add => Ok(Command::KwargsAdd { role, id, pairs }),
-        KwargsOperation::Remove => Ok(Command::KwargsRemove { role, id, pairs }),
+        KwargsOperation::Set => Ok(Command::KwargsSet { role, name, pairs }),
+        KwargsOperation::Add => Ok(Command::KwargsAdd { role, name, pairs }),
+        KwargsOperation::Remove => Ok(Command::KwargsRemove { role, name, pairs }),
         _ => unreachable!(),
     }
 }
@@ -120,9 +161,11 @@ fn kwargs_entry(alloc: Global, index: usize, entry: &Value) -> Result<Command, S
     let operation = kwargs_asked(index, word.get())?;
     let role = role_at(alloc, index, entry)?;
     let id = required_text(alloc, index, entry, "id")?;
+    let folder = folder_at(alloc, index, entry)?;
     let none = Map::new(alloc);
     let members = members_or(alloc, index, entry, "kwargs", &none)?;
-    kwargs_command(alloc, index, operation, role, id, members)
+    let name = CallName { id, folder };
+    kwargs_command(alloc, index, operation, role, name, members)
 }
 
 #[tactic(auto, unfolding(crate::specs::Scripts::options_command))]
@@ -199,20 +242,6 @@ fn keys_at(
     match keys {
         Some(keys) => Ok(keys),
         None => Err(bad_field(alloc, index, "key")?),
-    }
-}
-
-/// The folder of an entry, if it names one.
-fn folder_at(alloc: Global, index: usize, entry: &Value) -> Result<Option<Text>, ScriptFault>
-    ensures ok { IfOk result (λ f. folder_at index (view entry.now) ≡ Ok f) }
-    ensures refused { IfErr result (λ e. e ≢ OutOfMemory → folder_at index (view entry.now) ≡ Err e) }
-{
-    let Some(member) = entry.get("in") else {
-        return Ok(None);
-    };
-    match member.as_str() {
-        Some(folder) => Ok(Some(owned(alloc, folder)?)),
-        None => Err(bad_field(alloc, index, "in")?),
     }
 }
 

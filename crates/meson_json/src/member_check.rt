@@ -53,16 +53,20 @@ fn is_known(command: &Command, name: &str) -> bool
         Command::SourcesAdd { .. }
         | Command::SourcesRemove { .. }
         | Command::ExtraAdd { .. }
-        | Command::ExtraRemove { .. } => name == "target" || name == "sources",
+        | Command::ExtraRemove { .. } => name == "target" || name == "sources" || name == "in",
         Command::TargetAdd { .. } => {
             name == "target" || name == "sources" || name == "subdir" || name == "target_type"
         }
-        Command::TargetRemove { .. } | Command::TargetInfo { .. } => name == "target",
+        Command::TargetRemove { .. } | Command::TargetInfo { .. } => {
+            name == "target" || name == "in"
+        }
         Command::KwargsSet { .. }
         | Command::KwargsDelete { .. }
         | Command::KwargsAdd { .. }
-        | Command::KwargsRemove { .. } => name == "function" || name == "id" || name == "kwargs",
-        Command::KwargsInfo { .. } => name == "function" || name == "id",
+        | Command::KwargsRemove { .. } => {
+            name == "function" || name == "id" || name == "kwargs" || name == "in"
+        }
+        Command::KwargsInfo { .. } => name == "function" || name == "id" || name == "in",
         Command::OptionsSet { .. } | Command::OptionsDelete { .. } => name == "options",
         Command::Argument { change, .. } => is_known_of_value(change, name),
         Command::ArgumentInfo { .. } => {

@@ -63,10 +63,10 @@ fn members_of(entry_type: &str, operation: &str) -> Choice {
                 "target_type",
             ]
         }
-        ("target", "target_rm" | "info") => &["type", "operation", "target"],
-        ("target", _) => &["type", "operation", "target", "sources"],
-        ("kwargs", "info") => &["type", "operation", "function", "id"],
-        ("kwargs", _) => &["type", "operation", "function", "id", "kwargs"],
+        ("target", "target_rm" | "info") => &["type", "operation", "target", "in"],
+        ("target", _) => &["type", "operation", "target", "sources", "in"],
+        ("kwargs", "info") => &["type", "operation", "function", "id", "in"],
+        ("kwargs", _) => { &["type", "operation", "function", "id", "kwargs", "in"] }
         ("arg", "delete") => &["type", "operation", "function", "id", "key", "in"],
         ("arg", _) => { &["type", "operation", "function", "id", "key", "values", "in"] }
         _ => &["type", "operation", "options"],

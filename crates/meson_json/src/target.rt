@@ -3,6 +3,7 @@
 ghost use Rattle.std.specs.Prelude.{◌≡◌};
 ghost use Rattle.meson_json.specs.Targets.{target_command};
 
+use meson_calls::CallName;
 use meson_splice::{Many, Text};
 use meson_steps::command::Command;
 
@@ -18,37 +19,56 @@ pub enum TargetOperation {
     Info,
 }
 
-/// The target that is meant, and the members for it. An operation may leave out all but the target.
+/// The target that is meant, the folder whose build file alone is searched for it, if one is given, and the members for it. An operation may leave out all but
+/// the target.
 #[derive(Drop)]
 pub struct TargetMembers {
     pub target: Text,
+    pub folder: Option<Text>,
     pub sources: Many<Text>,
     pub subdir: Text,
     pub target_kind: Text,
 }
 
-/// The command of an operation on a target.
+/// The command of an operation on a target. A new target has no folder that is searched.
 pub fn target_command(operation: TargetOperation, members: TargetMembers) -> Command
     ensures { result ≡ target_command operation members }
 {
     let TargetMembers {
-        target,
+        target: id,
+        folder,
         sources,
         subdir,
         target_kind,
     } = members;
     match operation {
-        TargetOperation::SourcesAdd => Command::SourcesAdd { target, sources },
-        TargetOperation::SourcesRemove => Command::SourcesRemove { target, sources },
-        TargetOperation::TargetRemove => Command::TargetRemove { target },
+        TargetOperation::SourcesAdd => Command::SourcesAdd {
+            target: CallName { id, folder },
+            sources,
+        },
+        TargetOperation::SourcesRemove => Command::SourcesRemove {
+            target: CallName { id, folder },
+            sources,
+        },
+        TargetOperation::TargetRemove => Command::TargetRemove {
+            target: CallName { id, folder },
+        },
         TargetOperation::TargetAdd => Command::TargetAdd {
-            target,
+            target: id,
             target_kind,
             subdir,
             sources,
         },
-        TargetOperation::ExtraAdd => Command::ExtraAdd { target, sources },
-        TargetOperation::ExtraRemove => Command::ExtraRemove { target, sources },
-        TargetOperation::Info => Command::TargetInfo { target },
+        TargetOperation::ExtraAdd => Command::ExtraAdd {
+            target: CallName { id, folder },
+            sources,
+        },
+        TargetOperation::ExtraRemove => Command::ExtraRemove {
+            target: CallName { id, folder },
+            sources,
+        },
+        TargetOperation::Info => Command::TargetInfo {
+            target: CallName { id, folder },
+        },
     }
 }

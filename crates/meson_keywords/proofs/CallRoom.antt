@@ -4,6 +4,7 @@ use Rattle.meson_keywords.proofs.Words.{listing, erase, view, Parsed, CallThere,
 use Rattle.meson_keywords.proofs.Words.{calls_stand, plain_trees, tree_is, parsed_shallow, plain_place, all_nth, CallStands, trees_of}
 use Rattle.meson_edit.proofs.paths.DeepLists.{depths-grow}
 use Rattle.meson_calls.specs.Finding.{the_call}
+use Rattle.meson_calls.specs.declared.call.CallName.{CallName}
 
 -- the trees of a project without spans
 erased_trees : (files : List File) (parsed : List Parsed) → trees_of (named_trees files (views files parsed)) ≡ map erase (views files parsed)
@@ -37,5 +38,5 @@ stands_there old is c t =
       file_fits = λ l within. omega (arith, shallow, depths-grow tree path q.place q.is_place l 1 within);
     }
 
-pub call_has_room : (old : Loaded) → IsProject old → (r : Role) (id : List ℕ) (c : Placed (Call Span)) → the_call (project old) r id ≡ Ok c → CallStands c.place (plain_trees old)
+pub call_has_room : (old : Loaded) → IsProject old → (r : Role) (id : CallName) (c : Placed (Call Span)) → the_call (project old) r id ≡ Ok c → CallStands c.place (plain_trees old)
 call_has_room old is r id c found = stands_there old is c (calls_stand (project old) r id c found)

@@ -7,6 +7,7 @@ use Rattle.meson_syntax.specs.declared.tree.List as rust
 use Rattle.meson_calls.specs.Finding.{the_call}
 use Rattle.meson_calls.proofs.KeywordArguments.{keyword_is}
 use Rattle.meson_keywords.proofs.CallRoom.{stands_there, trees_are}
+use Rattle.meson_calls.specs.declared.call.CallName.{CallName}
 
 -- ---- trees that are read in another place
 
@@ -18,7 +19,7 @@ parsed_as files same p = subst (AreParsed files) (sym same) p.parsed
 
 -- ---- a request
 
-module _ (files : List File) (trees : List Parsed) (r : Role) (id : List ℕ) (asked : Asked) where
+module _ (files : List File) (trees : List Parsed) (r : Role) (id : CallName) (asked : Asked) where
   abbrev old : Loaded
   old = record { files = files; parsed = trees }
 

@@ -20,6 +20,7 @@ use Rattle.meson_steps.specs.Working.{Reached, so_far}
 use Rattle.meson_calls.specs.Project.{Project}
 use Rattle.meson_calls.specs.declared.call.Role.{Role}
 use Rattle.meson_splice.specs.Patch.{then_ok}
+use Rattle.meson_calls.specs.declared.call.CallName.{CallName}
 
 -- The call is there, in round brackets. Whatever is in its place, as long as it nests no deeper than this number, leaves the file within the limit between two
 -- steps. An argument that is an array of elements has that depth. So each task may insert one, and no task makes room for a deeper one.
@@ -60,5 +61,5 @@ pub record TaskDone (old : Loaded) (c : CallRef) (before : List Step) (t : Task)
 
 -- ---- a command
 
-abbrev pub request_steps : {S : Type 0} → Project S → Role × List ℕ × Asked → Result (List Step) Refusal
+abbrev pub request_steps : {S : Type 0} → Project S → Role × CallName × Asked → Result (List Step) Refusal
 request_steps p r = then_ok (the_call p r.0 r.1) (call_changed p (asked_tasks r.0 r.2))

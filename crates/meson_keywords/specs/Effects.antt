@@ -26,6 +26,7 @@ use Rattle.meson_keywords.specs.Options.{options_key}
 use Rattle.meson_keywords.specs.Tasking.{Asked, MayBeWritten, asked_tasks, to_set, to_add, to_remove, to_delete, to_set_options, to_delete_options}
 use Rattle.meson_keywords.specs.Tasks.{Task, set, delete, add, remove, once, set_option, delete_option, before_equals}
 use Rattle.meson_keywords.specs.TaskSteps.{elements_in, tasks_steps, trees_after}
+use Rattle.meson_calls.specs.declared.call.CallName.{CallName}
 
 -- ---- arguments by their names
 
@@ -145,15 +146,15 @@ AreAskedTexts (to_set_options pairs) = AllByRecursion (λ p. IsUtf8 p.0 × IsUtf
 AreAskedTexts (to_delete_options names) = Unit {0}
 
 -- The call that it names is the only one, and the trees have of it what its tasks leave.
-pub record CallLeft (old : Loaded) (r : Role) (id : List ℕ) (asked : Asked) (after : List Plain) : Type 0 where
+pub record CallLeft (old : Loaded) (r : Role) (name : CallName) (asked : Asked) (after : List Plain) : Type 0 where
   pub call : Placed (Call Span)
-  pub is_call : the_call (project old) r id ≡ Ok call
+  pub is_call : the_call (project old) r name ≡ Ok call
   pub tasks : List Task
   pub are_tasks : asked_tasks r asked ≡ Ok tasks
   pub leave : TasksLeave tasks (elements_in call.place (plain_trees old)) (elements_in call.place after)
 
 -- the law: if a request means steps, these leave of its call what its tasks leave
 abbrev pub RequestsLeave : Type 0
-RequestsLeave = (old : Loaded) → IsProject old → (r : Role) (id : List ℕ) (asked : Asked) → AreAskedTexts asked → (steps : List Step)
-    → request_steps (project old) (r, id, asked) ≡ Ok steps
-    → CallLeft old r id asked (trees_after steps (plain_trees old))
+RequestsLeave = (old : Loaded) → IsProject old → (r : Role) (name : CallName) (asked : Asked) → AreAskedTexts asked → (steps : List Step)
+    → request_steps (project old) (r, name, asked) ≡ Ok steps
+    → CallLeft old r name asked (trees_after steps (plain_trees old))

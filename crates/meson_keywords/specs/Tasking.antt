@@ -18,6 +18,8 @@ use Rattle.meson_keywords.specs.declared.tasks.Task as code
 use Rattle.meson_keywords.specs.declared.tasks.Task.TheVariants as code_task
 use Rattle.meson_steps.specs.inside.WrittenValues.{WrittenFor, value_written}
 use Rattle.meson_keywords.specs.Tasks.{Task, set, delete, add, remove, once, set_option, delete_option, each_made, set_entry, delete_entry, add_entry, remove_entry, set_option_entry, delete_option_entry}
+use Rattle.meson_calls.specs.declared.call.CallName.{CallName}
+use Rattle.meson_calls.specs.Searching.{name_at}
 
 -- ---- the request of a command
 
@@ -35,8 +37,8 @@ asked (words.Remove pairs) = to_remove pairs.now
 asked (words.SetOptions pairs) = to_set_options pairs.now
 asked (words.DeleteOptions names) = to_delete_options names.now
 
-abbrev pub request_view : Request → Role × List ℕ × Asked
-request_view r = (r.role, r.id.now, asked r.words)
+abbrev pub request_view : Request → Role × CallName × Asked
+request_view r = (r.role, name_at r.name, asked r.words)
 
 abbrev pub asked_tasks : Role → Asked → Result (List Task) Refusal
 asked_tasks r (to_set pairs) = each_made (set_entry r) pairs

@@ -8,6 +8,7 @@ ghost use Rattle.meson_calls.specs.Loading.{AreParsed, Loaded, named_trees, proj
 ghost use Rattle.meson_calls.specs.Notes.{notes};
 ghost use Rattle.meson_calls.specs.OnePlace.{the_place};
 ghost use Rattle.meson_calls.specs.Refusals.{IfRefused, RefusedAs};
+ghost use Rattle.meson_calls.specs.Searching.{name_at, names_of};
 ghost use Rattle.meson_steps.specs.Done.{IsDone, MayNotBeDone};
 ghost use Rattle.meson_steps.specs.ResultLimits.{plain_trees};
 ghost use Rattle.meson_calls.specs.NamedArguments.{not_hidden, kept_args, kwargs_key};
@@ -27,7 +28,7 @@ use crate::tasks::{Task, tasks_of};
 use meson_calls::arguments::count_named;
 use meson_calls::finding::{list_of_call, the_call};
 use meson_calls::notes::notes_for;
-use meson_calls::{CallRef, Refusal, Role};
+use meson_calls::{BorrowedName, CallRef, Refusal, Role};
 use meson_splice::FileSet;
 use meson_steps::step::ListStep;
 use meson_steps::work::Work;
@@ -122,24 +123,24 @@ fn tasks_done(
     work.within_limits()
 }
 
-/// The place of the one call that an id names.
+/// The place of the one call that is named.
 ///
 /// # Errors
-/// There is no project, no such call or more than one, or out of memory.
+/// The folder has no build file. Or there is no project, no such call or more than one, or out of memory.
 fn place_named(
     alloc: Global,
     files: &FileSet,
     trees: &[Parsed],
     role: Role,
-    id: &str,
+    name: BorrowedName<'_>,
 ) -> Result<CallRef, Refusal>
     requires { AreParsed files.now trees.now }
-    ensures found { IfOk result (λ c. the_place role id.now (notes (named_trees files.now (views files.now trees.now))) ≡ Ok c) }
-    ensures refused { RefusedAs result (the_place role id.now (notes (named_trees files.now (views files.now trees.now)))) }
+    ensures found { IfOk result (λ c. the_place role (name_at name.entry) (names_of files.now) (notes (named_trees files.now (views files.now trees.now))) ≡ Ok c) }
+    ensures refused { RefusedAs result (the_place role (name_at name.entry) (names_of files.now) (notes (named_trees files.now (views files.now trees.now)))) }
 {
-    let taken = notes_for(alloc, role, id, files, trees)?;
+    let taken = notes_for(alloc, role, name.id, files, trees)?;
     let notes = taken.all(alloc)?;
-    the_call(alloc, role, id, notes.as_slice())
+    the_call(alloc, role, name, files, notes.as_slice())
 }
 
 /// Performs the request.
@@ -154,7 +155,7 @@ pub fn changed(alloc: Global, work: &mut Work, request: Request<'_>) -> Result<(
     ensures refused { IfRefused result (MayNotBeDone (so_far work.old) (request_steps (project (so_far work.old)) (request_view request.entry))) }
 {
     let trees = work.trees.as_slice();
-    let call = place_named(alloc, &work.files, trees, request.role, request.id)?;
+    let call = place_named(alloc, &work.files, trees, request.role, request.name)?;
     let tasks = tasks_of(alloc, request.role, request.words)?;
     let args = list_of_call(trees, &call).items.get();
     not_hidden(work.files.bytes(call.file), args)?;

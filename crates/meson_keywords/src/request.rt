@@ -1,6 +1,6 @@
 //! Requests on the arguments of a call: which call it is, and the words.
 
-use meson_calls::Role;
+use meson_calls::{BorrowedName, Role};
 use meson_splice::Text;
 use meson_steps::command::Setting;
 
@@ -19,6 +19,6 @@ pub enum AskedWords<'c> {
 #[derive(Clone, Copy)]
 pub struct Request<'c> {
     pub role: Role,
-    pub id: &'c str,
+    pub name: BorrowedName<'c>,
     pub words: AskedWords<'c>,
 }

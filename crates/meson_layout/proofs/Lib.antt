@@ -27,6 +27,7 @@ pub mod Removed
 pub mod RemovalLaws
 pub mod StatementLaws
 pub mod AppendLaws
+pub mod AssignmentLaws
 pub mod FileSets
 pub mod Coding
 pub mod LocalLaws

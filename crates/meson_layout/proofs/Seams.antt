@@ -4,13 +4,15 @@ use Rattle.std.proofs.lemmas.Bool.{false≢true}
 use Rattle.std.specs.Prelude.{⊤}
 use Rattle.meson_lex.specs.declared.kinds.Kind.{Kind}
 use Rattle.meson_lex.specs.declared.kinds.Kind.TheVariants as k
-use Rattle.meson_lex.specs.Bytes.{is_line_byte, begins}
+use Rattle.meson_lex.specs.Bytes.{is_line_byte, is_equals, begins}
 use Rattle.meson_lex.specs.Neighbours.{Shape, blanks, note, name, word, quoted, format_quoted, extendable, closed, shape}
 use Rattle.meson_lex.specs.Items.{Lexeme}
-use Rattle.meson_lex.specs.Significant.{Word, Role, Gap, Ends, Opens, Closes, Other, role, kept}
+use Rattle.meson_lex.specs.Significant.{Word, Role, Gap, Ends, Opens, Closes, Other, role, kept, State, start, step, emit_by, emitted, ends_line, only_if, new_line}
 use Rattle.meson_layout.specs.Looks as look
 use Rattle.meson_lex.specs.Words as lex
 use Rattle.meson_layout.specs.Words as w
+use Rattle.meson_layout.specs.FileLaws.{IsAssignment}
+use Rattle.meson_layout.specs.Pieces.{line_feed}
 use Rattle.meson_layout.proofs.FirstBytes.{IsSoft, some_text, soft_item, line_first, line_item, no_line_first}
 use Rattle.meson_layout.proofs.Near.{StandsBy, Near, Follow, IsGood, AllGood, IsLoose, last}
 
@@ -198,6 +200,47 @@ loose-ends o xs l (inr (front, e)) c b is (inr h) =
 pub loose-last : (o : Lexeme) (xs : List Lexeme) → role o.kind ≡ Opens → w.IsBeforeValue (lex.spoken xs) → look.is_comment (last o xs).kind ≡ false → IsLoose (last o xs)
 loose-last o xs opens ends c =
     near-loose (last o xs) (loose-ends o xs (opens-loose o.kind opens) ends c _ refl (fine-last o (lex.word o) xs (inr refl)))
+
+-- ---- the last item before an assigned value
+
+told-line : (b : Bool) (x : Lexeme) (a : Word) (bs : List Word) → lex.speaks (role x.kind) ≡ false → (c : Word) × Fine x c × (last_word a (only_if b new_line ++ bs) ≡ last_word c bs)
+unfolding last_word
+told-line true x a bs h = (new_line, inl h, refl)
+told-line false x a bs h = (a, inl h, refl)
+
+told-step : (r : Role) (s : State) (x : Lexeme) (a : Word) (bs : List Word) → role x.kind ≡ r → (b : Word) × Fine x b × (last_word a (emit_by r s (lex.word x) ++ bs) ≡ last_word b bs)
+unfolding last_word
+told-step Gap s x a bs h = (a, inl (ap lex.speaks h), refl)
+told-step Ends s x a bs h = told-line (ends_line s.depth s.fresh) x a bs (ap lex.speaks h)
+told-step Opens s x a bs h = (lex.word x, inr refl, refl)
+told-step Closes s x a bs h = (lex.word x, inr refl, refl)
+told-step Other s x a bs h = (lex.word x, inr refl, refl)
+
+told-last : (s : State) (o : Lexeme) (a : Word) (xs : List Lexeme) → Fine o a → Fine (last o xs) (last_word a (emitted s xs))
+unfolding last_word
+told-last s o a [] h = h
+told-last s o a (x ∷ xs) h =
+    let f = told-step (role x.kind) s x a (emitted (step s x) xs) refl in
+    subst (Fine (last x xs)) (sym f.2) (told-last (step s x) x f.0 xs f.1)
+
+assigns-by : (κ : Kind) (text next : List ℕ) → IsAssignment κ → begins is_equals next ≡ false → StandsBy (shape κ) text next
+assigns-by κ text next (inl e) n = subst (λ κ. StandsBy (shape κ) text next) (sym e) n
+assigns-by κ text next (inr e) n = subst (λ κ. StandsBy (shape κ) text next) (sym e) tt
+
+-- behind an assignment's token may stand all that begins with no `=`
+pub assigns-last : (left : List Lexeme) (ahead : List Word) (κ : Kind) → IsAssignment κ → emitted start left ≡ ahead ++ (κ, []) ∷ [] → look.is_comment (last line_feed left).kind ≡ false
+    → (y : Lexeme) → begins is_equals y.text ≡ false → Near (last line_feed left) y
+unfolding last_word
+assigns-last left ahead κ assigns is calm y n = by (told-last start line_feed new_line left (inl refl))
+  where
+    same : last_word new_line (emitted start left) ≡ (κ, [])
+    same = ap (last_word new_line) is ∙ last_word-append new_line ahead ((κ, []) ∷ [])
+
+    by : Fine (last line_feed left) (last_word new_line (emitted start left)) → Near (last line_feed left) y
+    by (inl h) = near-loose (last line_feed left) (quiet-loose (last line_feed left).kind h calm) y
+    by (inr h) =
+        let kind : (last line_feed left).kind ≡ κ = ap (λ (a : Word). a.0) (h ∙ same) in
+        subst (λ κ. StandsBy (shape κ) (last line_feed left).text y.text) (sym kind) (assigns-by κ (last line_feed left).text y.text assigns n)
 
 -- ---- the first item behind an element
 

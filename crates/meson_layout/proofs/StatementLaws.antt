@@ -78,7 +78,7 @@ drop-by Opens w xs ts ih p q u h = let no : w ≡ new_line = cc in absurd (p ref
 drop-by Closes w xs ts ih p q u h = let no : w ≡ new_line = cc in absurd (q refl no)
 drop-by Other w xs ts ih p q u h = let no : w ≡ new_line = cc in absurd (u refl no)
 
-line-role : (κ : Kind) (text : List ℕ) (r : Role) → role κ ≡ r → (κ, kept κ text) ≡ new_line → r ≡ Ends
+pub line-role : (κ : Kind) (text : List ℕ) (r : Role) → role κ ≡ r → (κ, kept κ text) ≡ new_line → r ≡ Ends
 line-role κ text r h e = sym h ∙ ap (λ (a : Word). role a.0) e
 
 pub drop-line : (xs : List Lexeme) (ts : List Word) → to_end behind_token xs ≡ new_line ∷ ts → to_end line_start xs ≡ ts

@@ -1,10 +1,13 @@
--- What the splices of a removed and of an appended statement make of a text.
+-- What the splices of a removed and of an appended statement make of a text, and those of an assigned value that is replaced.
 use Rattle.std.specs.Prelude.{◌≡◌, ℕ, true, false, List, [], ◌∷◌, ◌++◌, ◌⊎◌, length, reverse, Ok}
+use Rattle.meson_lex.specs.declared.kinds.Kind.{Kind}
+use Rattle.meson_lex.specs.declared.kinds.Kind.TheVariants as k
 use Rattle.meson_lex.specs.declared.kinds.Span.{Span}
+use Rattle.meson_lex.specs.Bytes.{is_equals, begins}
 use Rattle.meson_lex.specs.Items.{Lexeme, joined, IsItemList}
 use Rattle.meson_lex.specs.Significant.{Word, State, start, after, emitted, closing, new_line, significant}
 use Rattle.meson_splice.specs.declared.splice.Splice.{Splice}
-use Rattle.meson_layout.specs.declared.primitive.Primitive.TheVariants.{RemoveStatement, Append}
+use Rattle.meson_layout.specs.declared.primitive.Primitive.TheVariants.{Replace, RemoveStatement, Append}
 use Rattle.meson_layout.specs.Looks.{is_line_end, at_most_blank}
 use Rattle.meson_layout.specs.Statements.{at_line_start}
 use Rattle.meson_layout.specs.Layout.{layout_of}
@@ -73,3 +76,34 @@ abbrev pub AppendLaw : Type 0
 AppendLaw = (file source : List ℕ) (items : List Lexeme) → IsItemList source items → (after start items).depth ≡ 0
     → (new : List ℕ) (fresh : List Lexeme) (words : List Word) → IsStatement new fresh words
     → (come : List ℕ) × EditedFile source (layout_of file items (Append new)) (source ++ come) (significant items ++ (words ++ new_line ∷ []))
+
+-- ---- an assigned value
+
+-- `=` and `+=`
+abbrev pub IsAssignment : Kind → Type 0
+IsAssignment κ = (κ ≡ k.Assign) ⊎ (κ ≡ k.PlusAssign)
+
+-- An assigned value among the items of a file: the last token before it is that of its assignment, and after it its line ends. `more` are the file's tokens
+-- after that line.
+pub record ValueIn (items : List Lexeme) (s : Span) (more : List Word) : Type 0 where
+  pub left : List Lexeme
+  pub own : List Lexeme
+  pub right : List Lexeme
+  pub parts : items ≡ left ++ (own ++ right)
+  pub from : s.from ≡ length (joined left)
+  pub to : s.to ≡ length (joined (left ++ own))
+  pub tight : IsTight own
+  pub ahead : List Word
+  pub operator : Kind
+  pub assigns : IsAssignment operator
+  pub is_left : emitted start left ≡ ahead ++ (operator, []) ∷ []
+  pub begins : after start left ≡ behind_token
+  pub ends : after start (left ++ own) ≡ behind_token
+  pub is_right : emitted (after start (left ++ own)) right ++ closing (after start items).fresh ≡ new_line ∷ more
+
+-- An assigned value that is replaced by what may be a line of its own and begins with no `=`: its tokens take the place of the old ones, and all bytes before
+-- and after them stay.
+abbrev pub AssignmentLaw : Type 0
+AssignmentLaw = (file source : List ℕ) (items : List Lexeme) → IsItemList source items → (s : Span) (more : List Word) (p : ValueIn items s more)
+    → (new : List ℕ) (fresh : List Lexeme) (words : List Word) → IsStatement new fresh words → begins is_equals new ≡ false
+    → EditedFile source (layout_of file items (Replace s new)) (joined p.left ++ (new ++ joined p.right)) (emitted start p.left ++ (words ++ new_line ∷ more))

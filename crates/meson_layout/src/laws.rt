@@ -1,6 +1,6 @@
 //! Laws of layout. The functions do nothing: what they ensure is the law.
 
-ghost use Rattle.meson_layout.specs.FileLaws.{AppendLaw, StatementRemovalLaw};
+ghost use Rattle.meson_layout.specs.FileLaws.{AppendLaw, AssignmentLaw, StatementRemovalLaw};
 ghost use Rattle.meson_layout.specs.Local.{LocalLaw};
 ghost use Rattle.meson_layout.specs.Laws.{CodingLaw, FilesLaw, FirstLaw, InsertionLaw, RemovalLaw, ReplacementLaw, TextsLaw, WrapKeeps, WrapLaw};
 
@@ -38,6 +38,11 @@ pub fn removed_statements()
 /// An appended statement is last, and the file before it stays as it is.
 pub fn appended_statements()
     ensures { AppendLaw }
+{}
+
+/// An assigned value that is replaced leaves all other tokens, and all bytes before and after the value.
+pub fn assigned_values()
+    ensures { AssignmentLaw }
 {}
 
 /// In a set of files the splices of an edit change the one file, as they change its bytes.

@@ -3,7 +3,9 @@
 use crate::rows::Row;
 use crate::trial::{Call, Fault, Wrong, each_growth_refused, grows_less};
 use meson_inventory::{project_lines, project_object};
-use meson_plan::{CallRef, Done, LoadFault, Project, Refusal, Role, Sources, Unloaded};
+use meson_plan::{
+    BorrowedName, CallRef, Done, LoadFault, Project, Refusal, Role, Sources, Unloaded,
+};
 use meson_script::{Script, info_kwargs, info_target};
 use meson_splice::FileSet;
 use serde_json::Value;
@@ -150,7 +152,11 @@ impl Call for ListTarget {
     }
 
     fn make(alloc: Global, given: &mut Naming) -> Result<Value, Refusal> {
-        info_target(alloc, &given.project, given.id.as_str())
+        let name = BorrowedName {
+            id: given.id.as_str(),
+            folder: None,
+        };
+        info_target(alloc, &given.project, name)
     }
 }
 
@@ -168,7 +174,11 @@ impl Call for ListKeywords {
     }
 
     fn make(alloc: Global, given: &mut Project) -> Result<Value, Refusal> {
-        info_kwargs(alloc, given, Role::Project, "/")
+        let name = BorrowedName {
+            id: "/",
+            folder: None,
+        };
+        info_kwargs(alloc, given, Role::Project, name)
     }
 }
 

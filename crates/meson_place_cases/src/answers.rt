@@ -136,6 +136,10 @@ fn put_step(step: &ListStep, to: &mut Transcript) {
             to.show(number);
             new.get()
         }
+        ListEdit::Assign(new) => {
+            put_place("assign", list, to);
+            new.get()
+        }
         _ => b"".as_slice(),
     };
     if !bytes.is_empty() {

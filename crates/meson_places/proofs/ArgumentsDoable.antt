@@ -17,11 +17,13 @@ use Rattle.meson_steps.specs.declared.argument.ValueChange.{ValueChange}
 use Rattle.meson_steps.specs.declared.argument.ValueChange.TheVariants as change
 use Rattle.meson_places.specs.declared.slots.Slot.{Slot}
 use Rattle.meson_places.specs.declared.slots.Slot.TheVariants as slot
-use Rattle.meson_places.specs.Arguments.{MayBeMade, last_key, named_steps, slot_steps}
+use Rattle.meson_places.specs.Arguments.{MayBeMade, changed_steps, last_key, named_steps, slot_steps}
+use Rattle.meson_places.specs.Assignments.{changed_slot}
 use Rattle.meson_places.specs.Laws.{ArgumentStepsAreDoable, SlotIsThere}
 use Rattle.meson_places.specs.Names.{the_place}
 use Rattle.meson_places.specs.Slots.{Child, absent_slot, at_number, elements_in, in_child, nth_child, number_in, slot_from, slot_in, the_slot}
 use Rattle.meson_places.specs.TargetNames.{checked_name}
+use Rattle.meson_places.proofs.OwnAssigned.{changed_text, changed_there, changes_one_value}
 use Rattle.meson_places.proofs.NewElementsDoable.{add_doable}
 use Rattle.meson_places.proofs.SaidDoable.{remove_doable, replace_doable}
 use Rattle.meson_places.proofs.SeveralDoable.{set_all_doable}
@@ -73,7 +75,11 @@ slot_doable old is key change.Delete may s there text steps made = delete_doable
 
 pub argument_steps_are_doable : ArgumentStepsAreDoable
 argument_steps_are_doable old is n texts c may steps made =
-    let p = ok_then (the_place old n.place) (λ q. then_ok (the_slot (project old) q n.keys) (λ s. named_steps old (last_key n.keys) c may s)) steps made in
-    let s = ok_then (the_slot (project old) p.0 n.keys) (λ s. named_steps old (last_key n.keys) c may s) steps p.2 in
-    let u = ok_then (checked_name (project old) (last_key n.keys) c s.0) (λ _. slot_steps old (last_key n.keys) c may s.0) steps s.2 in
-    slot_doable old is (last_key n.keys) c may s.0 (slots_are_there (project old) p.0 n.keys s.0 s.1) (key_is_text old p.0 n.keys texts s.0 s.1) steps u.2
+    let p = ok_then (the_place old n.place) (λ q. then_ok (the_slot (project old) q n.keys) (λ s. named_steps old n (last_key n.keys) c may s)) steps made in
+    let s = ok_then (the_slot (project old) p.0 n.keys) (λ s. named_steps old n (last_key n.keys) c may s) steps p.2 in
+    let u = ok_then (checked_name (project old) (last_key n.keys) c s.0) (λ _. changed_steps old n (last_key n.keys) c may s.0) steps s.2 in
+    let t = ok_then (changed_slot old.files (project old) n c s.0) (slot_steps old (last_key n.keys) c may) steps u.2 in
+    let changed = changes_one_value old n c s.0 t.0 t.1 in
+    let there = changed_there old n s.0 t.0 (slots_are_there (project old) p.0 n.keys s.0 s.1) changed in
+    let text = changed_text old n s.0 t.0 (key_is_text old p.0 n.keys texts s.0 s.1) changed in
+    slot_doable old is (last_key n.keys) c may t.0 there text steps t.2

@@ -70,7 +70,7 @@ module _ (l : Loaded) (inner : CallRef) (e : Expression Span) (at_ : expression_
           ap (λ k. replaced ∷ rest_removed inner 1 k) (sym one)
           ∙ ap (λ b. (if b then replaced else behind_all inner 0 (record { bytes = w.bytes; node = plain w.node })) ∷ rest_removed inner 1 (suc m - 1)) (sym there)
 
-texts_in : (g : Given) (e : Expression Span) → replaces_texts g e ≡ true → is_array e ≡ true
+pub texts_in : (g : Given) (e : Expression Span) → replaces_texts g e ≡ true → is_array e ≡ true
 texts_in (given.Text text) e h = (and_parts (is_array e) (list_all is_text (elements_in e)) h).0
 texts_in (given.Switch b) e h = absurd (let no : ⊥ = cc in no)
 texts_in (given.Code code) e h = absurd (let no : ⊥ = cc in no)

@@ -97,7 +97,7 @@ kept_by {X} test (y ∷ ys) x m = go (test y) refl (kept_by test ys x) m
     go true is rest (inr n) = later (rest n)
     go false is rest n = later (rest n)
 
-every_among : {X : Type 0} (P : X → Type 0) (xs : List X) (x : X) → Every P xs → Among xs x → P x
+pub every_among : {X : Type 0} (P : X → Type 0) (xs : List X) (x : X) → Every P xs → Among xs x → P x
 every_among P [] x every m = absurd m
 every_among P (y ∷ ys) x every (inl same) = subst P same every.0
 every_among P (y ∷ ys) x every (inr m) = every_among P ys x every.1 m
@@ -138,7 +138,7 @@ every_note p = every_chosen (InProject 0 p) (NoteThere p) note_of (λ q m i is. 
 
 -- ---- a call among the parts is noted
 
-call_noted : (ps : List (Placed (Part Span))) (q : Placed (Call Span)) → Among (all_chosen part_call ps) q → Among (noted ps) (placed q.place (a_call q.it))
+pub call_noted : (ps : List (Placed (Part Span))) (q : Placed (Call Span)) → Among (all_chosen part_call ps) q → Among (noted ps) (placed q.place (a_call q.it))
 call_noted [] q m = absurd m
 call_noted (x ∷ ps) q m = go x.it (call_noted ps q) m
   where

@@ -6,7 +6,7 @@ use Rattle.meson_steps.proofs.StepsDoable.{text_written}
 use Rattle.meson_steps.proofs.WrittenArrays.{truth_written}
 use Rattle.meson_steps.specs.declared.given.Given.{Given}
 use Rattle.meson_steps.specs.declared.given.Given.TheVariants as given
-use Rattle.meson_steps.specs.Code.{IsValue}
+use Rattle.meson_steps.specs.Code.{IsExpression, IsValue}
 use Rattle.meson_steps.specs.GivenWords.{MayBeGiven}
 use Rattle.meson_places.specs.Values.{given_bytes, given_node}
 
@@ -32,6 +32,11 @@ abbrev pub given_value : (g : Given) (may : MayBeGiven g) → IsValue (given_byt
 given_value g may = record { node = given_node g may; writes = given_written g may; level = given_level g may; shallow = given_low_value g may }
 
 -- ---- by kinds
+
+pub code_expression : (g : Given) (code text : List ℕ) → g ≡ given.Code code → text ≡ code → (may : MayBeGiven g) → (x : IsExpression text) × (x.node ≡ given_node g may)
+code_expression (given.Text t) code text is same may = absurd (let no : ⊥ = cc in no)
+code_expression (given.Switch b) code text is same may = absurd (let no : ⊥ = cc in no)
+code_expression (given.Code k) code text is same may = let alike : k ≡ text = let e : k ≡ code = cc in e ∙ sym same in subst (λ t. (x : IsExpression t) × (x.node ≡ may.node)) alike (may, refl)
 
 pub flat_text : (g : Given) (text : List ℕ) → g ≡ given.Text text → (may : MayBeGiven g) → expression_depth (given_node g may) ≡ 0
 flat_text (given.Text t) text is may = refl

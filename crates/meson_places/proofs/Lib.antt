@@ -1,6 +1,11 @@
 mod AddedValues
 mod ArgumentsDoable
 mod Around
+mod AssignedDepth
+mod AssignedDoable
+mod AssignedLeft
+mod AssignedRoom
+mod AssignedPlaces
 mod ArrayLeft
 mod ArrayWritten
 mod DepthTexts
@@ -14,6 +19,7 @@ mod KeyedWritten
 mod KeysLeft
 mod LastKeys
 mod LineRanges
+mod LinesWritten
 mod ListElements
 mod ListStands
 mod ListsEdited
@@ -24,6 +30,8 @@ mod NewElementsDoable
 mod Numbers
 pub mod OneMeaning
 mod OnLines
+mod OwnAssigned
+mod OwnValues
 mod Pushed
 mod Refused
 mod RoomFound

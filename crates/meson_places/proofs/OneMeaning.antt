@@ -34,16 +34,18 @@ use Rattle.meson_steps.specs.WrittenTexts.{array_of_values}
 use Rattle.meson_steps.proofs.Bracketed.{complete}
 use Rattle.meson_places.specs.declared.slots.Slot.{Slot}
 use Rattle.meson_places.specs.declared.slots.Slot.TheVariants as slot
-use Rattle.meson_places.specs.Arguments.{MayBeMade, argument_steps, last_key, named_steps, set_within, slot_steps}
+use Rattle.meson_places.specs.Arguments.{MayBeMade, argument_steps, changed_steps, last_key, named_steps, set_within, slot_steps}
+use Rattle.meson_places.specs.Assignments.{changed_slot}
 use Rattle.meson_places.specs.TargetNames.{checked_name}
 use Rattle.meson_places.specs.Colons.{ends_among, ends_in_file}
-use Rattle.meson_places.specs.Changes.{added_to, element_child, set_there, slot_place}
+use Rattle.meson_places.specs.AssignedValues.{assigned_room, is_assigned}
+use Rattle.meson_places.specs.Changes.{added_to, element_child, set_assigned, set_there, set_whole, slot_place}
 use Rattle.meson_places.specs.NamedValues.{value_place}
 use Rattle.meson_places.specs.Names.{found_by_id, found_within, numbered_file, places_by_id, places_on, beginning_among, lists_among, project_there, searched, searched_file, the_place}
 use Rattle.meson_places.specs.Equality.{is_old, lists_say, says}
 use Rattle.meson_places.specs.NewElements.{add_steps, add_there, add_to_last, add_to_lone, add_to_value, add_to_whole, array_with, beside, fresh_written, lone_token}
 use Rattle.meson_places.specs.Removals.{remove_by, remove_from, remove_steps, remove_there, remove_whole, says_other}
-use Rattle.meson_places.specs.Replacements.{Exchange, exchange, exchange_steps, replace_by, replace_in, replace_there, replace_whole}
+use Rattle.meson_places.specs.Replacements.{Exchange, exchange, exchange_steps, replace_by, replace_in, replace_there, replace_whole, if_assigned, replace_assigned}
 use Rattle.meson_places.specs.SaidElements.{lists_edited, says_one}
 use Rattle.meson_places.specs.ValueLists.{ValueList, last_of, lists_of}
 use Rattle.meson_places.specs.Room.{has_room, list_in_trees}
@@ -153,7 +155,8 @@ steps_one l key change.Delete m k s = refl
 
 pub arguments_one : (l : Loaded) (n : ValueName) (c : ValueChange) (m k : MayBeMade c) → argument_steps l n c m ≡ argument_steps l n c k
 arguments_one l n c m k =
-    then_alike (the_place l n.place) _ _ (λ p. then_alike (the_slot (project l) p n.keys) _ _ (λ s. then_alike (checked_name (project l) (last_key n.keys) c s) _ _ (λ _. steps_one l (last_key n.keys) c m k s)))
+    then_alike (the_place l n.place) _ _ (λ p. then_alike (the_slot (project l) p n.keys) _ _ (λ s.
+    then_alike (checked_name (project l) (last_key n.keys) c s) _ _ (λ _. then_alike (changed_slot l.files (project l) n c s) _ _ (λ t. steps_one l (last_key n.keys) c m k t))))
 
 -- ---- the steps, by the files and trees of a project
 
@@ -186,7 +189,15 @@ module _ (p q : Loaded) (same_files : p.files ≡ q.files) (same_trees : trees p
       alike (λ fs ts. then_ok (set_there g w key list n (element_child (named_trees fs ts) list n)) (λ steps. if has_room w.node (list_in_trees (map erase ts) list) then Ok steps else Err TooDeep))
   set_same g w key (slot.Absent list k) =
       alike (λ fs ts. then_ok (added_to (bytes_at list.file fs) (ends_among list.file (nth_file (named_trees fs ts) list.file)) w k list (expression_at (named_trees fs ts) list)) (λ steps. if has_room w.node (list_in_trees (map erase ts) list) then Ok steps else Err TooDeep))
-  set_same g w key (slot.Whole c) = refl
+  set_same g w key (slot.Whole c) =
+      ap (λ o. then_ok (set_whole p g w key c o) (λ steps. if assigned_room c w.node then Ok steps else Err TooDeep)) (alike (λ fs ts. expression_at (named_trees fs ts) c)) ∙ go (expression_at (project q) c)
+    where
+      go : (o : Option (Expression Span)) → then_ok (set_whole p g w key c o) (λ steps. if assigned_room c w.node then Ok steps else Err TooDeep)
+          ≡ then_ok (set_whole q g w key c o) (λ steps. if assigned_room c w.node then Ok steps else Err TooDeep)
+      go None = refl
+      go (Some e) =
+          ap (λ b. then_ok (if b then set_assigned g w key c e else Err (NotLiteral key)) (λ steps. if assigned_room c w.node then Ok steps else Err TooDeep))
+          (alike (λ fs ts. is_assigned (named_trees fs ts) c))
 
   all_there_same : (gs : List Given) (may : AllMayBeGiven gs) (key : List ℕ) (list : CallRef) (n : ℕ) (o : Option (Child Span)) → set_all_there p gs may key list n o ≡ set_all_there q gs may key list n o
   all_there_same gs may key list n None = refl
@@ -289,7 +300,9 @@ module _ (p q : Loaded) (same_files : p.files ≡ q.files) (same_trees : trees p
     where
       go : (o : Option (Expression Span)) → replace_whole p x key c o ≡ replace_whole q x key c o
       go None = refl
-      go (Some e) = in_same x key (Err (NotLiteral key)) (Err (NotLiteral key)) refl c e
+      go (Some e) =
+          in_same x key (if_assigned p key x c e) (if_assigned q key x c e)
+          (alike (λ fs ts. if is_assigned (named_trees fs ts) c then replace_assigned key (bytes_at c.file fs) x c e else Err (NotLiteral key))) c e
 
   slot_same : (key : List ℕ) (c : ValueChange) (may : MayBeMade c) (s : Slot) → slot_steps p key c may s ≡ slot_steps q key c may s
   slot_same key (change.Set g) may s = set_same g (written_given g may) key s
@@ -299,14 +312,18 @@ module _ (p q : Loaded) (same_files : p.files ≡ q.files) (same_trees : trees p
   slot_same key (change.Replace old new) may s = exchange_same (exchange old new may) key s
   slot_same key change.Delete may s = refl
 
-  named_same : (key : List ℕ) (c : ValueChange) (may : MayBeMade c) (s : Slot) → named_steps p key c may s ≡ named_steps q key c may s
-  named_same key c may s =
-      ap (λ r. then_ok r (λ _. slot_steps p key c may s)) (alike (λ fs ts. checked_name (named_trees fs ts) key c s))
-      ∙ then_alike (checked_name (project q) key c s) _ _ (λ _. slot_same key c may s)
+  changed_same : (n : ValueName) (key : List ℕ) (c : ValueChange) (may : MayBeMade c) (s : Slot) → changed_steps p n key c may s ≡ changed_steps q n key c may s
+  changed_same n key c may s =
+      ap (λ r. then_ok r (slot_steps p key c may)) (alike (λ fs ts. changed_slot fs (named_trees fs ts) n c s)) ∙ then_alike (changed_slot q.files (project q) n c s) _ _ (slot_same key c may)
+
+  named_same : (n : ValueName) (key : List ℕ) (c : ValueChange) (may : MayBeMade c) (s : Slot) → named_steps p n key c may s ≡ named_steps q n key c may s
+  named_same n key c may s =
+      ap (λ r. then_ok r (λ _. changed_steps p n key c may s)) (alike (λ fs ts. checked_name (named_trees fs ts) key c s))
+      ∙ then_alike (checked_name (project q) key c s) _ _ (λ _. changed_same n key c may s)
 
   pub arguments_same : (n : ValueName) (c : ValueChange) (may : MayBeMade c) → argument_steps p n c may ≡ argument_steps q n c may
   arguments_same n c may =
-      ap (λ r. then_ok r (λ x. then_ok (the_slot (project p) x n.keys) (λ s. named_steps p (last_key n.keys) c may s))) (found_same n.place.name n.place.folder)
+      ap (λ r. then_ok r (λ x. then_ok (the_slot (project p) x n.keys) (λ s. named_steps p n (last_key n.keys) c may s))) (found_same n.place.name n.place.folder)
       ∙ then_alike (the_place q n.place) _ _ (λ x.
-      ap (λ r. then_ok r (λ s. named_steps p (last_key n.keys) c may s)) (alike (λ fs ts. the_slot (named_trees fs ts) x n.keys))
-      ∙ then_alike (the_slot (project q) x n.keys) _ _ (λ s. named_same (last_key n.keys) c may s))
+      ap (λ r. then_ok r (λ s. named_steps p n (last_key n.keys) c may s)) (alike (λ fs ts. the_slot (named_trees fs ts) x n.keys))
+      ∙ then_alike (the_slot (project q) x n.keys) _ _ (λ s. named_same n (last_key n.keys) c may s))

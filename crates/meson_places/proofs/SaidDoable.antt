@@ -19,16 +19,19 @@ use Rattle.meson_steps.specs.Steps.{Step, step_in}
 use Rattle.meson_steps.specs.declared.given.Given.{Given}
 use Rattle.meson_places.specs.declared.slots.Slot.{Slot}
 use Rattle.meson_places.specs.declared.slots.Slot.TheVariants as slot
+use Rattle.meson_places.specs.AssignedValues.{assign_steps, assigned_room, is_assigned, is_one_line}
 use Rattle.meson_places.specs.Changes.{element_child}
 use Rattle.meson_places.specs.Equality.{lists_say, says}
 use Rattle.meson_places.specs.Removals.{remove_by, remove_from, remove_steps, remove_there, remove_whole, says_other}
-use Rattle.meson_places.specs.Replacements.{Exchange, exchange, exchange_steps, have_room, replace_by, replace_in, replace_lone, replace_said, replace_there, replace_whole}
+use Rattle.meson_places.specs.Replacements.{Exchange, exchange, exchange_steps, have_room, if_assigned, replace_by, replace_in, replace_lone, replace_said, replace_there, replace_whole}
 use Rattle.meson_places.specs.Room.{has_room, list_in_trees}
 use Rattle.meson_places.specs.SaidElements.{lists_edited, says_one}
 use Rattle.meson_places.specs.Slots.{Child}
 use Rattle.meson_places.specs.ValueLists.{ValueList, lists_of}
+use Rattle.meson_places.proofs.AssignedDoable.{assign_doable}
 use Rattle.meson_places.proofs.ElementsEdited.{Done}
 use Rattle.meson_places.proofs.GivenWritten.{given_level, given_written}
+use Rattle.meson_places.proofs.LinesWritten.{line_written}
 use Rattle.meson_places.proofs.ListsThere.{element_there}
 use Rattle.meson_places.proofs.SlotsDoable.{delete_doable, replaced}
 use Rattle.meson_places.proofs.ValuesEdited.{elements_become, elements_go}
@@ -109,6 +112,27 @@ lone_how l key source x list n e steps made = go (says source x.new e) (says sou
     go false true false old room m = absurd (let no : ⊥ = cc in no)
     go false false d old room m = absurd (let no : ⊥ = cc in no)
 
+pub record AssignedBecomes (l : Loaded) (source : List ℕ) (x : Exchange) (c : CallRef) (e : Expression Span) (steps : List Step) : Type 0 where
+  pub assigned : is_assigned (project l) c ≡ true
+  pub was_said : says source x.old e ≡ true
+  pub room : assigned_room c x.written.node ≡ true
+  pub line : is_one_line x.new ≡ true
+  pub are : assign_steps c x.written ≡ steps
+
+pub assigned_how : (l : Loaded) (key : List ℕ) (x : Exchange) (c : CallRef) (e : Expression Span) (steps : List Step) → if_assigned l key x c e ≡ Ok steps → AssignedBecomes l (bytes_at c.file l.files) x c e steps
+assigned_how l key x c e steps made = go (is_assigned (project l) c) (says (bytes_at c.file l.files) x.new e) (says (bytes_at c.file l.files) x.old e) (assigned_room c x.written.node) (is_one_line x.new) refl refl refl refl made
+  where
+    go : (f a b d n : Bool) → is_assigned (project l) c ≡ f → says (bytes_at c.file l.files) x.old e ≡ b → assigned_room c x.written.node ≡ d → is_one_line x.new ≡ n
+        → (if f then (if a then Err ThereAlready
+        else (if b then (if d then (if n then Ok (assign_steps c x.written) else Err (NotLiteral key)) else Err TooDeep) else Err (says_other key e))) else Err (NotLiteral key)) ≡ Ok steps
+        → AssignedBecomes l (bytes_at c.file l.files) x c e steps
+    go false a b d n there old room line m = absurd (let no : ⊥ = cc in no)
+    go true true b d n there old room line m = absurd (let no : ⊥ = cc in no)
+    go true false false d n there old room line m = absurd (let no : ⊥ = cc in no)
+    go true false true false n there old room line m = absurd (let no : ⊥ = cc in no)
+    go true false true true false there old room line m = absurd (let no : ⊥ = cc in no)
+    go true false true true true there old room line m = record { assigned = there; was_said = old; room = room; line = line; are = let same : assign_steps c x.written ≡ steps = cc in same }
+
 -- ---- the steps may be done
 
 module _ (old : Loaded) (is : IsProject old) where
@@ -161,7 +185,11 @@ module _ (old : Loaded) (is : IsProject old) where
       where
         go : (o : Option (Expression Span)) → expression_at (project old) c ≡ o → replace_whole old x key c o ≡ Ok steps → AreDoable steps before
         go None at_ m = absurd (let no : ⊥ = cc in no)
-        go (Some e) at_ m = in_doable (Err (NotLiteral key)) c e at_ steps (λ h. absurd (let no : ⊥ = cc in no)) m
+        go (Some e) at_ m =
+            in_doable (if_assigned old key x c e) c e at_ steps
+            (λ k.
+            let b = assigned_how old key x c e steps k in
+            subst (λ ss. AreDoable ss before) b.are (assign_doable old is c b.assigned x.written (line_written new may b.line) (given_level new may) b.room)) m
     replace_doable (slot.Element list n) steps made = go (element_child (project old) list n) refl made
       where
         go : (o : Option (Child Span)) → element_child (project old) list n ≡ o → replace_there old x key list n o ≡ Ok steps → AreDoable steps before

@@ -8,7 +8,7 @@ use Rattle.meson_syntax.specs.Tree.{Expression, Nowhere, Plain}
 use Rattle.meson_edit.specs.Edits.{Remove, is_empty}
 use Rattle.meson_calls.specs.declared.call.CallRef.{CallRef}
 use Rattle.meson_calls.specs.declared.refusal.Refusal.{Refusal}
-use Rattle.meson_calls.specs.declared.refusal.Refusal.TheVariants.{NoSuchValue, NotLiteral, NotRemovable}
+use Rattle.meson_calls.specs.declared.refusal.Refusal.TheVariants.{NoSuchValue, NotRemovable}
 use Rattle.meson_calls.specs.Loading.{IsProject, Loaded, project}
 use Rattle.meson_calls.specs.Project.{child, expression_at}
 use Rattle.meson_steps.specs.GivenWords.{MayBeGiven}
@@ -17,18 +17,19 @@ use Rattle.meson_steps.specs.Steps.{Step, all_stepped, step_in}
 use Rattle.meson_steps.specs.declared.given.Given.{Given}
 use Rattle.meson_places.specs.declared.slots.Slot.TheVariants as slot
 use Rattle.meson_places.specs.Changes.{element_child}
-use Rattle.meson_places.specs.Effects.{ElementRemoved, ElementReplaced, ListsExchanged, ListsLost, LoneExchanged, LoneLost, WholeRemoved, WholeReplaced}
+use Rattle.meson_places.specs.Effects.{AssignedExchanged, ElementRemoved, ElementReplaced, ListsExchanged, ListsLost, LoneExchanged, LoneLost, WholeRemoved, WholeReplaced}
 use Rattle.meson_places.specs.Equality.{lists_say}
 use Rattle.meson_places.specs.Expressions.{ExpressionIs}
 use Rattle.meson_places.specs.Laws.{RemovesWhatIsSaid, ReplacesWhatIsSaid}
 use Rattle.meson_places.specs.Removals.{remove_from, remove_steps, remove_there, remove_whole}
-use Rattle.meson_places.specs.Replacements.{Exchange, exchange, exchange_steps, replace_in, replace_lone, replace_said, replace_there, replace_whole}
+use Rattle.meson_places.specs.Replacements.{Exchange, exchange, exchange_steps, if_assigned, replace_in, replace_lone, replace_said, replace_there, replace_whole}
 use Rattle.meson_places.specs.SaidElements.{elements_left, lists_edited, says_one, value_left}
 use Rattle.meson_places.specs.Slots.{Child}
 use Rattle.meson_places.specs.ValueLists.{ValueList, lists_of}
 use Rattle.meson_places.proofs.GivenWritten.{given_level, given_written}
 use Rattle.meson_places.proofs.ListsThere.{element_there}
-use Rattle.meson_places.proofs.SaidDoable.{ListsExchange, ListsLose, LoneGoes, lone_how, removed_how, replaced_how, said_how}
+use Rattle.meson_places.proofs.AssignedDoable.{assigned_left}
+use Rattle.meson_places.proofs.SaidDoable.{assigned_how, ListsExchange, ListsLose, LoneGoes, lone_how, removed_how, replaced_how, said_how}
 use Rattle.meson_places.proofs.SetValues.{deletes_one_element, set_one}
 use Rattle.meson_places.proofs.ValuesEdited.{ValueEdited, elements_become, elements_go}
 
@@ -124,13 +125,17 @@ module _ (l : Loaded) (is : IsProject l) (steps : List Step) (after : List Plain
     pub whole_replaced : (c : CallRef) → exchange_steps l (exchange was new may) key (slot.Whole c) ≡ Ok steps → WholeReplaced l was new c before after
     whole_replaced c made = go (expression_at (project l) c) refl made
       where
-        one : (e : Expression Span) → ListsExchanged l was new may c e before after ⊎ ⊥ → ListsExchanged l was new may c e before after
-        one e (inl x) = x
-        one e (inr never) = absurd never
-
         go : (o : Option (Expression Span)) → expression_at (project l) c ≡ o → replace_whole l (exchange was new may) key c o ≡ Ok steps → WholeReplaced l was new c before after
         go None at_ m = absurd (let no : ⊥ = cc in no)
-        go (Some e) at_ m = record { may = may; value = e; is_value = at_; replaced = one e (in_left c e at_ (Err (NotLiteral key)) ⊥ (λ h. let no : ⊥ = cc in no) m) }
+        go (Some e) at_ m = record {
+          may = may;
+          value = e;
+          is_value = at_;
+          replaced = in_left c e at_ (if_assigned l key (exchange was new may) c e) (AssignedExchanged l was new may c e before after)
+              (λ k.
+              let b = assigned_how l key (exchange was new may) c e steps k in
+              record { assigned = b.assigned; was_said = b.was_said; now = assigned_left c (exchange was new may).written before after (ap (λ ss. all_stepped ss before) b.are ∙ done) }) m;
+        }
 
 -- ---- the laws
 

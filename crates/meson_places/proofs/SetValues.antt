@@ -18,14 +18,14 @@ use Rattle.meson_places.specs.Values.{keeps_kind}
 
 -- ---- one of some trees is changed
 
-record Changed {X : Type 0} (i : ℕ) (change : X → Option X) (before after : List X) : Type 0 where
-  was : X
-  now : X
-  is_was : nth before i ≡ Some was
-  is_now : change was ≡ Some now
-  is_after : changed_at i (λ x. Some now) before ≡ Some after
+pub record Changed {X : Type 0} (i : ℕ) (change : X → Option X) (before after : List X) : Type 0 where
+  pub was : X
+  pub now : X
+  pub is_was : nth before i ≡ Some was
+  pub is_now : change was ≡ Some now
+  pub is_after : changed_at i (λ x. Some now) before ≡ Some after
 
-changed : {X : Type 0} (i : ℕ) (change : X → Option X) (before after : List X) → changed_at i change before ≡ Some after → Changed i change before after
+pub changed : {X : Type 0} (i : ℕ) (change : X → Option X) (before after : List X) → changed_at i change before ≡ Some after → Changed i change before after
 changed i change [] after is = absurd (let no : ⊥ = cc in no)
 changed {X} zero change (x ∷ xs) after is = go (change x) refl is
   where

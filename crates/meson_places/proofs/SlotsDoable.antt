@@ -18,7 +18,7 @@ use Rattle.meson_edit.specs.Sequences.{MayFollow}
 use Rattle.meson_edit.proofs.paths.Mapped.{nth_map}
 use Rattle.meson_calls.specs.declared.call.CallRef.{CallRef}
 use Rattle.meson_calls.specs.declared.refusal.Refusal.{Refusal}
-use Rattle.meson_calls.specs.declared.refusal.Refusal.TheVariants.{BadName, OtherKind, TooDeep}
+use Rattle.meson_calls.specs.declared.refusal.Refusal.TheVariants.{BadName, NotLiteral, OtherKind, TooDeep}
 use Rattle.meson_calls.specs.Loading.{IsProject, Loaded, project}
 use Rattle.meson_calls.specs.Project.{child, expression_at}
 use Rattle.meson_steps.specs.ListSteps.{AreDoable, MayStandBetween, none}
@@ -30,15 +30,18 @@ use Rattle.meson_places.specs.declared.slots.Slot.{Slot}
 use Rattle.meson_places.specs.declared.slots.Slot.TheVariants as slot
 use Rattle.meson_steps.specs.declared.given.Given.{Given}
 use Rattle.meson_steps.specs.declared.given.Given.TheVariants as given
-use Rattle.meson_places.specs.Arguments.{set_within, slot_list}
-use Rattle.meson_places.specs.Changes.{added_there, added_to, alone_in_array, behind_all, delete_steps, element_child, keyword_behind, replaces_texts, rest_removed, set_steps, set_there, written_entry, written_keyword}
+use Rattle.meson_places.specs.Arguments.{if_room_at, room_at, set_within}
+use Rattle.meson_places.specs.AssignedValues.{assign_steps, assigned_room, is_assigned, is_one_line}
+use Rattle.meson_places.specs.Changes.{added_there, added_to, alone_in_array, behind_all, delete_steps, element_child, keyword_behind, replaces_texts, rest_removed, set_steps, set_there, set_whole, written_entry, written_keyword}
 use Rattle.meson_places.specs.Laws.{SlotIsThere}
-use Rattle.meson_places.specs.Room.{has_room, if_room, list_in_trees}
+use Rattle.meson_places.specs.Room.{has_room, list_in_trees}
 use Rattle.meson_places.specs.Slots.{Child, elements_in, list_kind}
 use Rattle.meson_steps.specs.GivenWords.{MayBeGiven}
 use Rattle.meson_places.specs.Values.{is_array, is_identifier, keeps_kind, written_given}
 use Rattle.meson_places.specs.Colons.{colon_text, ends_in_file, is_spaced_in}
+use Rattle.meson_places.proofs.AssignedDoable.{assign_doable}
 use Rattle.meson_places.proofs.GivenWritten.{given_level, given_written}
+use Rattle.meson_places.proofs.LinesWritten.{line_written}
 use Rattle.meson_steps.proofs.Identifiers.{identifier_true}
 use Rattle.meson_places.proofs.KeyedWritten.{entry_written, keyword_written}
 use Rattle.meson_places.proofs.ListStands.{ListStands, behind_step, remove_step, replace_step, xs}
@@ -208,10 +211,28 @@ KeyIsText (slot.Absent list key) = IsUtf8 key
 KeyIsText (slot.Whole c) = Unit {0}
 
 module _ (old : Loaded) (is : IsProject old) (g : Given) (may : MayBeGiven g) (key : List ℕ) where
-  set_doable : (s : Slot) → KeyIsText s → has_room (written_given g may).node (list_in_trees (plain_trees old) (slot_list s)) ≡ true → (steps : List Step) → set_steps old g (written_given g may) key s ≡ Ok steps → AreDoable steps (plain_trees old)
+  whole_doable : (c : CallRef) (o : Option (Expression Span)) → expression_at (project old) c ≡ o → assigned_room c (written_given g may).node ≡ true → (steps : List Step) → set_whole old g (written_given g may) key c o ≡ Ok steps → AreDoable steps (plain_trees old)
+  whole_doable c None at_ room steps made = absurd (let no : ⊥ = cc in no)
+  whole_doable c (Some e) at_ room steps made = go (is_assigned (project old) c) (keeps_kind g e) (is_one_line g) (replaces_texts g e) refl refl refl made
+    where
+      go : (a b d t : Bool) → is_assigned (project old) c ≡ a → is_one_line g ≡ d → replaces_texts g e ≡ t
+          → (if a then (if b then (if d then Ok (assign_steps c (written_given g may)) else Err (NotLiteral key))
+          else (if t then Ok (alone_in_array c (length (elements_in e)) (written_given g may)) else Err (OtherKind key))) else Err (NotLiteral key)) ≡ Ok steps → AreDoable steps (plain_trees old)
+      go true true true t there line texts m =
+          let same : assign_steps c (written_given g may) ≡ steps = cc in
+          subst (λ ss. AreDoable ss (plain_trees old)) same (assign_doable old is c there (written_given g may) (line_written g may line) (given_level g may) room)
+      go true false d true there line texts m =
+          let same : alone_in_array c (length (elements_in e)) (written_given g may) ≡ steps = cc in
+          subst (λ ss. AreDoable ss (plain_trees old)) same
+          (alone_doable old is (written_given g may) (given_written g may) (given_level g may) e (array_of_texts g e texts) (flat_text g may e texts) c at_)
+      go false b d t there line texts m = absurd (let no : ⊥ = cc in no)
+      go true true false t there line texts m = absurd (let no : ⊥ = cc in no)
+      go true false d false there line texts m = absurd (let no : ⊥ = cc in no)
+
+  set_doable : (s : Slot) → KeyIsText s → room_at old s (written_given g may).node ≡ true → (steps : List Step) → set_steps old g (written_given g may) key s ≡ Ok steps → AreDoable steps (plain_trees old)
   set_doable (slot.Element list n) text room steps made = set_there_doable old is g may key list n (element_child (project old) list n) refl room steps made
   set_doable (slot.Absent list k) text room steps made = added_doable old is (written_given g may) (given_written g may) (given_level g may) k text (bytes_at list.file old.files) (ends_in_file old list.file) list room (expression_at (project old) list) refl steps made
-  set_doable (slot.Whole c) text room steps made = absurd (let no : ⊥ = cc in no)
+  set_doable (slot.Whole c) text room steps made = whole_doable c (expression_at (project old) c) refl room steps made
 
   pub set_within_doable : (s : Slot) → KeyIsText s → (steps : List Step) → set_within old g (written_given g may) key s ≡ Ok steps → AreDoable steps (plain_trees old)
   set_within_doable s text steps made = go (set_steps old g (written_given g may) key s) refl made
@@ -219,12 +240,12 @@ module _ (old : Loaded) (is : IsProject old) (g : Given) (may : MayBeGiven g) (k
       node : Expression Nowhere
       node = (written_given g may).node
 
-      roomed : (ss : List Step) (b : Bool) → set_steps old g (written_given g may) key s ≡ Ok ss → has_room node (list_in_trees (plain_trees old) (slot_list s)) ≡ b → (if b then Ok ss else Err TooDeep) ≡ Ok steps → AreDoable steps (plain_trees old)
+      roomed : (ss : List Step) (b : Bool) → set_steps old g (written_given g may) key s ≡ Ok ss → room_at old s node ≡ b → (if b then Ok ss else Err TooDeep) ≡ Ok steps → AreDoable steps (plain_trees old)
       roomed ss true h room m = let same : ss ≡ steps = cc in subst (λ x. AreDoable x (plain_trees old)) same (set_doable s text room ss h)
       roomed ss false h room m = absurd (let no : ⊥ = cc in no)
 
-      go : (r : Result (List Step) Refusal) → set_steps old g (written_given g may) key s ≡ r → then_ok r (if_room old (slot_list s) node) ≡ Ok steps → AreDoable steps (plain_trees old)
-      go (Ok ss) h m = roomed ss (has_room node (list_in_trees (plain_trees old) (slot_list s))) h refl m
+      go : (r : Result (List Step) Refusal) → set_steps old g (written_given g may) key s ≡ r → then_ok r (if_room_at old s node) ≡ Ok steps → AreDoable steps (plain_trees old)
+      go (Ok ss) h m = roomed ss (room_at old s node) h refl m
       go (Err e) h m = absurd (let no : ⊥ = cc in no)
 
 -- ---- deleting

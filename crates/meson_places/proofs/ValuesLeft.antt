@@ -1,5 +1,5 @@
 -- What a change of one value leaves.
-use Rattle.std.proofs.Common.{◌≡◌, ℕ, true, false, List, [], ◌∷◌, Option, Some, None, Result, Ok, Err, refl, ap, ◌∙◌, inl, inr, sym}
+use Rattle.std.proofs.Common.{Err, List, None, Ok, Option, Result, Some, ℕ, ◌∙◌, ◌∷◌, ◌≡◌, [], ap, false, inl, inr, refl, sym, true}
 use Rattle.std.specs.Prelude.{Bool, ◌⊎◌, if◌then◌else◌}
 use Rattle.meson_lex.specs.declared.kinds.Span.{Span}
 use Rattle.meson_splice.specs.Files.{bytes_at}
@@ -20,11 +20,14 @@ use Rattle.meson_steps.specs.ResultLimits.{plain_trees}
 use Rattle.meson_steps.specs.Steps.{Step, all_stepped, step_in}
 use Rattle.meson_places.specs.declared.slots.Slot.{Slot}
 use Rattle.meson_places.specs.declared.slots.Slot.TheVariants as slot
-use Rattle.meson_places.specs.Arguments.{MayBeMade, argument_steps, last_key, named_steps, set_within, slot_steps}
+use Rattle.meson_places.specs.Arguments.{MayBeMade, argument_steps, changed_steps, if_room_at, last_key, named_steps, set_within, slot_steps}
 use Rattle.meson_places.specs.TargetNames.{checked_name}
 use Rattle.meson_places.specs.Changes.{element_child, set_steps, set_there}
 use Rattle.meson_places.specs.Equality.{lists_say, says}
-use Rattle.meson_places.specs.Effects.{AddedBeside, AddedTo, ElementAdded, IsBeside, WholeAdded, SetLeft, SlotLeft, ValueLeft}
+use Rattle.meson_places.specs.Effects.{AddedBeside, AddedTo, AssignedSet, ElementAdded, IsBeside, SetLeft, SlotLeft, ValueLeft, WholeAdded}
+use Rattle.meson_places.specs.AssignedValues.{assigned_room}
+use Rattle.meson_places.proofs.AssignedLeft.{assigned_set}
+use Rattle.meson_places.specs.Assignments.{changed_slot}
 use Rattle.meson_places.specs.Names.{the_place}
 use Rattle.meson_places.specs.NewElements.{add_steps, add_there, add_to_last, add_to_lone, add_to_value, add_to_whole, array_with, beside, fresh_written, lone_token}
 use Rattle.meson_places.specs.Room.{if_room}
@@ -39,6 +42,7 @@ use Rattle.meson_places.proofs.SaidLeft.{element_removed, element_replaced, whol
 use Rattle.meson_places.proofs.ElementsLeft.{text_alone}
 use Rattle.meson_places.proofs.KeysLeft.{array_added, array_set, key_set}
 use Rattle.meson_places.proofs.SetValues.{deletes_one_element, keeps_kinds, set_one, sets_one_value}
+use Rattle.meson_places.proofs.OwnAssigned.{changes_one_value}
 use Rattle.meson_places.proofs.SlotsThere.{slots_are_there}
 use Rattle.meson_places.proofs.WithRoom.{with_room}
 
@@ -56,6 +60,19 @@ set_left l g may key list n steps after made done =
       now = λ kept. sets_one_value l g w key list n m.value m.is_value kept steps is (plain_trees l) after done;
       alone = λ v there other texts. text_alone l g w key list n steps after done v there (sym (ap (set_there g w key list n) there) ∙ is) other texts;
     }
+
+-- an assigned value
+assigned_set_left : (l : Loaded) (g : Given) (may : MayBeGiven g) (key : List ℕ) (c : CallRef) (steps : List Step) (after : List Plain)
+    → set_within l g (written_given g may) key (slot.Whole c) ≡ Ok steps → all_stepped steps (plain_trees l) ≡ Some after → AssignedSet l g c (plain_trees l) after
+assigned_set_left l g may key c steps after made done =
+    let w = written_given g may in
+    let s = ok_then (set_steps l g w key (slot.Whole c)) (if_room_at l (slot.Whole c) w.node) steps made in
+    let same : s.0 ≡ steps = roomed (assigned_room c w.node) s.0 s.2 in
+    assigned_set l g may key c s.0 after (ap (λ ss. all_stepped ss (plain_trees l)) same ∙ done) (expression_at (project l) c) refl s.1
+  where
+    roomed : (b : Bool) (some : List Step) → (if b then Ok some else Err TooDeep) ≡ Ok steps → some ≡ steps
+    roomed true some h = cc
+    roomed false some h = absurd (let no : ⊥ = cc in no)
 
 -- values that are added
 module _ (l : Loaded) (gs : List Given) (may : AllMayBeGiven gs) (key : List ℕ) (steps : List Step) (after : List Plain) (done : all_stepped steps (plain_trees l) ≡ Some after) where
@@ -119,7 +136,7 @@ slot_left : (l : Loaded) → IsProject l → (key : List ℕ) (c : ValueChange) 
     → all_stepped steps (plain_trees l) ≡ Some after → SlotLeft l c s (plain_trees l) after
 slot_left l is key (change.Set g) may (slot.Element list n) steps after made done = set_left l g may key list n steps after made done
 slot_left l is key (change.Set g) may (slot.Absent list k) steps after made done = record { may = may; added = key_set l g may key list k steps after made done }
-slot_left l is key (change.Set g) may (slot.Whole p) steps after made done = tt
+slot_left l is key (change.Set g) may (slot.Whole p) steps after made done = assigned_set_left l g may key p steps after made done
 slot_left l is key (change.SetAll gs) may (slot.Element list n) steps after made done = array_set l gs may steps after done key list n made
 slot_left l is key (change.SetAll gs) may (slot.Absent list k) steps after made done = array_added l gs may steps after done list k made
 slot_left l is key (change.SetAll gs) may (slot.Whole p) steps after made done = tt
@@ -142,14 +159,17 @@ slot_left l is key change.Delete may (slot.Whole p) steps after made done = tt
 pub values_left : (l : Loaded) → IsProject l → (n : ValueName) (c : ValueChange) (may : MayBeMade c) (steps : List Step) (after : List Plain) → argument_steps l n c may ≡ Ok steps
     → all_stepped steps (plain_trees l) ≡ Some after → ValueLeft l n c (plain_trees l) after
 values_left l is n c may steps after made done =
-    let p = ok_then (the_place l n.place) (λ q. then_ok (the_slot (project l) q n.keys) (λ s. named_steps l (last_key n.keys) c may s)) steps made in
-    let s = ok_then (the_slot (project l) p.0 n.keys) (λ t. named_steps l (last_key n.keys) c may t) steps p.2 in
-    let u = ok_then (checked_name (project l) (last_key n.keys) c s.0) (λ _. slot_steps l (last_key n.keys) c may s.0) steps s.2 in
+    let p = ok_then (the_place l n.place) (λ q. then_ok (the_slot (project l) q n.keys) (λ s. named_steps l n (last_key n.keys) c may s)) steps made in
+    let s = ok_then (the_slot (project l) p.0 n.keys) (λ t. named_steps l n (last_key n.keys) c may t) steps p.2 in
+    let u = ok_then (checked_name (project l) (last_key n.keys) c s.0) (λ _. changed_steps l n (last_key n.keys) c may s.0) steps s.2 in
+    let t = ok_then (changed_slot l.files (project l) n c s.0) (slot_steps l (last_key n.keys) c may) steps u.2 in
     record {
       place = p.0;
       is_place = p.1;
       named = s.0;
       is_named = s.1;
       is_there = slots_are_there (project l) p.0 n.keys s.0 s.1;
-      left = slot_left l is (last_key n.keys) c may s.0 steps after u.2 done;
+      changed = t.0;
+      is_changed = changes_one_value l n c s.0 t.0 t.1;
+      left = slot_left l is (last_key n.keys) c may t.0 steps after t.2 done;
     }

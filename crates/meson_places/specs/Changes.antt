@@ -18,6 +18,7 @@ use Rattle.meson_places.specs.declared.slots.Slot.{Slot}
 use Rattle.meson_places.specs.declared.slots.Slot.TheVariants as slot
 use Rattle.meson_steps.specs.declared.given.Given.{Given}
 use Rattle.meson_steps.specs.declared.given.Given.TheVariants as given
+use Rattle.meson_places.specs.AssignedValues.{assigned_if, is_assigned}
 use Rattle.meson_places.specs.Colons.{colon_text, ends_in_file, is_spaced_in}
 use Rattle.meson_places.specs.Slots.{Child, elements_in, list_kind, nth_child}
 use Rattle.meson_places.specs.Values.{are_texts, is_identifier, keeps_kind}
@@ -101,13 +102,26 @@ abbrev pub added_to : (source ends : List ℕ) → Written (Expression Nowhere) 
 added_to source ends w key list None = Err (NoSuchValue key)
 added_to source ends w key list (Some e) = added_there (is_spaced_in source ends e) w key list (list_kind e) (length (elements_in e))
 
+-- ---- set, where an assigned value is there
+
+-- of the value's own kind, or a text for an array of texts
+abbrev pub set_assigned : {S : Type 0} → Given → Written (Expression Nowhere) → (key : List ℕ) → CallRef → Expression S → Result (List Step) Refusal
+set_assigned g w key c e =
+    if keeps_kind g e then assigned_if key c g w
+    else (if replaces_texts g e then Ok (alone_in_array c (length (elements_in e)) w) else Err (OtherKind key))
+
+-- A call or a list that is no assigned value is not set.
+abbrev pub set_whole : Loaded → Given → Written (Expression Nowhere) → (key : List ℕ) → CallRef → Option (Expression Span) → Result (List Step) Refusal
+set_whole l g w key c None = Err (NoSuchValue key)
+set_whole l g w key c (Some e) = if is_assigned (project l) c then set_assigned g w key c e else Err (NotLiteral key)
+
 -- ---- the steps
 
 -- the key is the last of those that named the slot
 abbrev pub set_steps : Loaded → Given → Written (Expression Nowhere) → (key : List ℕ) → Slot → Result (List Step) Refusal
 set_steps l g w key (slot.Element list n) = set_there g w key list n (element_child (project l) list n)
 set_steps l g w key (slot.Absent list k) = added_to (bytes_at list.file l.files) (ends_in_file l list.file) w k list (expression_at (project l) list)
-set_steps l g w key (slot.Whole c) = Err (NotLiteral key)
+set_steps l g w key (slot.Whole c) = set_whole l g w key c (expression_at (project l) c)
 
 -- what is absent stays so, and an assigned value or a list itself can't be deleted
 abbrev pub delete_steps : Slot → Result (List Step) Refusal

@@ -16,11 +16,13 @@ use Rattle.meson_steps.specs.GivenWords.{MayBeGiven}
 use Rattle.meson_places.specs.declared.slots.Slot.{Slot}
 use Rattle.meson_places.specs.declared.slots.Slot.TheVariants as slot
 use Rattle.meson_places.specs.ArrayEffects.{HasValues}
+use Rattle.meson_places.specs.BehindLaws.{IsChanged}
 use Rattle.meson_places.specs.Changes.{element_child, replaces_texts}
 use Rattle.meson_places.specs.Equality.{lists_say, says}
 use Rattle.meson_places.specs.Expressions.{ExpressionIs}
 use Rattle.meson_places.specs.KeyEffects.{ArrayAdded, ArraySet, GivenAdded}
-use Rattle.meson_places.specs.Laws.{HasAlso, IsWithout, MaySet, SlotIs, SlotIsThere}
+use Rattle.meson_places.specs.AssignedValues.{is_assigned, statement_of}
+use Rattle.meson_places.specs.Laws.{AssignedIs, HasAlso, IsWithout, MaySet, SlotIs, SlotIsThere}
 use Rattle.meson_places.specs.Names.{the_place}
 use Rattle.meson_places.specs.NewElements.{array_with, fresh_written, lone_token}
 use Rattle.meson_places.specs.SaidElements.{elements_left, says_one, value_left}
@@ -37,6 +39,17 @@ pub record SetLeft (old : Loaded) (g : Given) (list : CallRef) (n : ℕ) (before
   pub now : keeps_kind g may_set.value ≡ true → SlotIs list n (given_node g may) before after
   pub alone : (v : Child Span) → element_child (project old) list n ≡ Some v → keeps_kind g v.value ≡ false → replaces_texts g v.value ≡ true
       → HasValues (child list v.number) (given_node g may ∷ []) before after
+
+-- An assigned value was there, and may be set to the given one. Where it keeps its kind, the assignment assigns that value now, and all else is as it was. Where
+-- a text takes the place of an array of texts, it is the only element of the array.
+pub record AssignedSet (old : Loaded) (g : Given) (c : CallRef) (before after : List Plain) : Type 0 where
+  pub value : Expression Span
+  pub is_value : expression_at (project old) c ≡ Some value
+  pub assigned : is_assigned (project old) c ≡ true
+  pub kept : (keeps_kind g value ≡ true) ⊎ (replaces_texts g value ≡ true)
+  pub may : MayBeGiven g
+  pub now : keeps_kind g value ≡ true → AssignedIs (statement_of c) (given_node g may) before after
+  pub alone : keeps_kind g value ≡ false → replaces_texts g value ≡ true → HasValues c (given_node g may ∷ []) before after
 
 -- The last list of a value has also the new ones.
 pub record AddedTo (old : Loaded) (gs : List Given) (may : AllMayBeGiven gs) (c : CallRef) (e : Expression Span) (before after : List Plain) : Type 0 where
@@ -112,16 +125,23 @@ pub record ElementReplaced (old : Loaded) (was new : Given) (list : CallRef) (n 
   pub is_value : element_child (project old) list n ≡ Some value
   pub replaced : ListsExchanged old was new may (child list value.number) value.value before after ⊎ LoneExchanged old was new may list n value.value before after
 
+-- An assigned value without a list said the old value, and is the new one.
+pub record AssignedExchanged (old : Loaded) (was new : Given) (may : MayBeGiven new) (c : CallRef) (e : Expression Span) (before after : List Plain) : Type 0 where
+  pub assigned : is_assigned (project old) c ≡ true
+  pub was_said : says (bytes_at c.file old.files) was e ≡ true
+  pub now : AssignedIs (statement_of c) (given_node new may) before after
+
 pub record WholeReplaced (old : Loaded) (was new : Given) (c : CallRef) (before after : List Plain) : Type 0 where
   pub may : MayBeGiven new
   pub value : Expression Span
   pub is_value : expression_at (project old) c ≡ Some value
-  pub replaced : ListsExchanged old was new may c value before after
+  pub replaced : ListsExchanged old was new may c value before after ⊎ AssignedExchanged old was new may c value before after
 
 -- what a change leaves of a slot
 abbrev pub SlotLeft : Loaded → ValueChange → Slot → (before after : List Plain) → Type 0
 SlotLeft old (change.Set g) (slot.Element list n) before after = SetLeft old g list n before after
 SlotLeft old (change.Set g) (slot.Absent list key) before after = GivenAdded old g list key before after
+SlotLeft old (change.Set g) (slot.Whole c) before after = AssignedSet old g c before after
 SlotLeft old (change.SetAll gs) (slot.Element list n) before after = ArraySet old gs list n before after
 SlotLeft old (change.SetAll gs) (slot.Absent list key) before after = ArrayAdded old gs list key before after
 SlotLeft old (change.Add gs) (slot.Element list n) before after = ElementAdded old gs list n before after
@@ -135,11 +155,14 @@ SlotLeft old change.Delete (slot.Element list n) before after = IsWithout list n
 SlotLeft old change.Delete (slot.Absent list key) before after = after ≡ before
 SlotLeft old _ _ before after = Unit {0}
 
--- The name leads to one slot, which is there, and the change leaves this of it.
+-- The name leads to one slot, which is there. The change leaves this of it; or of the value of a variable that nobody else reads, where its value is that
+-- one; or of what is added to the variable that is named.
 pub record ValueLeft (old : Loaded) (name : ValueName) (c : ValueChange) (before after : List Plain) : Type 0 where
   pub place : CallRef
   pub is_place : the_place old name.place ≡ Ok place
   pub named : Slot
   pub is_named : the_slot (project old) place name.keys ≡ Ok named
   pub is_there : SlotIsThere (project old) named
-  pub left : SlotLeft old c named before after
+  pub changed : Slot
+  pub is_changed : IsChanged old name named changed
+  pub left : SlotLeft old c changed before after

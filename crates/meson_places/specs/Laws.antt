@@ -5,6 +5,7 @@ use Rattle.std.specs.Str.{IsUtf8}
 use Rattle.meson_lex.specs.declared.kinds.Span.{Span}
 use Rattle.meson_syntax.specs.Paths.{ListAt, list_at, nth}
 use Rattle.meson_syntax.specs.Tree.{Argument, plain, Expression, Nowhere, Plain}
+use Rattle.meson_edit.specs.Assigned.{AssignedAt, assigned_at}
 use Rattle.meson_edit.specs.Edits.{Written, elements, with_elements, with_value}
 use Rattle.meson_splice.specs.Files.{bytes_at}
 use Rattle.meson_calls.specs.declared.call.CallRef.{CallRef}
@@ -125,6 +126,14 @@ abbrev pub KeepsKind : Type 0
 KeepsKind = (l : Loaded) (g : Given) (w : Written (Expression Nowhere)) (key : List ℕ) (list : CallRef) (n : ℕ) (steps : List Step)
     → set_steps l g w key (slot.Element list n) ≡ Ok steps
     → MaySet l g list n
+
+-- The assignment at a place assigns this value, and all else in the trees is as it was: its name, its operator, and all other statements.
+pub record AssignedIs (statement : CallRef) (now : Expression Nowhere) (before after : List Plain) : Type 0 where
+  pub tree : Plain
+  pub is_tree : nth before statement.file ≡ Some tree
+  pub place : AssignedAt Nowhere
+  pub is_place : assigned_at tree statement.path.steps ≡ Some place
+  pub is_after : changed_at statement.file (λ t. Some (place.back now)) before ≡ Some after
 
 -- ---- elements that are deleted
 

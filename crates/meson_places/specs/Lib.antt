@@ -1,5 +1,9 @@
+pub mod AssignedValues
 pub mod Arguments
 pub mod ArrayEffects
+pub mod Assignments
+pub mod Behind
+pub mod BehindLaws
 pub mod Changes
 pub mod Colons
 pub mod ColonLaws
@@ -17,6 +21,7 @@ pub mod ValueLists
 pub mod Values
 pub mod Slots
 pub mod TargetNames
+pub mod Uses
 pub mod Laws
 pub mod LineLaws
 pub mod Effects

@@ -16,6 +16,7 @@ use Rattle.meson_steps.specs.Steps.{Step, step_in}
 use Rattle.meson_steps.specs.declared.given.Given.{Given}
 use Rattle.meson_places.specs.declared.slots.Slot.{Slot}
 use Rattle.meson_places.specs.declared.slots.Slot.TheVariants as slot
+use Rattle.meson_places.specs.AssignedValues.{assigned_roomy, is_assigned}
 use Rattle.meson_places.specs.Changes.{element_child}
 use Rattle.meson_places.specs.Equality.{lists_say, says}
 use Rattle.meson_places.specs.Removals.{says_other}
@@ -52,6 +53,12 @@ replace_lone l key source x list n e =
     if says source x.new e then Err ThereAlready
     else (if says source x.old e then if_room l list x.written.node (step_in list (Replace list.path.steps n x.written) ∷ []) else Err (says_other key e))
 
+-- An assigned value does.
+abbrev pub replace_assigned : (key source : List ℕ) → Exchange → CallRef → Expression Span → Result (List Step) Refusal
+replace_assigned key source x c e =
+    if says source x.new e then Err ThereAlready
+    else (if says source x.old e then assigned_roomy key c x.new x.written else Err (says_other key e))
+
 -- of a value that has lists
 abbrev pub replace_by : Loaded → (key source : List ℕ) → Exchange → (otherwise : Result (List Step) Refusal) → List (ValueList Span)
     → Result (List Step) Refusal
@@ -67,10 +74,13 @@ replace_there l x key list n None = Err (NoSuchValue key)
 replace_there l x key list n (Some v) =
     replace_in l key x (replace_lone l key (bytes_at list.file l.files) x list n v.value) (child list v.number) v.value
 
--- an assigned value that has no list stays
+-- a call or a list that is no assigned value, and has no list, stays
+abbrev pub if_assigned : Loaded → (key : List ℕ) → Exchange → CallRef → Expression Span → Result (List Step) Refusal
+if_assigned l key x c e = if is_assigned (project l) c then replace_assigned key (bytes_at c.file l.files) x c e else Err (NotLiteral key)
+
 abbrev pub replace_whole : Loaded → Exchange → (key : List ℕ) → CallRef → Option (Expression Span) → Result (List Step) Refusal
 replace_whole l x key c None = Err (NoSuchValue key)
-replace_whole l x key c (Some e) = replace_in l key x (Err (NotLiteral key)) c e
+replace_whole l x key c (Some e) = replace_in l key x (if_assigned l key x c e) c e
 
 -- The key is the last of those that named the slot.
 abbrev pub exchange_steps : Loaded → Exchange → (key : List ℕ) → Slot → Result (List Step) Refusal

@@ -6,12 +6,14 @@ ghost use Rattle.meson_calls.specs.Loading.{AreParsed, IsProject};
 ghost use Rattle.meson_calls.specs.Refusals.{RefusedAs};
 ghost use Rattle.meson_steps.specs.Meanings.{AreMeant};
 ghost use Rattle.meson_steps.specs.Plans.{ArePlanned};
-ghost use Rattle.meson_places.specs.Arguments.{MayBeMade, argument_steps, last_key, set_within, slot_list, slot_steps};
+ghost use Rattle.meson_places.specs.Arguments.{MayBeMade, argument_steps, changed_steps, last_key, room_at, set_within, slot_steps};
 ghost use Rattle.meson_places.specs.Names.{loaded_in};
 ghost use Rattle.meson_places.specs.Several.{AllMayBeGiven};
 ghost use Rattle.meson_steps.specs.GivenWords.{MayBeGiven};
-ghost use Rattle.meson_places.specs.Values.{written_given};
+ghost use Rattle.meson_places.specs.Values.{given_node, written_given};
 
+use crate::assigned::assigned_room;
+use crate::assignments::changed_slot;
 use crate::changes::{delete_steps, set_steps};
 use crate::lookup::find_place;
 use crate::name::Sources;
@@ -22,7 +24,7 @@ use crate::room::has_room;
 use crate::several::set_all;
 use crate::slots::{Slot, find_slot};
 use crate::target_names::checked_name;
-use meson_calls::{CallRef, Refusal};
+use meson_calls::Refusal;
 use meson_splice::Text;
 use meson_steps::argument::{ValueChange, ValueName};
 use meson_steps::given::Given;
@@ -79,18 +81,24 @@ pub(crate) fn last_key(alloc: Global, keys: &[Text]) -> Result<Text, AllocError>
     Ok(Text::of(String::from_str(alloc, last)?))
 }
 
-/// The list that a value is put into.
-fn slot_list(slot: &Slot) -> &CallRef
-    ensures { result.now ≡ slot_list slot.entry.now }
+/// Whether there is room for a value in its list or its assignment.
+fn room_at(
+    alloc: Global,
+    sources: Sources<'_>,
+    slot: &Slot,
+    given: &Given,
+) -> Result<bool, AllocError>
+    requires { AreParsed sources.files.now sources.trees.now }
+    ensures { (may : MayBeGiven given.now) → IfOk result (λ b. b ≡ room_at (loaded_in sources.entry) slot.now (given_node given.now may)) }
 {
     match slot {
-        Slot::Element { list, .. } => list,
-        Slot::Absent { list, .. } => list,
-        Slot::Whole(place) => place,
+        Slot::Element { list, .. } => has_room(alloc, sources, list, given),
+        Slot::Absent { list, .. } => has_room(alloc, sources, list, given),
+        Slot::Whole(place) => assigned_room(alloc, place, given),
     }
 }
 
-/// The steps that set the value of a slot, if its list has room for it.
+/// The steps that set the value of a slot, if its list or its assignment has room for it.
 ///
 /// # Errors
 /// The faults of `set_steps`, or the file with the value would nest too deep.
@@ -108,7 +116,7 @@ fn set_within(
         RefusedAs result (set_within (loaded_in sources.entry) given.now w key.now slot.now) }
 {
     let steps = set_steps(alloc, sources, given, key, slot)?;
-    if !has_room(alloc, sources, slot_list(slot), given)? {
+    if !room_at(alloc, sources, slot, given)? {
         return Err(Refusal::TooDeep);
     }
     Ok(steps)
@@ -141,11 +149,31 @@ fn slot_steps(
     }
 }
 
+/// The steps that change the value of a slot that is named, or that of the slot to which it leads.
+///
+/// # Errors
+/// The faults of `changed_slot` or `slot_steps`.
+fn changed_steps(
+    alloc: Global,
+    sources: Sources<'_>,
+    name: &ValueName,
+    key: &Text,
+    change: &ValueChange,
+    slot: Slot,
+) -> Result<Vec<ListStep>, Refusal>
+    requires { IsProject (loaded_in sources) }
+    ensures meant { (may : MayBeMade change.now) → IfOk result (λ steps. AreMeant (changed_steps (loaded_in sources.entry) name.now key.now change.now may slot) steps.items) }
+    ensures refused { (may : MayBeMade change.now) → RefusedAs result (changed_steps (loaded_in sources.entry) name.now key.now change.now may slot) }
+{
+    let changed = changed_slot(alloc, sources, name, change, slot)?;
+    slot_steps(alloc, sources, key, change, &changed)
+}
+
 /// The steps that change the value of a name. They may be done one after another on the project.
 ///
 /// # Errors
-/// The place or the value is not found; another target has the name that a target gets; the change does not suit the value; the file would nest too deep; or out
-/// of memory.
+/// The place or the value is not found; another file adds to the variable that is named; another target has the name that a target gets; the value is that of a variable which something else reads; the change
+/// does not suit the value; the file would nest too deep; or out of memory.
 pub fn argument_steps(
     alloc: Global,
     sources: Sources<'_>,
@@ -164,5 +192,5 @@ pub fn argument_steps(
     let slot = find_slot(alloc, sources, &place, keys)?;
     let key = last_key(alloc, keys)?;
     checked_name(alloc, sources, &key, change, &slot)?;
-    slot_steps(alloc, sources, &key, change, &slot)
+    changed_steps(alloc, sources, name, &key, change, slot)
 }

@@ -14,7 +14,8 @@ ghost use Rattle.meson_calls.specs.Loading.{AreParsed, project};
 ghost use Rattle.meson_calls.specs.Strings.{AreGood};
 ghost use Rattle.meson_steps.specs.ListSteps.{AreBare, bare};
 ghost use Rattle.meson_steps.specs.Meanings.{AreMeant};
-ghost use Rattle.meson_places.specs.Changes.{alone_in_array, delete_steps, element_child, replaces_texts, rest_removed, set_steps, set_there};
+ghost use Rattle.meson_calls.specs.Project.{expression_at};
+ghost use Rattle.meson_places.specs.Changes.{alone_in_array, delete_steps, element_child, replaces_texts, rest_removed, set_assigned, set_steps, set_there, set_whole};
 ghost use Rattle.meson_calls.specs.Refusals.{RefusedAs};
 ghost use Rattle.meson_places.specs.Names.{loaded_in};
 ghost use Rattle.meson_steps.specs.GivenWords.{MayBeGiven};
@@ -22,6 +23,7 @@ ghost use Rattle.meson_places.specs.Values.{are_texts, is_array, is_text, keeps_
 ghost use Rattle.meson_places.specs.inside.Wanted.{child_view};
 
 use crate::additions::added_to;
+use crate::assigned::{assign_steps, is_assigned};
 use crate::name::Sources;
 use crate::slots::{ChildValue, Slot, elements_in, nth_child};
 use crate::values::given_bytes;
@@ -239,11 +241,72 @@ fn replace_steps(
     Err(Refusal::OtherKind(key.clone()?))
 }
 
+/// The steps that set an assigned value.
+///
+/// # Errors
+/// The value would not keep its kind, it is code of more than one line, or out of memory.
+fn set_assigned(
+    alloc: Global,
+    source: &[u8],
+    given: &Given,
+    key: &Text,
+    place: &CallRef,
+    value: &Expr,
+) -> Result<Vec<ListStep>, Refusal>
+    requires { AreGood (expression_words (expr_view source.now value.now)) }
+    ensures meant { (may : MayBeGiven given.now) → let w = written_given given.now may in
+        IfOk result (λ steps. AreMeant (set_assigned given.now w key.now place.now (expr_view source.now value.now)) steps.items) }
+    ensures refused { (w : Written (Expression Nowhere)) → RefusedAs result (set_assigned given.now w key.now place.now (expr_view source.now value.now)) }
+{
+    if keeps_kind(alloc, source, given, value)? {
+        return assign_steps(alloc, place, given, key);
+    }
+    if replaces_texts(alloc, source, given, value)? {
+        let many = elements_in(value).len();
+        let new = given_bytes(alloc, given)?;
+        return Ok(alone_in_array(alloc, place, many, new)?);
+    }
+    Err(Refusal::OtherKind(key.clone()?))
+}
+
+/// The steps that set the expression at a place, if an assignment assigns it.
+///
+/// # Errors
+/// The expression is no assigned value, or the faults of `set_assigned`.
+fn set_whole(
+    alloc: Global,
+    sources: Sources<'_>,
+    given: &Given,
+    key: &Text,
+    place: &CallRef,
+) -> Result<Vec<ListStep>, Refusal>
+    requires { AreParsed sources.files.now sources.trees.now }
+    ensures meant { (may : MayBeGiven given.now) → let w = written_given given.now may in let l = loaded_in sources.entry in
+        IfOk result (λ steps. AreMeant (set_whole l given.now w key.now place.now (expression_at (project l) place.now)) steps.items) }
+    ensures refused { (w : Written (Expression Nowhere)) → let l = loaded_in sources.entry in
+        RefusedAs result (set_whole l given.now w key.now place.now (expression_at (project l) place.now)) }
+{
+    if place.file >= sources.trees.len() {
+        return Err(Refusal::NoSuchValue(key.clone()?));
+    }
+    match sources.trees[place.file].expr_at(&place.path) {
+        Some(value) => {
+            if !is_assigned(alloc, sources, place)? {
+                return Err(Refusal::NotLiteral(key.clone()?));
+            }
+            let source = sources.files.bytes(place.file);
+            set_assigned(alloc, source, given, key, place, value)
+        }
+        None => Err(Refusal::NoSuchValue(key.clone()?)),
+    }
+}
+
 /// The steps that set the value of a slot. A text or a truth value replaces one of its own kind; a text becomes the only element of an array of texts; code
 /// replaces any value. Where the key is absent, it is added with the value behind the last argument or entry.
 ///
 /// # Errors
-/// The value would not keep its kind; the key of a keyword argument is not an identifier; the slot is an assigned value or a list itself; or out of memory.
+/// The value would not keep its kind; the key of a keyword argument is not an identifier; the slot is a call or a list itself; code for an assigned value is of
+/// more than one line; or out of memory.
 pub fn set_steps(
     alloc: Global,
     sources: Sources<'_>,
@@ -268,6 +331,6 @@ pub fn set_steps(
             let value = given_bytes(alloc, given)?;
             added_to(alloc, sources, &value, key, list)
         }
-        Slot::Whole(_) => Err(Refusal::NotLiteral(key.clone()?)),
+        Slot::Whole(place) => set_whole(alloc, sources, given, key, place),
     }
 }

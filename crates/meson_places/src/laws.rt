@@ -1,6 +1,7 @@
 //! Laws of places. The functions do nothing: what they ensure is the law.
 
 ghost use Rattle.meson_places.specs.Laws.{AddsToOneList, ArgumentStepsAreDoable, DeletesOneElement, FindsOneCall, KeepsKind, NewAreUnknown, NewAreWritten, RemovesWhatIsSaid, ReplacesWhatIsSaid, SetsOneValue, SlotsAreThere, ValuesAreThere};
+ghost use Rattle.meson_places.specs.BehindLaws.{ChangesOneValue, ChangesOwnValue, ReadByNobodyElse};
 ghost use Rattle.meson_places.specs.ColonLaws.{TakesLastColon};
 ghost use Rattle.meson_places.specs.LineLaws.{FindsOnLine};
 
@@ -74,4 +75,19 @@ pub fn replaces_what_is_said()
 /// The steps that change a value may be done one after another.
 pub fn argument_steps_are_doable()
     ensures { ArgumentStepsAreDoable }
+{}
+
+/// Nobody else: of all that is in the files, only the identifier at the place is a variable that is read once. No call names it and no format string holds it.
+pub fn read_by_nobody_else()
+    ensures { ReadByNobodyElse }
+{}
+
+/// A change for a call is made to the value that the call has, or to the one value of a variable that nobody else reads.
+pub fn changes_own_value()
+    ensures { ChangesOwnValue }
+{}
+
+/// A change is made to the value that is named, to that of a variable that nobody else reads, or to what is added to the variable that is named.
+pub fn changes_one_value()
+    ensures { ChangesOneValue }
 {}

@@ -3,6 +3,8 @@
 
 mod additions;
 pub mod arguments;
+mod assigned;
+mod assignments;
 pub mod changes;
 mod colon;
 mod elements;
@@ -25,8 +27,10 @@ mod several;
 pub mod slots;
 pub mod spans;
 mod target_names;
+mod uses;
 mod value_lists;
 pub mod values;
+mod variables;
 
 pub use elements::ListKind;
 pub use name::Sources;

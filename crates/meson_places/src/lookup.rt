@@ -78,7 +78,7 @@ fn lists_on(
 }
 
 /// Whether places of a file are searched.
-fn is_searched(within: Option<usize>, place: &CallRef) -> bool
+pub(crate) fn is_searched(within: Option<usize>, place: &CallRef) -> bool
     ensures { result ≡ is_searched within place.now }
 {
     match within {
@@ -88,7 +88,7 @@ fn is_searched(within: Option<usize>, place: &CallRef) -> bool
 }
 
 /// Those of some places that are searched.
-fn searched(
+pub(crate) fn searched(
     alloc: Global,
     within: Option<usize>,
     places: Vec<CallRef>,

@@ -13,12 +13,13 @@ ghost use Rattle.meson_steps.specs.GivenWords.{MayBeGiven};
 ghost use Rattle.meson_steps.specs.Meanings.{AreMeant};
 ghost use Rattle.meson_steps.specs.Steps.{Step};
 ghost use Rattle.meson_places.specs.Names.{loaded_in};
-ghost use Rattle.meson_places.specs.Replacements.{exchange, exchange_steps, have_room, replace_by, replace_lone, replace_roomy, replace_said, replace_there, replace_whole};
+ghost use Rattle.meson_places.specs.Replacements.{exchange, exchange_steps, have_room, if_assigned, replace_assigned, replace_by, replace_lone, replace_roomy, replace_said, replace_there, replace_whole};
 ghost use Rattle.meson_places.specs.ValueLists.{lists_of};
 ghost use Rattle.meson_places.specs.Values.{given_node};
 ghost use Rattle.meson_places.specs.inside.Found.{AreGoodLists, found_lists};
 ghost use Rattle.meson_places.specs.inside.Wanted.{child_view};
 
+use crate::assigned::{assign_steps, assigned_room, is_assigned};
 use crate::changes::{element_child, push_edit};
 use crate::equality::{lists_say, says};
 use crate::name::Sources;
@@ -209,10 +210,61 @@ fn replace_there(
     }
 }
 
-/// The steps that replace elements of the lists of the expression at a place.
+/// The steps that replace an assigned value without a list.
 ///
 /// # Errors
-/// No expression is there, or it has no list; or the faults of `replace_in`.
+/// It says the new value, or does not say the old one; the new one is code of more than one line; the file would nest too deep; or out of memory.
+fn replace_assigned(
+    alloc: Global,
+    keyed: Keyed<'_>,
+    pair: Pair<'_>,
+    place: &CallRef,
+) -> Result<Vec<ListStep>, Refusal>
+    requires { AreGood (expression_words (expr_view keyed.source.now keyed.value.now)) }
+    ensures made { (may : MayBeGiven pair.entry.new.now) → let p = pair.entry in let k = keyed.entry in let e = expr_view k.source.now k.value.now in
+        let meant = replace_assigned k.key.now k.source.now (exchange p.old.now p.new.now may) place.now e in
+        MatchResult result (λ steps. AreMeant meant steps.items) (λ e. e ≢ OutOfMemory → meant ≡ Err e) }
+{
+    if says(alloc, keyed.source, pair.new, keyed.value)? {
+        return Err(Refusal::ThereAlready);
+    }
+    if !says(alloc, keyed.source, pair.old, keyed.value)? {
+        return Err(says_other(alloc, keyed)?);
+    }
+    if !assigned_room(alloc, place, pair.new)? {
+        return Err(Refusal::TooDeep);
+    }
+    assign_steps(alloc, place, pair.new, keyed.key)
+}
+
+/// The same, if the value is an assigned one.
+///
+/// # Errors
+/// It is not, or the faults of `replace_assigned`.
+fn if_assigned(
+    alloc: Global,
+    sources: Sources<'_>,
+    keyed: Keyed<'_>,
+    pair: Pair<'_>,
+    place: &CallRef,
+) -> Result<Vec<ListStep>, Refusal>
+    requires parsed { AreParsed sources.files.now sources.trees.now }
+    requires good { AreGood (expression_words (expr_view keyed.source.now keyed.value.now)) }
+    requires source { keyed.source.now ≡ bytes_at place.now.file sources.files.now }
+    ensures made { (may : MayBeGiven pair.entry.new.now) → let p = pair.entry in let k = keyed.entry in let e = expr_view k.source.now k.value.now in
+        let meant = if_assigned (loaded_in sources.entry) k.key.now (exchange p.old.now p.new.now may) place.now e in
+        MatchResult result (λ steps. AreMeant meant steps.items) (λ e. e ≢ OutOfMemory → meant ≡ Err e) }
+{
+    if !is_assigned(alloc, sources, place)? {
+        return Err(Refusal::NotLiteral(keyed.key.clone()?));
+    }
+    replace_assigned(alloc, keyed, pair, place)
+}
+
+/// The steps that replace elements of the lists of the expression at a place, or all of it, where it has no list and is an assigned value.
+///
+/// # Errors
+/// No expression is there; or the faults of `replace_in` or `if_assigned`.
 fn replace_whole(
     alloc: Global,
     sources: Sources<'_>,
@@ -234,7 +286,7 @@ fn replace_whole(
             let keyed = Keyed { key, source, value };
             match replace_in(alloc, sources, keyed, pair, place)? {
                 Some(steps) => Ok(steps),
-                None => Err(Refusal::NotLiteral(key.clone()?)),
+                None => if_assigned(alloc, sources, keyed, pair, place),
             }
         }
         None => Err(Refusal::NoSuchValue(key.clone()?)),
@@ -244,8 +296,8 @@ fn replace_whole(
 /// The steps that replace what says the old value by the new one: each element of the lists of the value of a slot, or a value without a list.
 ///
 /// # Errors
-/// The slot is absent, nothing says the old value, or something says the new one; the value has no list and is another expression, or an assigned one; the file
-/// would nest too deep; or out of memory.
+/// The slot is absent, nothing says the old value, or something says the new one; the value has no list and is another expression; the new value of an
+/// assignment is code of more than one line; the file would nest too deep; or out of memory.
 pub(crate) fn replace_steps(
     alloc: Global,
     sources: Sources<'_>,

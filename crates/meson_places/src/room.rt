@@ -34,7 +34,7 @@ fn nests_with(alloc: Global, tree: &Parsed, path: &Path, list: List) -> Result<b
 }
 
 /// A text in square brackets.
-fn in_brackets(alloc: Global, text: &[u8]) -> Result<Vec<u8>, AllocError>
+pub(crate) fn in_brackets(alloc: Global, text: &[u8]) -> Result<Vec<u8>, AllocError>
     ensures { IfOk result (λ v. v.items ≡ 91 ∷ (text.now ++ 93 ∷ [])) }
 {
     let mut all = Vec::from_slice(alloc, b"[")?;

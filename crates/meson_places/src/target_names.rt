@@ -31,7 +31,7 @@ fn is_first(key: &str) -> bool
 }
 
 /// Whether two places are the same.
-fn is_same(one: &CallRef, other: &CallRef) -> bool
+pub(crate) fn is_same(one: &CallRef, other: &CallRef) -> bool
     ensures { result ≡ is_same one.now other.now }
 {
     one.file == other.file && one.path.steps.get() == other.path.steps.get()

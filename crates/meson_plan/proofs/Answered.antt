@@ -11,15 +11,16 @@ use Rattle.meson_plan.specs.Listing.{kwargs_listing, target_listing, told, value
 use Rattle.meson_plan.specs.ListingLaws.{no_steps}
 use Rattle.meson_plan.specs.Performing.{MayRefuse, unplanned}
 use Rattle.meson_plan.proofs.Agreeing.{calls_agree, targets_agree, values_agree}
+use Rattle.meson_calls.specs.declared.call.CallName.{CallName}
 
-pub target-refused : (l : Loaded) (id : List ℕ) (e : Refusal) → target_listing l id ≡ Err e → MayRefuse l (command.TargetInfo id) e
+pub target-refused : (l : Loaded) (id : CallName) (e : Refusal) → target_listing l id ≡ Err e → MayRefuse l (command.TargetInfo id) e
 target-refused l id e is = unplanned e (sym (targets_agree l id) ∙ ap no_steps is)
 
-pub call-refused : (l : Loaded) (r : Role) (id : List ℕ) (e : Refusal) → kwargs_listing l r id ≡ Err e → MayRefuse l (command.KwargsInfo r id) e
+pub call-refused : (l : Loaded) (r : Role) (id : CallName) (e : Refusal) → kwargs_listing l r id ≡ Err e → MayRefuse l (command.KwargsInfo r id) e
 call-refused l r id e is = unplanned e (sym (calls_agree l r id) ∙ ap no_steps is)
 
 pub value-refused : (l : Loaded) (n : ValueName) (e : Refusal) → value_listing l n ≡ Err e → MayRefuse l (command.ArgumentInfo n) e
 value-refused l n e is = unplanned e (sym (values_agree l n) ∙ ap no_steps is)
 
-pub target-told : (l : Loaded) (id : List ℕ) (d : Data) → target_listing l id ≡ Ok d → told l (command.TargetInfo id) ≡ Ok (d ∷ [])
+pub target-told : (l : Loaded) (id : CallName) (d : Data) → target_listing l id ≡ Ok d → told l (command.TargetInfo id) ≡ Ok (d ∷ [])
 target-told l id d is = ap (λ listing. then_ok listing (λ d. Ok (d ∷ []))) is

@@ -40,9 +40,11 @@ use Rattle.meson_places.proofs.ValuesLeft.{values_left}
 use Rattle.meson_plan.specs.Performing.{Performs}
 use Rattle.meson_plan.specs.Planning.{Means}
 use Rattle.meson_plan.proofs.NamesKept.{names_kept}
+use Rattle.meson_calls.specs.declared.call.CallName.{CallName}
+use Rattle.meson_calls.specs.Searching.{anywhere}
 
 module _ (old new : Loaded) (c : Command) (done : Done) (is : IsProject old) (p : Performs old c done new) where
-  leaves : (r : Role) (id : List ℕ) (asked : Asked) → request_steps (project old) (r, id, asked) ≡ Ok p.made.steps → LeavesOf old r id asked new
+  leaves : (r : Role) (id : CallName) (asked : Asked) → request_steps (project old) (r, id, asked) ≡ Ok p.made.steps → LeavesOf old r id asked new
   leaves r id asked made texts =
       let after = ap (λ o. unwrap_or o (plain_trees old)) p.made.are_trees ∙ sym p.are_trees in
       subst (CallLeft old r id asked) after (requests-leave old is r id asked texts p.made.steps made)
@@ -53,7 +55,7 @@ module _ (old new : Loaded) (c : Command) (done : Done) (is : IsProject old) (p 
   same_names : map (λ (f : File). f.name) new.files ≡ map (λ (f : File). f.name) old.files
   same_names = ap (map (λ (f : File). f.name)) p.are_files ∙ names_kept old.files p.made.steps p.made.splices p.made.files p.made.bytes p.made.are_done
 
-  sources_come : (id : List ℕ) (names : List (List ℕ)) → then_ok (the_call (project old) role.Target id) (λ k. sources_added (project old) k names) ≡ Ok p.made.steps → SourcesCome old id names new
+  sources_come : (id : CallName) (names : List (List ℕ)) → then_ok (the_call (project old) role.Target id) (λ k. sources_added (project old) k names) ≡ Ok p.made.steps → SourcesCome old id names new
   sources_come id names made =
       let k = then_was (the_call (project old) role.Target id) (λ k. sources_added (project old) k names) p.made.steps made in
       record {
@@ -64,11 +66,11 @@ module _ (old new : Loaded) (c : Command) (done : Done) (is : IsProject old) (p 
       }
 
   -- the call of a target, whose steps these are
-  module _ (id : List ℕ) (meant : Project Span → Placed (Call Span) → Result (List Step) Refusal) (made : then_ok (the_call (project old) role.Target id) (meant (project old)) ≡ Ok p.made.steps) where
+  module _ (id : CallName) (meant : Project Span → Placed (Call Span) → Result (List Step) Refusal) (made : then_ok (the_call (project old) role.Target id) (meant (project old)) ≡ Ok p.made.steps) where
     abbrev one : (k : Placed (Call Span)) × (the_call (project old) role.Target id ≡ Ok k) × (meant (project old) k ≡ Ok p.made.steps)
     one = then_was (the_call (project old) role.Target id) (meant (project old)) p.made.steps made
 
-  sources_go : (id : List ℕ) (names : List (List ℕ)) → then_ok (the_call (project old) role.Target id) (λ k. sources_removed (project old) k names) ≡ Ok p.made.steps → SourcesGo old id names new
+  sources_go : (id : CallName) (names : List (List ℕ)) → then_ok (the_call (project old) role.Target id) (λ k. sources_removed (project old) k names) ≡ Ok p.made.steps → SourcesGo old id names new
   sources_go id names made =
       let k = one id (λ q k. sources_removed q k names) made in
       record {
@@ -78,7 +80,7 @@ module _ (old new : Loaded) (c : Command) (done : Done) (is : IsProject old) (p 
         whole = all-sources-shrink old new is same_names id k.0 k.1 names p.made.steps k.2 stepped;
       }
 
-  extras_come : (id : List ℕ) (names : List (List ℕ)) → then_ok (the_call (project old) role.Target id) (λ k. extra_added (project old) k names) ≡ Ok p.made.steps → ExtrasCome old id names new
+  extras_come : (id : CallName) (names : List (List ℕ)) → then_ok (the_call (project old) role.Target id) (λ k. extra_added (project old) k names) ≡ Ok p.made.steps → ExtrasCome old id names new
   extras_come id names made =
       let k = one id (λ q k. extra_added q k names) made in
       record {
@@ -88,7 +90,7 @@ module _ (old new : Loaded) (c : Command) (done : Done) (is : IsProject old) (p 
         whole = λ utf8. all-extras-grow old new is same_names id k.0 k.1 names utf8 p.made.steps k.2 stepped;
       }
 
-  extras_go : (id : List ℕ) (names : List (List ℕ)) → then_ok (the_call (project old) role.Target id) (λ k. extra_removed (project old) k names) ≡ Ok p.made.steps → ExtrasGo old id names new
+  extras_go : (id : CallName) (names : List (List ℕ)) → then_ok (the_call (project old) role.Target id) (λ k. extra_removed (project old) k names) ≡ Ok p.made.steps → ExtrasGo old id names new
   extras_go id names made =
       let k = one id (λ q k. extra_removed q k names) made in
       record {
@@ -98,7 +100,7 @@ module _ (old new : Loaded) (c : Command) (done : Done) (is : IsProject old) (p 
         whole = all-extras-shrink old new is same_names id k.0 k.1 names p.made.steps k.2 stepped;
       }
 
-  target_goes : (id : List ℕ) → then_ok (the_call (project old) role.Target id) (λ k. target_removed (project old) k) ≡ Ok p.made.steps → TargetGoes old id new
+  target_goes : (id : CallName) → then_ok (the_call (project old) role.Target id) (λ k. target_removed (project old) k) ≡ Ok p.made.steps → TargetGoes old id new
   target_goes id made =
       let k = one id (λ q k. target_removed q k) made in
       record { call = k.0; is_call = k.1; removed = removed-targets-are-gone old is id k.0 k.1 p.made.steps (plain_trees new) k.2 stepped }

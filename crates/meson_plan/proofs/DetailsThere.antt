@@ -22,6 +22,9 @@ use Rattle.meson_details.specs.Details.{keywords, keywords_of_call}
 use Rattle.meson_plan.specs.Details.{place_found}
 use Rattle.meson_calls.proofs.NotedCalls.{same_place}
 use Rattle.meson_calls.proofs.OneCall.{placed_at}
+use Rattle.meson_calls.specs.declared.call.CallName.{CallName}
+use Rattle.meson_calls.specs.Searching.{names_of}
+use Rattle.meson_splice.specs.declared.file_set.File.{File}
 
 -- ---- an answer about what stands there
 
@@ -41,8 +44,11 @@ placed_same (Ok c) = refl
 placed_same (Err e) = refl
 
 -- the one that an id names, looked up in notes
-pub place_there : (n : Noted) (r : Role) (id : List ℕ) → IsNotedFor r id n → (l : Loaded) → loaded_in n ≡ l → the_place r id (note_views n.notes.now) ≡ place_found (the_call (project l) r id)
-place_there n r id is l same = sym (same_place n r id is) ∙ placed_same (the_call (project_in n) r id) ∙ ap (λ k. place_found (the_call (project k) r id)) same
+pub place_there : (n : Noted) (r : Role) (name : CallName) → IsNotedFor r name.id n → (l : Loaded) → loaded_in n ≡ l → (files : List File) → n.files.now ≡ files
+    → the_place r name (names_of files) (note_views n.notes.now) ≡ place_found (the_call (project l) r name)
+place_there n r name is l same files here =
+    ap (λ fs. the_place r name (names_of fs) (note_views n.notes.now)) (sym here) ∙ sym (same_place n r name is) ∙ placed_same (the_call (project_in n) r name)
+    ∙ ap (λ k. place_found (the_call (project k) r name)) same
 
 module _ (c : CallRef) (s : Span) (f : Name Span) (l : Listing Span) where
   pub extra_there : (p : Project Span) → expression_at p c ≡ Some (call s f l) → extra_files p c ≡ Some (extra_of_call p (placed c (call_with f.text l)))

@@ -14,6 +14,7 @@ use Rattle.meson_calls.specs.Roles.{has_role, is_target, is_target_call}
 use Rattle.meson_details.specs.Details.{is_call}
 use Rattle.meson_plan.specs.Details.{place_found}
 use Rattle.meson_calls.proofs.CallsFound.{RoleAt, role_found}
+use Rattle.meson_calls.specs.declared.call.CallName.{CallName}
 
 -- ---- the place
 
@@ -33,11 +34,11 @@ target_there : (p : Project Span) (c : Placed (Call Span)) → RoleAt p role.Tar
 target_there p c found =
     ap is_target_call found.at.is_at ∙ ap (λ (k : Option (Call Span)). elim k [ None ↦ false | Some d ↦ has_role role.Target d ]) found.at.is_call ∙ found.is_one
 
-module _ (l : Loaded) (r : Role) (id : List ℕ) (place : CallRef) (is : place_found (the_call (project l) r id) ≡ Ok place) where
+module _ (l : Loaded) (r : Role) (id : CallName) (place : CallRef) (is : place_found (the_call (project l) r id) ≡ Ok place) where
   pub call_found : IsTrue (is_call (project l) place)
   call_found = let a = at_place (the_call (project l) r id) place is in subst (λ q. IsTrue (is_call (project l) q)) a.is_place (call_there (project l) r a.one (role_found (project l) r id a.one a.is_one))
 
-pub target_found : (l : Loaded) (id : List ℕ) (place : CallRef) → place_found (the_call (project l) role.Target id) ≡ Ok place → IsTrue (is_target (project l) place)
+pub target_found : (l : Loaded) (id : CallName) (place : CallRef) → place_found (the_call (project l) role.Target id) ≡ Ok place → IsTrue (is_target (project l) place)
 target_found l id place is =
     let a = at_place (the_call (project l) role.Target id) place is in
     subst (λ q. IsTrue (is_target (project l) q)) a.is_place (target_there (project l) a.one (role_found (project l) role.Target id a.one a.is_one))

@@ -23,6 +23,7 @@ use Rattle.meson_listing.specs.Entries.{call_data, target_data}
 use Rattle.meson_plan.specs.Listing.{call_listing, kwargs_listing, or_not_found, target_at, target_listing}
 use Rattle.meson_plan.proofs.Agreeing.{extras_are, head_is, its_head}
 use Rattle.meson_plan.proofs.PlacesFound.{at_place}
+use Rattle.meson_calls.specs.declared.call.CallName.{CallName}
 
 -- ---- the listing of a call with this head, these sources and these extra files
 
@@ -39,7 +40,7 @@ module _ (l : Loaded) (place : CallRef) (h : Head) (s x : Result Sources Refusal
       ∙ ap (option_and_then (λ r. option_map (λ q. then_ok r (λ is. then_ok q (λ ys. Ok (target_data l.files place.file h is ys)))) (extra_files p place))) has
       ∙ ap (option_map (λ q. then_ok s (λ is. then_ok q (λ ys. Ok (target_data l.files place.file h is ys))))) further
 
-  listed : (id : List ℕ) → target_place p id ≡ Ok place → head p place ≡ Some h → sources p place ≡ Some s → extra_files p place ≡ Some x → target_listing l id ≡ of_these
+  listed : (id : CallName) → target_place p id ≡ Ok place → head p place ≡ Some h → sources p place ≡ Some s → extra_files p place ≡ Some x → target_listing l id ≡ of_these
   listed id is heads has further =
       let a = at_place (the_call p role.Target id) place is in
       ap (λ found. then_ok found (λ (c : Placed (Call Span)). or_not_found (target_at l c.place))) a.is_one
@@ -52,7 +53,7 @@ unfound : (found : Result (Placed (Call Span)) Refusal) (e : Refusal) → place_
 unfound (Ok c) e is = absurd cc
 unfound (Err f) e is = let same : f ≡ e = cc in ap Err same
 
-pub target_unlisted : (l : Loaded) (id : List ℕ) (e : Refusal) → NoTarget (project l) id e → target_listing l id ≡ Err e
+pub target_unlisted : (l : Loaded) (id : CallName) (e : Refusal) → NoTarget (project l) id e → target_listing l id ≡ Err e
 target_unlisted l id e (not_found f is) = ap (λ found. then_ok found (λ (c : Placed (Call Span)). or_not_found (target_at l c.place))) (unfound (the_call (project l) role.Target id) f is)
 target_unlisted l id e (untold place f is (no_sources g twice)) =
     let a = at_place (the_call (project l) role.Target id) place is in
@@ -67,7 +68,7 @@ target_unlisted l id e (untold place f is (no_extra found g once twice)) =
     listed l a.one.place (its_head l a.one at).told (Ok found) (Err g) id (ap place_found a.is_one) (head_is l a.one at) first there
 
 -- of a call that has this head
-pub call_unlisted : (l : Loaded) (r : Role) (id : List ℕ) (place : CallRef) (h : Head) (e : Refusal)
+pub call_unlisted : (l : Loaded) (r : Role) (id : CallName) (place : CallRef) (h : Head) (e : Refusal)
     → place_found (the_call (project l) r id) ≡ Ok place → head (project l) place ≡ Some h → keywords l r place ≡ Some (Err e) → kwargs_listing l r id ≡ Err e
 call_unlisted l r id place h e found heads twice =
     let a = at_place (the_call (project l) r id) place found in

@@ -13,14 +13,15 @@ use Rattle.meson_variables.specs.TargetSources.{sources}
 use Rattle.meson_sources.specs.Extras.{extra_files}
 use Rattle.meson_details.specs.Details.{head}
 use Rattle.meson_plan.specs.declared.details.TargetDetails.{TargetDetails}
+use Rattle.meson_calls.specs.declared.call.CallName.{CallName}
 
 -- the place of the call that is found
 abbrev pub place_found : {S : Type 0} → Result (Placed (Call S)) Refusal → Result CallRef Refusal
 place_found found = then_ok found (λ c. Ok c.place)
 
 -- the place of the one target that an id names
-abbrev pub target_place : Project Span → List ℕ → Result CallRef Refusal
-target_place p id = place_found (the_call p Target id)
+abbrev pub target_place : Project Span → CallName → Result CallRef Refusal
+target_place p name = place_found (the_call p Target name)
 
 -- what is reported of the target at a place
 pub record AreDetails (p : Project Span) (place : CallRef) (told : TargetDetails) : Type 0 where
@@ -35,6 +36,6 @@ pub data NoDetails (p : Project Span) (place : CallRef) : Refusal → Type 0 whe
   no_extra : (found : Sources) (refusal : Refusal) → sources p place ≡ Some (Ok found) → extra_files p place ≡ Some (Err refusal) → NoDetails p place refusal
 
 -- the id names no target, or more than one; or there are no details of the one that it names
-pub data NoTarget (p : Project Span) (id : List ℕ) : Refusal → Type 0 where
-  not_found : (refusal : Refusal) → target_place p id ≡ Err refusal → NoTarget p id refusal
-  untold : (place : CallRef) (refusal : Refusal) → target_place p id ≡ Ok place → NoDetails p place refusal → NoTarget p id refusal
+pub data NoTarget (p : Project Span) (name : CallName) : Refusal → Type 0 where
+  not_found : (refusal : Refusal) → target_place p name ≡ Err refusal → NoTarget p name refusal
+  untold : (place : CallRef) (refusal : Refusal) → target_place p name ≡ Ok place → NoDetails p place refusal → NoTarget p name refusal

@@ -26,46 +26,48 @@ use Rattle.meson_steps.specs.ResultLimits.{plain_trees}
 use Rattle.meson_targets.specs.Effects.{NamesTarget, TargetRemoved, call_with_texts}
 use Rattle.meson_targets.specs.TargetEdits.{number_in}
 use Rattle.meson_plan.specs.Performing.{Performs}
+use Rattle.meson_calls.specs.declared.call.CallName.{CallName}
+use Rattle.meson_calls.specs.Searching.{anywhere}
 
 -- what the request leaves of its call, if its texts are UTF-8
-abbrev pub LeavesOf : Loaded → Role → List ℕ → Asked → Loaded → Type 0
-LeavesOf old r id asked new = AreAskedTexts asked → CallLeft old r id asked (plain_trees new)
+abbrev pub LeavesOf : Loaded → Role → CallName → Asked → Loaded → Type 0
+LeavesOf old r name asked new = AreAskedTexts asked → CallLeft old r name asked (plain_trees new)
 
 -- The target is the only one that the id names. The list to which its further sources are added has each new one once. All its sources are those that it had
 -- and these.
-pub record SourcesCome (old : Loaded) (id : List ℕ) (names : List (List ℕ)) (new : Loaded) : Type 0 where
+pub record SourcesCome (old : Loaded) (target : CallName) (names : List (List ℕ)) (new : Loaded) : Type 0 where
   pub call : Placed (Call Span)
-  pub is_call : the_call (project old) role.Target id ≡ Ok call
+  pub is_call : the_call (project old) role.Target target ≡ Ok call
   pub gets : ListGets (home call.place (source_marks (project old) call)) (new_names (source_marks (project old) call) names) (plain_trees old)
       (plain_trees new)
-  pub whole : All IsUtf8 names → SourcesGrow (new_names (source_marks (project old) call) names) id call (project old) (project new)
+  pub whole : All IsUtf8 names → SourcesGrow (new_names (source_marks (project old) call) names) target call (project old) (project new)
 
 -- Of the sources those that are named are gone, and no others of the target.
-pub record SourcesGo (old : Loaded) (id : List ℕ) (names : List (List ℕ)) (new : Loaded) : Type 0 where
+pub record SourcesGo (old : Loaded) (target : CallName) (names : List (List ℕ)) (new : Loaded) : Type 0 where
   pub call : Placed (Call Span)
-  pub is_call : the_call (project old) role.Target id ≡ Ok call
+  pub is_call : the_call (project old) role.Target target ≡ Ok call
   pub go : NamesGo (source_marks (project old) call) names (plain_trees old) (plain_trees new)
-  pub whole : SourcesShrink names id call (project old) (project new)
+  pub whole : SourcesShrink names target call (project old) (project new)
 
 -- Each new extra file is there once. All extra files of the target are those that it had and these.
-pub record ExtrasCome (old : Loaded) (id : List ℕ) (names : List (List ℕ)) (new : Loaded) : Type 0 where
+pub record ExtrasCome (old : Loaded) (target : CallName) (names : List (List ℕ)) (new : Loaded) : Type 0 where
   pub call : Placed (Call Span)
-  pub is_call : the_call (project old) role.Target id ≡ Ok call
+  pub is_call : the_call (project old) role.Target target ≡ Ok call
   pub come : ExtraComes call (extra_home (project old) call) (new_names (extra_marks (project old) call) names) (plain_trees old) (plain_trees new)
-  pub whole : All IsUtf8 names → ExtrasGrow (new_names (extra_marks (project old) call) names) id call (project old) (project new)
+  pub whole : All IsUtf8 names → ExtrasGrow (new_names (extra_marks (project old) call) names) target call (project old) (project new)
 
 -- Of the extra files those that are named are gone, and no others of the target.
-pub record ExtrasGo (old : Loaded) (id : List ℕ) (names : List (List ℕ)) (new : Loaded) : Type 0 where
+pub record ExtrasGo (old : Loaded) (target : CallName) (names : List (List ℕ)) (new : Loaded) : Type 0 where
   pub call : Placed (Call Span)
-  pub is_call : the_call (project old) role.Target id ≡ Ok call
+  pub is_call : the_call (project old) role.Target target ≡ Ok call
   pub go : NamesGo (extra_marks (project old) call) names (plain_trees old) (plain_trees new)
-  pub whole : ExtrasShrink names id call (project old) (project new)
+  pub whole : ExtrasShrink names target call (project old) (project new)
 
 -- The target is gone with its statement, and no target has its name.
-pub record TargetGoes (old : Loaded) (id : List ℕ) (new : Loaded) : Type 0 where
+pub record TargetGoes (old : Loaded) (target : CallName) (new : Loaded) : Type 0 where
   pub call : Placed (Call Span)
-  pub is_call : the_call (project old) role.Target id ≡ Ok call
-  pub removed : TargetRemoved old id call.place (plain_trees new)
+  pub is_call : the_call (project old) role.Target target ≡ Ok call
+  pub removed : TargetRemoved old target call.place (plain_trees new)
 
 -- The name names the new target alone, in the build file of the folder.
 pub record TargetComes (old : Loaded) (name kind folder : List ℕ) (sources : List (List ℕ)) (new : Loaded) : Type 0 where
@@ -74,18 +76,18 @@ pub record TargetComes (old : Loaded) (name kind folder : List ℕ) (sources : L
   pub named : NamesTarget (named_trees old.files (plain_trees new)) name (call_with_texts kind (name ∷ distinct sources)) file
 
 abbrev pub HasEffect : Loaded → Command → Loaded → Type 0
-HasEffect old (command.SourcesAdd id names) new = SourcesCome old id names new
-HasEffect old (command.SourcesRemove id names) new = SourcesGo old id names new
-HasEffect old (command.ExtraAdd id names) new = ExtrasCome old id names new
-HasEffect old (command.ExtraRemove id names) new = ExtrasGo old id names new
-HasEffect old (command.TargetRemove id) new = TargetGoes old id new
+HasEffect old (command.SourcesAdd target names) new = SourcesCome old target names new
+HasEffect old (command.SourcesRemove target names) new = SourcesGo old target names new
+HasEffect old (command.ExtraAdd target names) new = ExtrasCome old target names new
+HasEffect old (command.ExtraRemove target names) new = ExtrasGo old target names new
+HasEffect old (command.TargetRemove target) new = TargetGoes old target new
 HasEffect old (command.TargetAdd name kind folder sources) new = IsUtf8 name → TargetComes old name kind folder sources new
-HasEffect old (command.KwargsSet r id pairs) new = LeavesOf old r id (to_set pairs) new
-HasEffect old (command.KwargsAdd r id pairs) new = LeavesOf old r id (to_add pairs) new
-HasEffect old (command.KwargsRemove r id pairs) new = LeavesOf old r id (to_remove pairs) new
-HasEffect old (command.KwargsDelete r id keys) new = LeavesOf old r id (to_delete keys) new
-HasEffect old (command.OptionsSet pairs) new = LeavesOf old role.Project (codes "/") (to_set_options pairs) new
-HasEffect old (command.OptionsDelete names) new = LeavesOf old role.Project (codes "/") (to_delete_options names) new
+HasEffect old (command.KwargsSet r name pairs) new = LeavesOf old r name (to_set pairs) new
+HasEffect old (command.KwargsAdd r name pairs) new = LeavesOf old r name (to_add pairs) new
+HasEffect old (command.KwargsRemove r name pairs) new = LeavesOf old r name (to_remove pairs) new
+HasEffect old (command.KwargsDelete r name keys) new = LeavesOf old r name (to_delete keys) new
+HasEffect old (command.OptionsSet pairs) new = LeavesOf old role.Project (anywhere (codes "/")) (to_set_options pairs) new
+HasEffect old (command.OptionsDelete names) new = LeavesOf old role.Project (anywhere (codes "/")) (to_delete_options names) new
 HasEffect old (command.Argument name change) new = ValueLeft old name change (plain_trees old) (plain_trees new)
 HasEffect old _ new = Unit {0}
 

@@ -18,6 +18,7 @@ use Rattle.meson_details.specs.Details.{head, keywords}
 use Rattle.meson_listing.specs.Entries.{target_data, call_data}
 use Rattle.meson_listing.specs.Values.{value_data}
 use Rattle.meson_plan.specs.Values.{the_value}
+use Rattle.meson_calls.specs.declared.call.CallName.{CallName}
 
 -- of the call at a place, if there is one
 abbrev pub target_at : Loaded → CallRef → Option (Result Data Refusal)
@@ -33,13 +34,13 @@ abbrev pub or_not_found : Option (Result Data Refusal) → Result Data Refusal
 or_not_found None = Err NotFound
 or_not_found (Some listing) = listing
 
--- of the target that the id names
-abbrev pub target_listing : Loaded → List ℕ → Result Data Refusal
-target_listing l id = then_ok (the_call (project l) role.Target id) (λ c. or_not_found (target_at l c.place))
+-- of the target that is named
+abbrev pub target_listing : Loaded → CallName → Result Data Refusal
+target_listing l name = then_ok (the_call (project l) role.Target name) (λ c. or_not_found (target_at l c.place))
 
--- of the call of this role that the id names
-abbrev pub kwargs_listing : Loaded → Role → List ℕ → Result Data Refusal
-kwargs_listing l r id = then_ok (the_call (project l) r id) (λ c. or_not_found (call_listing l r c.place))
+-- of the call of this role that is named
+abbrev pub kwargs_listing : Loaded → Role → CallName → Result Data Refusal
+kwargs_listing l r name = then_ok (the_call (project l) r name) (λ c. or_not_found (call_listing l r c.place))
 
 -- of the value that a name names
 abbrev pub value_listing : Loaded → ValueName → Result Data Refusal
@@ -49,13 +50,13 @@ value_listing l n = then_ok (the_value l n) (λ v. Ok (value_data l.files v.file
 
 abbrev pub told : Loaded → Command → Result (List Data) Refusal
 told l (command.TargetInfo target) = then_ok (target_listing l target) (λ d. Ok (d ∷ []))
-told l (command.KwargsInfo role id) = then_ok (kwargs_listing l role id) (λ d. Ok (d ∷ []))
+told l (command.KwargsInfo role name) = then_ok (kwargs_listing l role name) (λ d. Ok (d ∷ []))
 told l (command.ArgumentInfo name) = then_ok (value_listing l name) (λ d. Ok (d ∷ []))
 told l _ = Ok []
 
 -- whether a command only reports, and changes nothing
 abbrev pub asks : Command → Bool
 asks (command.TargetInfo target) = true
-asks (command.KwargsInfo role id) = true
+asks (command.KwargsInfo role name) = true
 asks (command.ArgumentInfo name) = true
 asks _ = false

@@ -17,6 +17,7 @@ use Rattle.meson_steps.specs.Steps.{Step}
 use Rattle.meson_plan.specs.Performing.{MayRefuse, Performs}
 use Rattle.meson_plan.specs.Planning.{planned}
 use Rattle.meson_plan.specs.Listing.{target_listing, kwargs_listing, value_listing}
+use Rattle.meson_calls.specs.declared.call.CallName.{CallName}
 
 -- ---- A listing is made exactly if its info command can be planned, which has no steps, and it is refused in the same way.
 
@@ -25,10 +26,10 @@ abbrev pub no_steps : Result Data Refusal → Result (List Step) Refusal
 no_steps listing = then_ok listing (λ d. Ok [])
 
 abbrev pub TargetsAgree : Type 0
-TargetsAgree = (l : Loaded) (id : List ℕ) → no_steps (target_listing l id) ≡ planned (project l) (command.TargetInfo id)
+TargetsAgree = (l : Loaded) (name : CallName) → no_steps (target_listing l name) ≡ planned (project l) (command.TargetInfo name)
 
 abbrev pub CallsAgree : Type 0
-CallsAgree = (l : Loaded) (r : Role) (id : List ℕ) → no_steps (kwargs_listing l r id) ≡ planned (project l) (command.KwargsInfo r id)
+CallsAgree = (l : Loaded) (r : Role) (name : CallName) → no_steps (kwargs_listing l r name) ≡ planned (project l) (command.KwargsInfo r name)
 
 -- ---- And so if the command is done on a project, which it leaves as it is, or refused.
 
@@ -43,10 +44,10 @@ pub record IsListedAs (l : Loaded) (c : Command) (listing : Result Data Refusal)
   pub refused : (e : Refusal) → MayRefuse l c e → IsProject l → listing ≡ Err e
 
 abbrev pub TargetsListed : Type 0
-TargetsListed = (l : Loaded) (id : List ℕ) → IsListedAs l (command.TargetInfo id) (target_listing l id)
+TargetsListed = (l : Loaded) (name : CallName) → IsListedAs l (command.TargetInfo name) (target_listing l name)
 
 abbrev pub CallsListed : Type 0
-CallsListed = (l : Loaded) (r : Role) (id : List ℕ) → IsListedAs l (command.KwargsInfo r id) (kwargs_listing l r id)
+CallsListed = (l : Loaded) (r : Role) (name : CallName) → IsListedAs l (command.KwargsInfo r name) (kwargs_listing l r name)
 
 abbrev pub ValuesListed : Type 0
 ValuesListed = (l : Loaded) (n : ValueName) → IsListedAs l (command.ArgumentInfo n) (value_listing l n)

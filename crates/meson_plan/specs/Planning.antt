@@ -20,6 +20,7 @@ use Rattle.meson_places.specs.Arguments.{MayBeMade, argument_steps}
 use Rattle.meson_places.specs.NamedValues.{value_place}
 use Rattle.meson_steps.specs.Done.{Meaning}
 use Rattle.meson_steps.specs.Steps.{Step}
+use Rattle.meson_calls.specs.Searching.{anywhere}
 
 -- ---- commands that change nothing: what they report may be there once only
 
@@ -40,13 +41,13 @@ planned p (command.ExtraRemove target sources) = then_ok (the_call p role.Target
 planned p (command.TargetAdd target kind subdir sources) = target_added p target kind subdir sources
 planned p (command.TargetRemove target) = then_ok (the_call p role.Target target) (λ c. target_removed p c)
 planned p (command.TargetInfo target) = then_ok (the_call p role.Target target) (λ c. target_told c.it)
-planned p (command.KwargsSet r id pairs) = then_ok (the_call p r id) (call_changed p (each_made (set_entry r) pairs))
-planned p (command.KwargsAdd r id pairs) = then_ok (the_call p r id) (call_changed p (each_made (add_entry r) pairs))
-planned p (command.KwargsRemove r id pairs) = then_ok (the_call p r id) (call_changed p (each_made (remove_entry r) pairs))
-planned p (command.KwargsDelete r id keys) = then_ok (the_call p r id) (call_changed p (each_made (delete_entry r) keys))
-planned p (command.KwargsInfo r id) = then_ok (the_call p r id) (λ c. call_asked r c.it)
-planned p (command.OptionsSet pairs) = then_ok (the_call p role.Project (codes "/")) (call_changed p (each_made set_option_entry pairs))
-planned p (command.OptionsDelete names) = then_ok (the_call p role.Project (codes "/")) (call_changed p (each_made delete_option_entry names))
+planned p (command.KwargsSet r name pairs) = then_ok (the_call p r name) (call_changed p (each_made (set_entry r) pairs))
+planned p (command.KwargsAdd r name pairs) = then_ok (the_call p r name) (call_changed p (each_made (add_entry r) pairs))
+planned p (command.KwargsRemove r name pairs) = then_ok (the_call p r name) (call_changed p (each_made (remove_entry r) pairs))
+planned p (command.KwargsDelete r name keys) = then_ok (the_call p r name) (call_changed p (each_made (delete_entry r) keys))
+planned p (command.KwargsInfo r name) = then_ok (the_call p r name) (λ c. call_asked r c.it)
+planned p (command.OptionsSet pairs) = then_ok (the_call p role.Project (anywhere (codes "/"))) (call_changed p (each_made set_option_entry pairs))
+planned p (command.OptionsDelete names) = then_ok (the_call p role.Project (anywhere (codes "/"))) (call_changed p (each_made delete_option_entry names))
 planned p (command.Argument name change) = Ok []
 planned p (command.ArgumentInfo name) = Ok []
 

@@ -69,12 +69,12 @@ impl Project {
         match command {
             Command::TargetInfo { target } => {
                 self.keep(alloc)?;
-                let listing = info_target(alloc, self, target.get())?;
+                let listing = info_target(alloc, self, target.as_name())?;
                 let answer = listed(alloc, listing)?;
                 Ok(answer)
             }
-            Command::KwargsInfo { role, id } => {
-                let listing = info_kwargs(alloc, self, *role, id.get())?;
+            Command::KwargsInfo { role, name } => {
+                let listing = info_kwargs(alloc, self, *role, name.as_name())?;
                 let answer = listed(alloc, listing)?;
                 Ok(answer)
             }

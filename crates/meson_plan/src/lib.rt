@@ -14,7 +14,9 @@ mod values;
 pub use answer::Answer;
 pub use details::TargetDetails;
 pub use listing::{info_argument, info_kwargs, info_target};
-pub use meson_calls::{CallRef, LoadFault, MAX_FILES, Refusal, Role, Unloaded, subdirs};
+pub use meson_calls::{
+    BorrowedName, CallName, CallRef, LoadFault, MAX_FILES, Refusal, Role, Unloaded, subdirs,
+};
 pub use meson_details::{Head, Shown};
 pub use meson_steps::argument::ValueName;
 pub use meson_steps::command::{Command, Done, Setting};

@@ -1,14 +1,15 @@
-//! The listing of the one call that an id names, and that of the value that a name names.
+//! The listing of the one call that is named, and that of the value that a name names.
 
 ghost use Rattle.std.specs.Prelude.{◌≡◌, IfOk, Ok};
 ghost use Rattle.serde_json.specs.View.{view};
 ghost use Rattle.meson_calls.specs.Refusals.{RefusedAs};
+ghost use Rattle.meson_calls.specs.Searching.{name_at};
 ghost use Rattle.meson_plan.specs.Listing.{kwargs_listing, target_listing, value_listing};
 
 use crate::details::TargetDetails;
 use crate::project::Project;
 use crate::values::find_value;
-use meson_calls::{Refusal, Role};
+use meson_calls::{BorrowedName, Refusal, Role};
 use meson_listing::{call_object, target_object, value_object};
 use meson_steps::argument::ValueName;
 use serde_json::Value;
@@ -17,17 +18,21 @@ use std::alloc::Global;
 /// What is reported of a target: its head, its sources and its extra files.
 ///
 /// # Errors
-/// There is no such target or more than one, or it has `sources:` or `extra_files:` twice, or out of memory.
-pub fn info_target(alloc: Global, project: &Project, id: &str) -> Result<Value, Refusal>
-    ensures listed { IfOk result (λ v. target_listing project.now id.now ≡ Ok (view v)) }
-    ensures refused { RefusedAs result (target_listing project.now id.now) }
+/// The folder has no build file. Or there is no such target or more than one, or it has `sources:` or `extra_files:` twice, or out of memory.
+pub fn info_target(
+    alloc: Global,
+    project: &Project,
+    name: BorrowedName<'_>,
+) -> Result<Value, Refusal>
+    ensures listed { IfOk result (λ v. target_listing project.now (name_at name.entry) ≡ Ok (view v)) }
+    ensures refused { RefusedAs result (target_listing project.now (name_at name.entry)) }
 {
     let TargetDetails {
         place,
         head,
         sources,
         extra_files,
-    } = project.target_details(alloc, id)?;
+    } = project.target_details(alloc, name)?;
     let files = project.files();
     Ok(target_object(alloc, files, place.file, head, sources, extra_files)?)
 }
@@ -35,12 +40,17 @@ pub fn info_target(alloc: Global, project: &Project, id: &str) -> Result<Value, 
 /// What is reported of a call of a role: its head, and the values of its keyword arguments that commands change.
 ///
 /// # Errors
-/// There is no such call or more than one. Or one of these arguments is there twice, the first such in the call's order. Or out of memory.
-pub fn info_kwargs(alloc: Global, project: &Project, role: Role, id: &str) -> Result<Value, Refusal>
-    ensures listed { IfOk result (λ v. kwargs_listing project.now role id.now ≡ Ok (view v)) }
-    ensures refused { RefusedAs result (kwargs_listing project.now role id.now) }
+/// The folder has no build file. Or there is no such call or more than one. Or one of these arguments is there twice, the first such in the call's order. Or out of memory.
+pub fn info_kwargs(
+    alloc: Global,
+    project: &Project,
+    role: Role,
+    name: BorrowedName<'_>,
+) -> Result<Value, Refusal>
+    ensures listed { IfOk result (λ v. kwargs_listing project.now role (name_at name.entry) ≡ Ok (view v)) }
+    ensures refused { RefusedAs result (kwargs_listing project.now role (name_at name.entry)) }
 {
-    let call = project.find_one(alloc, role, id)?;
+    let call = project.find_one(alloc, role, name)?;
     let head = project.head(alloc, &call)?;
     let keywords = project.keywords(alloc, role, &call)?;
     let listing = call_object(alloc, project.files(), call.file, head, keywords)?;

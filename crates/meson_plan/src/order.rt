@@ -3,13 +3,14 @@
 ghost use Rattle.std.specs.Prelude.{◌≡◌, codes, false};
 ghost use Rattle.meson_lex.specs.declared.kinds.Span as lex;
 ghost use Rattle.meson_calls.specs.Project.{Project};
+ghost use Rattle.meson_calls.specs.Searching.{anywhere};
 ghost use Rattle.meson_keywords.specs.Changing.{request_steps};
 ghost use Rattle.meson_keywords.specs.Tasking.{asked, request_view};
 ghost use Rattle.meson_plan.specs.Listing.{asks};
 ghost use Rattle.meson_plan.specs.inside.Orders.{IsOrder, plan_steps, sought};
 ghost use Rattle.meson_sources.specs.Targeted.{target_steps};
 
-use meson_calls::Role;
+use meson_calls::{BorrowedName, CallName, Role};
 use meson_keywords::request::{AskedWords, Request};
 use meson_sources::targeting::TargetChange;
 use meson_sources::targeting::TargetChange::{
@@ -24,11 +25,11 @@ use meson_targets::target_adding::NewTarget;
 #[derive(Clone, Copy)]
 pub(crate) enum Plan<'c> {
     /// Names are added to a target or removed from it.
-    OnTarget(&'c Text, TargetChange, &'c Many<Text>),
+    OnTarget(BorrowedName<'c>, TargetChange, &'c Many<Text>),
     /// A target is added at the end of its file.
     AddTarget(NewTarget<'c>),
     /// A target is removed, with its statement.
-    RemoveTarget(&'c str),
+    RemoveTarget(BorrowedName<'c>),
 }
 
 impl<'c> Plan<'c> {
@@ -37,9 +38,9 @@ impl<'c> Plan<'c> {
         ensures { (result.0 ≡ (sought self.entry).0) × (result.1.now ≡ (sought self.entry).1) }
     {
         match self {
-            Plan::OnTarget(target, _, _) => (Role::Target, target.get()),
+            Plan::OnTarget(target, _, _) => (Role::Target, target.id),
             Plan::AddTarget(new) => (Role::Target, new.name.get()),
-            Plan::RemoveTarget(target) => (Role::Target, target),
+            Plan::RemoveTarget(target) => (Role::Target, target.id),
         }
     }
 }
@@ -54,30 +55,33 @@ pub(crate) enum Order<'c> {
 }
 
 /// A change of a target.
-fn on_target<'c>(target: &'c Text, change: TargetChange, names: &'c Many<Text>) -> Plan<'c>
+fn on_target<'c>(target: &'c CallName, change: TargetChange, names: &'c Many<Text>) -> Plan<'c>
     ensures { (p : Project lex.Span) → plan_steps p result ≡ target_steps p target.entry.now change names.entry.now }
 {
-    Plan::OnTarget(target, change, names)
+    Plan::OnTarget(target.as_name(), change, names)
 }
 
 /// A change of a call.
-fn on_call<'c>(role: Role, id: &'c Text, words: AskedWords<'c>) -> Request<'c>
-    ensures { (p : Project lex.Span) → request_steps p (request_view result) ≡ request_steps p (role, id.entry.now, asked words.entry) }
+fn on_call<'c>(role: Role, name: &'c CallName, words: AskedWords<'c>) -> Request<'c>
+    ensures { (p : Project lex.Span) → request_steps p (request_view result) ≡ request_steps p (role, name.entry.now, asked words.entry) }
 {
     Request {
         role,
-        id: id.get(),
+        name: name.as_name(),
         words,
     }
 }
 
 /// A change of the call of `project`.
 fn on_project(words: AskedWords<'_>) -> Request<'_>
-    ensures { (p : Project lex.Span) → request_steps p (request_view result) ≡ request_steps p (Role.Project, codes "/", asked words.entry) }
+    ensures { (p : Project lex.Span) → request_steps p (request_view result) ≡ request_steps p (Role.Project, anywhere (codes "/"), asked words.entry) }
 {
     Request {
         role: Role::Project,
-        id: "/",
+        name: BorrowedName {
+            id: "/",
+            folder: None,
+        },
         words,
     }
 }
@@ -111,21 +115,21 @@ pub(crate) fn order_of(command: &Command) -> Order<'_>
             folder: subdir,
             sources: sources.get(),
         })),
-        Command::TargetRemove { target } => Order::Planned(Plan::RemoveTarget(target.get())),
+        Command::TargetRemove { target } => Order::Planned(Plan::RemoveTarget(target.as_name())),
         Command::TargetInfo { .. } => unreachable!(),
         Command::KwargsInfo { .. } => unreachable!(),
         Command::ArgumentInfo { .. } => unreachable!(),
-        Command::KwargsSet { role, id, pairs } => {
-            Order::Changed(on_call(*role, id, AskedWords::Set(pairs.get())))
+        Command::KwargsSet { role, name, pairs } => {
+            Order::Changed(on_call(*role, name, AskedWords::Set(pairs.get())))
         }
-        Command::KwargsAdd { role, id, pairs } => {
-            Order::Changed(on_call(*role, id, AskedWords::Add(pairs.get())))
+        Command::KwargsAdd { role, name, pairs } => {
+            Order::Changed(on_call(*role, name, AskedWords::Add(pairs.get())))
         }
-        Command::KwargsRemove { role, id, pairs } => {
-            Order::Changed(on_call(*role, id, AskedWords::Remove(pairs.get())))
+        Command::KwargsRemove { role, name, pairs } => {
+            Order::Changed(on_call(*role, name, AskedWords::Remove(pairs.get())))
         }
-        Command::KwargsDelete { role, id, keys } => {
-            Order::Changed(on_call(*role, id, AskedWords::Delete(keys.get())))
+        Command::KwargsDelete { role, name, keys } => {
+            Order::Changed(on_call(*role, name, AskedWords::Delete(keys.get())))
         }
         Command::OptionsSet { pairs } => {
             Order::Changed(on_project(AskedWords::SetOptions(pairs.get())))

@@ -12,6 +12,7 @@ ghost use Rattle.meson_calls.specs.Roles.{targets, is_target, places};
 ghost use Rattle.meson_calls.specs.Naming.{found};
 ghost use Rattle.meson_calls.specs.Finding.{the_call};
 ghost use Rattle.meson_calls.specs.Refusals.{IfRefused, RefusedAs};
+ghost use Rattle.meson_calls.specs.Searching.{name_at};
 ghost use Rattle.meson_variables.specs.TargetSources.{sources};
 ghost use Rattle.meson_details.specs.Details.{head, is_call, keywords};
 ghost use Rattle.meson_plan.specs.Details.{AreDetails, NoTarget, place_found, target_place};
@@ -30,7 +31,7 @@ use meson_calls::note::Note;
 use meson_calls::noted::Noted;
 use meson_calls::notes::{notes_for, notes_of};
 use meson_calls::taken::Taken;
-use meson_calls::{CallRef, Refusal, Role, Unloaded};
+use meson_calls::{BorrowedName, CallRef, Refusal, Role, Unloaded};
 use meson_details::called::call_at;
 use meson_details::showing::{head_of, keywords_of};
 use meson_details::{Head, Shown};
@@ -186,22 +187,27 @@ impl Project {
         let taken = self.notes_for(alloc, role, id)?;
         let notes = taken.all(alloc)?;
         let noted = self.noted(notes.as_slice());
-        let calls = found(alloc, role, id, noted.notes)?;
+        let calls = found(alloc, None, role, id, noted.notes)?;
         Ok(calls)
     }
 
-    /// The one call that an id names.
+    /// The one call that is named.
     ///
     /// # Errors
-    /// There is no project, no such call or more than one, or out of memory.
-    pub fn find_one(&self, alloc: Global, role: Role, id: &str) -> Result<CallRef, Refusal>
-        ensures found { IfOk result (λ c. place_found (the_call (project self.now) role id.now) ≡ Ok c) }
-        ensures refused { RefusedAs result (place_found (the_call (project self.now) role id.now)) }
+    /// The folder has no build file. Or there is no project, no such call or more than one, or out of memory.
+    pub fn find_one(
+        &self,
+        alloc: Global,
+        role: Role,
+        name: BorrowedName<'_>,
+    ) -> Result<CallRef, Refusal>
+        ensures found { IfOk result (λ c. place_found (the_call (project self.now) role (name_at name.entry)) ≡ Ok c) }
+        ensures refused { RefusedAs result (place_found (the_call (project self.now) role (name_at name.entry))) }
     {
-        let taken = self.notes_for(alloc, role, id)?;
+        let taken = self.notes_for(alloc, role, name.id)?;
         let notes = taken.all(alloc)?;
         let noted = self.noted(notes.as_slice());
-        the_call(alloc, role, id, noted.notes)
+        the_call(alloc, role, name, noted.files, noted.notes)
     }
 
     /// Whether the place is that of a call of a target. Does not allocate.
@@ -250,18 +256,22 @@ impl Project {
         extra_files_of(&variables, call, called.source, called.arguments)
     }
 
-    /// What is reported of the one target that an id names.
+    /// What is reported of the one target that is named.
     ///
     /// # Errors
-    /// There is no such target or more than one, or it has `sources:` or `extra_files:` twice, or out of memory.
-    pub fn target_details(&self, alloc: Global, id: &str) -> Result<TargetDetails, Refusal>
-        ensures told { IfOk result (λ told. (target_place (project self.now) id.now ≡ Ok told.place) × AreDetails (project self.now) told.place told) }
-        ensures refused { IfRefused result (NoTarget (project self.now) id.now) }
+    /// The folder has no build file. Or there is no such target or more than one, or it has `sources:` or `extra_files:` twice, or out of memory.
+    pub fn target_details(
+        &self,
+        alloc: Global,
+        name: BorrowedName<'_>,
+    ) -> Result<TargetDetails, Refusal>
+        ensures told { IfOk result (λ told. (target_place (project self.now) (name_at name.entry) ≡ Ok told.place) × AreDetails (project self.now) told.place told) }
+        ensures refused { IfRefused result (NoTarget (project self.now) (name_at name.entry)) }
     {
-        let taken = self.notes_for(alloc, Role::Target, id)?;
+        let taken = self.notes_for(alloc, Role::Target, name.id)?;
         let notes = taken.all(alloc)?;
         let noted = self.noted(notes.as_slice());
-        let place = the_call(alloc, Role::Target, id, noted.notes)?;
+        let place = the_call(alloc, Role::Target, name, noted.files, noted.notes)?;
         let variables = Variables::near_noted(alloc, &noted, &place)?;
         details_at(&variables, place)
     }

@@ -18,6 +18,8 @@ use Rattle.meson_rewrite.specs.Codes.{memory_code, stop_code}
 use Rattle.meson_rewrite.specs.Lines.{stop_text}
 use Rattle.meson_rewrite.specs.RefusalLaws.{CodesAreWords, HasCode, numbered_place}
 use Rattle.meson_rewrite.specs.declared.advice.Advice.{Advice}
+use Rattle.meson_rewrite.specs.declared.logged_runs.LoggedRun.{LoggedRun}
+use Rattle.meson_rewrite.specs.declared.stop.FileText.{FileText}
 use Rattle.meson_rewrite.specs.declared.stop.Stop.{Stop}
 use Rattle.meson_rewrite.specs.declared.stop.Stop.TheVariants.{Usage, Script, Parse, TooManyFiles, BadFileName, Refused, Splice, OtherFiles, BadTexts, Store}
 
@@ -54,13 +56,13 @@ of_usage usage.OutOfMemory advice = inl (refl, refl)
 in_file : (name meaning : List ℕ) → name ++ (codes ": " ++ meaning) ≡ (name ++ codes ": ") ++ meaning
 in_file name meaning = sym (append_assoc name (codes ": ") meaning)
 
-of_lex : (name : List ℕ) (text : Option (List ℕ)) (fault : LexFault) (advice : Advice) → Known (Parse name text (parse.Lex fault) advice)
+of_lex : (name : List ℕ) (text : FileText) (fault : LexFault) (advice : Advice) → Known (Parse name text (parse.Lex fault) advice)
 of_lex name text (lex.StrayByte at) advice = inr (record { meaning = codes "stray byte at " ++ decimal at; words = in_file name _; one_word = refl })
 of_lex name text (lex.OpenString at) advice = inr (record { meaning = codes "open string at " ++ decimal at; words = in_file name _; one_word = refl })
 of_lex name text (lex.BadNumber at) advice = inr (record { meaning = codes "bad number at " ++ decimal at; words = in_file name _; one_word = refl })
 of_lex name text (lex.BareCarriageReturn at) advice = inr (record { meaning = codes "bare carriage return at " ++ decimal at; words = in_file name _; one_word = refl })
 
-of_parse : (name : List ℕ) (text : Option (List ℕ)) (fault : ParseFault) (advice : Advice) → Known (Parse name text fault advice)
+of_parse : (name : List ℕ) (text : FileText) (fault : ParseFault) (advice : Advice) → Known (Parse name text fault advice)
 of_parse name text parse.TooLarge advice = inr (record { meaning = codes "too large"; words = in_file name _; one_word = refl })
 of_parse name text parse.NotUtf8 advice = inr (record { meaning = codes "not utf-8"; words = in_file name _; one_word = refl })
 of_parse name text parse.ByteOrderMark advice = inr (record { meaning = codes "byte order mark"; words = in_file name _; one_word = refl })
@@ -101,13 +103,13 @@ of_refusal n refusal.TooDeep subject advice = inr (record { meaning = codes "too
 of_refusal n refusal.TooLarge subject advice = inr (record { meaning = codes "too large"; words = bare n _; one_word = refl })
 of_refusal n refusal.OutOfMemory subject advice = inl (refl, refl)
 
-of_splice : (fault : SpliceFault) (advice : Advice) → Known (Splice fault advice)
-of_splice (splice.NoFile file) advice = inr (record { meaning = codes "no file " ++ file; words = refl; one_word = refl })
-of_splice (splice.OutOfRange file at) advice = inr (record { meaning = codes "out of range in " ++ (file ++ (codes " at " ++ decimal at)); words = refl; one_word = refl })
-of_splice (splice.Stale file at) advice = inr (record { meaning = codes "stale " ++ (file ++ (codes " at " ++ decimal at)); words = refl; one_word = refl })
-of_splice splice.NothingToUndo advice = inr (record { meaning = codes "nothing to undo"; words = refl; one_word = refl })
-of_splice splice.NothingToRedo advice = inr (record { meaning = codes "nothing to redo"; words = refl; one_word = refl })
-of_splice splice.OutOfMemory advice = inl (refl, refl)
+of_splice : (fault : SpliceFault) (run : Option LoggedRun) (advice : Advice) → Known (Splice fault run advice)
+of_splice (splice.NoFile file) run advice = inr (record { meaning = codes "no file " ++ file; words = refl; one_word = refl })
+of_splice (splice.OutOfRange file at) run advice = inr (record { meaning = codes "out of range in " ++ (file ++ (codes " at " ++ decimal at)); words = refl; one_word = refl })
+of_splice (splice.Stale file at) run advice = inr (record { meaning = codes "stale " ++ (file ++ (codes " at " ++ decimal at)); words = refl; one_word = refl })
+of_splice splice.NothingToUndo run advice = inr (record { meaning = codes "nothing to undo"; words = refl; one_word = refl })
+of_splice splice.NothingToRedo run advice = inr (record { meaning = codes "nothing to redo"; words = refl; one_word = refl })
+of_splice splice.OutOfMemory run advice = inl (refl, refl)
 
 of_store : (fault : StoreFault) (advice : Advice) → Known (Store fault advice)
 of_store (store.ReadFailed name) advice = inr (record { meaning = codes "cannot read " ++ name; words = refl; one_word = refl })
@@ -123,7 +125,7 @@ codes_are_words (Parse name text fault advice) = of_parse name text fault advice
 codes_are_words (TooManyFiles advice) = inr (record { meaning = codes "too many files"; words = refl; one_word = refl })
 codes_are_words (BadFileName place) = inr (record { meaning = codes "bad file name " ++ decimal place; words = refl; one_word = refl })
 codes_are_words (Refused fault subject advice) = of_refusal fault.index fault.refusal subject advice
-codes_are_words (Splice fault advice) = of_splice fault advice
+codes_are_words (Splice fault run advice) = of_splice fault run advice
 codes_are_words (OtherFiles name advice) = inr (record { meaning = codes "files are not as " ++ (name ++ codes " has them"); words = refl; one_word = refl })
-codes_are_words BadTexts = inr (record { meaning = codes "bad texts"; words = refl; one_word = refl })
+codes_are_words (BadTexts advice) = inr (record { meaning = codes "bad texts"; words = refl; one_word = refl })
 codes_are_words (Store fault advice) = of_store fault advice

@@ -1,4 +1,5 @@
 -- What explains a refusal changes nothing else.
+use Rattle.std.specs.Prelude.{◌+◌, reverse}
 use Rattle.std.proofs.Common.{Ordering, Less, Equal, Greater, bytes_eq, false, is_eq, true, ◌≡◌, ◌≢◌, ◌⊎◌, ◌∙◌, ℕ, Bool, List, [], ◌∷◌, ◌++◌, codes, Option, None, Some, Result, Ok, Err, inl, inr, map, refl, sym, ap, subst}
 use Rattle.std.proofs.lemmas.List.{append-nil, append_assoc}
 use Rattle.std.proofs.lemmas.Map.Text.{is_eq-slice_cmp}
@@ -24,6 +25,7 @@ use Rattle.meson_store.specs.Messages.{store_fault_text}
 use Rattle.meson_script.specs.declared.fault.UndoFault.{UndoFault}
 use Rattle.meson_script.specs.declared.fault.UndoFault.TheVariants as undo
 use Rattle.meson_script.specs.declared.session.Session.{Session}
+use Rattle.meson_splice.specs.declared.change.Change.{Change}
 use Rattle.meson_splice.specs.declared.fault.SpliceFault.{SpliceFault}
 use Rattle.meson_splice.specs.declared.file_set.File.{File}
 use Rattle.meson_splice.specs.declared.history.History.{History}
@@ -44,6 +46,10 @@ use Rattle.meson_rewrite.specs.Notes.{note_data}
 use Rattle.meson_json.specs.Messages.{script_fault_text}
 use Rattle.meson_script.specs.Messages.{refused_text}
 use Rattle.meson_rewrite.specs.Listed.{listing_text}
+use Rattle.meson_rewrite.specs.LoggedRuns.{newest_run}
+use Rattle.meson_rewrite.specs.declared.logged_runs.LoggedRun.{LoggedRun}
+use Rattle.meson_rewrite.specs.declared.logged_runs.Side.{Side}
+use Rattle.meson_rewrite.specs.declared.logged_runs.Side.TheVariants as side
 use Rattle.meson_rewrite.specs.Logs.{log_use}
 use Rattle.meson_command.specs.Asking.{without_text}
 use Rattle.meson_rewrite.specs.Opening.{OpensNone, bad_log, log_unread, no_log, no_project}
@@ -61,6 +67,7 @@ use Rattle.meson_rewrite.specs.declared.request.Listing.{Listing}
 use Rattle.meson_rewrite.specs.declared.request.Step.{Step}
 use Rattle.meson_rewrite.specs.declared.request.Step.TheVariants.{Run, Tell, Undo, UndoTo, UndoChecked, Redo, ForgetOldest, ForgetAll}
 use Rattle.meson_rewrite.specs.declared.said.Said.{Said}
+use Rattle.meson_rewrite.specs.declared.advice.Advice.TheVariants.{Nothing}
 use Rattle.meson_rewrite.specs.declared.stop.Stop.{Stop}
 use Rattle.meson_rewrite.specs.declared.stop.Stop.TheVariants.{BadTexts, OtherFiles, Parse, Refused, Script, Splice, Store, TooManyFiles, Usage}
 
@@ -77,22 +84,23 @@ opening-plain dir flags before after _ (no_project fault stops) = gathering-plai
 opening-plain dir flags before after _ (no_log files _ found (log_unread kept rose)) = refl
 opening-plain dir flags before after _ (no_log files _ found (bad_log kept bad)) = refl
 
-undo-plain : (files : List File) (fault : UndoFault) → unexplained (undo_stop files fault) ≡ undo_stop files fault
-undo-plain files (undo.Splice fault) = refl
-undo-plain files (undo.Load load.TooManyFiles) = refl
-undo-plain files (undo.Load (load.BadFileName place)) = refl
-undo-plain files (undo.Load (load.Parse place fault)) = refl
-undo-plain files (undo.Load load.OutOfMemory) = refl
+undo-plain : (files : List File) (run : Option LoggedRun) (fault : UndoFault) → unexplained (undo_stop files run fault) ≡ undo_stop files run fault
+undo-plain files run (undo.Splice fault) = refl
+undo-plain files run (undo.Load load.TooManyFiles) = refl
+undo-plain files run (undo.Load (load.BadFileName place)) = refl
+undo-plain files run (undo.Load (load.Parse place fault)) = refl
+undo-plain files run (undo.Load load.OutOfMemory) = refl
 
 memory-plain : (stop : Stop) → WantsMemory stop → WantsMemory (unexplained stop)
 memory-plain (Usage fault advice_) (wants, none) = (wants, refl)
 memory-plain (Script fault advice_) (wants, none) = (wants, refl)
 memory-plain (Refused fault subject advice_) (wants, none) = (wants, refl)
-memory-plain (Splice fault advice_) (wants, none) = (wants, refl)
+memory-plain (Splice fault run advice_) (wants, none) = (wants, refl)
 memory-plain (Store fault advice_) (wants, none) = (wants, refl)
 memory-plain (Parse name text fault advice_) m = absurd m
 memory-plain (TooManyFiles advice_) m = absurd m
 memory-plain (OtherFiles name advice_) m = absurd m
+memory-plain (BadTexts advice_) m = absurd m
 memory-plain _ m = m
 
 -- ---- a step that is refused
@@ -102,23 +110,26 @@ run-plain : (flags : Flags) (old : Session) (commands : List Command) (stop : St
 run-plain flags old commands (Refused fault subject advice_) (may, more) = (may, told-plain flags old.project commands fault subject advice_ more)
 run-plain flags old commands _ h = absurd h
 
-step-plain : (old : Session) (step : Result (History × List File) SpliceFault) (stop : Stop) → StopsStep old step stop → StopsStep old step (unexplained stop)
-step-plain old step stop (fault, may, is) = (fault, may, ap unexplained is ∙ undo-plain old.project.files fault)
+step-plain : (old : Session) (which : Side) (runs : List Change) (step : Result (History × List File) SpliceFault) (stop : Stop)
+    → StopsStep old which runs step stop → StopsStep old which runs step (unexplained stop)
+step-plain old which runs step stop (fault, may, is) = (fault, may, ap unexplained is ∙ undo-plain old.project.files (newest_run which 1 (reverse runs)) fault)
 
 back-plain : (count : ℕ) (old : Session) (stop : Stop) → StopsStepsBack count old stop → StopsStepsBack count old (unexplained stop)
-back-plain count old stop (fault, between, stops, is) = (fault, between, stops, ap unexplained is ∙ undo-plain old.project.files fault)
+back-plain count old stop (fault, between, stops, is) =
+    let run = newest_run side.Undo (stops.done + 1) (reverse between.history.past) in
+    (fault, between, stops, ap unexplained is ∙ undo-plain old.project.files run fault)
 
 refused-plain : (flags : Flags) (step : Step) (old : Session) (stop : Stop) → MayRefuseStep flags step old stop
     → MayRefuseStep (plain_flags flags) step old (unexplained stop)
 refused-plain flags (Run script title) old stop h = run-plain flags old script.commands stop h
 refused-plain flags (Tell script) old stop h = run-plain flags old script.commands stop h
-refused-plain flags Undo old stop h = step-plain old (undone old.history old.project.files) stop h
+refused-plain flags Undo old stop h = step-plain old side.Undo old.history.past (undone old.history old.project.files) stop h
 refused-plain flags (UndoTo count) old stop h = back-plain count old stop h
 refused-plain flags (UndoChecked count kept) old stop (inl (other, is)) = inl (other, ap unexplained is)
 refused-plain flags (UndoChecked count kept) old stop (inr (has, back)) = inr (has, back-plain count old stop back)
 refused-plain flags (ForgetOldest count) old stop (few, is) = (few, ap unexplained is)
 refused-plain flags ForgetAll old stop h = absurd h
-refused-plain flags Redo old stop h = step-plain old (redone old.history old.project.files) stop h
+refused-plain flags Redo old stop h = step-plain old side.Redo old.history.future (redone old.history old.project.files) stop h
 
 -- a stop is a plain end, and so is what is said without warnings
 module _ (json : Bool) where
@@ -217,7 +228,7 @@ module _ (a : Asked) (name : List ℕ) (before after : Seen) where
       → (plain : Result Said Stop) × TextsEnd (plain_request a) name before after plain × IsPlainEnd a.flags.json end plain
   texts-plain _ (has_no_file stop u none) =
       (Err (unexplained stop), has_no_file (unexplained stop) u (no-file-plain before.content before.failures after.failures name stop none), refl)
-  texts-plain _ (has_no_texts bytes u has none) = (Err BadTexts, has_no_texts bytes u has none, refl)
+  texts-plain _ (has_no_texts bytes u has none) = (Err (BadTexts Nothing), has_no_texts bytes u has none, refl)
   texts-plain _ (as_with_files reached bytes texts end u v has lists_them ends) =
       let plain = ends-plain (Ok a) _ _ end ends in
       (plain.0, as_with_files reached bytes texts plain.0 u v has lists_them plain.1, plain.2)
@@ -254,8 +265,9 @@ text-plain (Script fault advice_) = refl
 text-plain (Parse name text fault advice_) = refl
 text-plain (TooManyFiles advice_) = refl
 text-plain (Refused fault subject advice_) = refl
-text-plain (Splice fault advice_) = refl
+text-plain (Splice fault run advice_) = refl
 text-plain (OtherFiles name advice_) = refl
+text-plain (BadTexts advice_) = refl
 text-plain (Store fault advice_) = refl
 text-plain _ = refl
 
@@ -265,8 +277,9 @@ below-plain (Script fault advice_) = (advice_lines advice_, refl)
 below-plain (Parse name text fault advice_) = (advice_lines advice_, refl)
 below-plain (TooManyFiles advice_) = (advice_lines advice_, refl)
 below-plain (Refused fault subject advice_) = (advice_lines advice_, refl)
-below-plain (Splice fault advice_) = (advice_lines advice_, refl)
+below-plain (Splice fault run advice_) = (advice_lines advice_, refl)
 below-plain (OtherFiles name advice_) = (advice_lines advice_, refl)
+below-plain (BadTexts advice_) = (advice_lines advice_, refl)
 below-plain (Store fault advice_) = (advice_lines advice_, ap (λ (l : List ℕ). l ++ advice_lines advice_) (sym (append-nil (left_lines (still_new fault)))))
 below-plain _ = ([], refl)
 
@@ -360,10 +373,12 @@ members_are_plain (TooManyFiles advice_) key h n =
 members_are_plain (Refused fault subject advice_) key h n =
     plain-members key None (refusal_code fault.refusal) (refused_command fault.index fault.refusal) None None None (refused_text fault.index fault.refusal)
     (refusal_subject fault.refusal subject) h n (advice_help advice_) (advice_notes advice_)
-members_are_plain (Splice fault advice_) key h n =
+members_are_plain (Splice fault run advice_) key h n =
     plain-members key (splice_offset fault) (splice_code fault) None None (splice_file fault) None (splice_fault_text fault) None h n (advice_help advice_) (advice_notes advice_)
 members_are_plain (OtherFiles name advice_) key h n =
     plain-members key None (codes "P6") None None (Some name) None (codes "P6 files are not as " ++ (name ++ codes " has them")) None h n (advice_help advice_) (advice_notes advice_)
+members_are_plain (BadTexts advice_) key h n =
+    plain-members key None (codes "J11") None None None None (codes "J11 bad texts") None h n (advice_help advice_) (advice_notes advice_)
 members_are_plain (Store fault advice_) key h n =
     plain-members key None (store_code fault) None None (store_file fault) (store_left fault) (store_fault_text fault) None h n (advice_help advice_) (advice_notes advice_)
 members_are_plain _ key h n = refl

@@ -4,6 +4,7 @@ use Rattle.std.specs.Prelude.{OnOk}
 use Rattle.meson_command.specs.declared.asked.Asked.{Asked}
 use Rattle.meson_command.specs.declared.asked.Flags.{Flags}
 use Rattle.meson_command.specs.declared.fault.UsageFault.{UsageFault}
+use Rattle.meson_json.specs.declared.fault.ScriptFault.TheVariants as script
 use Rattle.meson_rewrite.specs.AdviceLaws.{IsPlainEnd, unexplained}
 use Rattle.meson_rewrite.specs.Faults.{IsExplained, has_none, is_told, not_asked, ran_out}
 use Rattle.meson_rewrite.specs.Lines.{status}
@@ -14,13 +15,15 @@ use Rattle.meson_rewrite.specs.declared.advice.Advice.{Advice}
 use Rattle.meson_rewrite.specs.declared.advice.Advice.TheVariants.{OutOfMemory}
 use Rattle.meson_rewrite.specs.declared.said.Said.{Said}
 use Rattle.meson_rewrite.specs.declared.stop.Stop.{Stop}
-use Rattle.meson_rewrite.specs.declared.stop.Stop.TheVariants.{OtherFiles, Parse, Refused, Script, Splice, Store, TooManyFiles, Usage}
+use Rattle.meson_rewrite.specs.declared.stop.Stop.TheVariants.{BadTexts, OtherFiles, Parse, Refused, Script, Splice, Store, TooManyFiles, Usage}
 
 advised-plain : (advice : Advice) (stop : Stop) → unexplained (advised advice stop) ≡ unexplained stop
 advised-plain advice (Parse name text fault old) = refl
 advised-plain advice (TooManyFiles old) = refl
-advised-plain advice (Splice fault old) = refl
+advised-plain advice (Splice fault run old) = refl
 advised-plain advice (OtherFiles name old) = refl
+advised-plain advice (BadTexts old) = refl
+advised-plain advice (Script script.BadLog old) = refl
 advised-plain advice (Store fault old) = refl
 advised-plain advice _ = refl
 
@@ -56,8 +59,9 @@ status-unexplained exit_code (Script fault advice_) = refl
 status-unexplained exit_code (Parse name text fault advice_) = refl
 status-unexplained exit_code (TooManyFiles advice_) = refl
 status-unexplained exit_code (Refused fault subject advice_) = refl
-status-unexplained exit_code (Splice fault advice_) = refl
+status-unexplained exit_code (Splice fault run advice_) = refl
 status-unexplained exit_code (OtherFiles name advice_) = refl
+status-unexplained exit_code (BadTexts advice_) = refl
 status-unexplained exit_code (Store fault advice_) = refl
 status-unexplained exit_code _ = refl
 
@@ -78,8 +82,9 @@ unread-plain (Err (Script fault advice_)) = refl
 unread-plain (Err (Parse name text fault advice_)) = refl
 unread-plain (Err (TooManyFiles advice_)) = refl
 unread-plain (Err (Refused fault subject advice_)) = refl
-unread-plain (Err (Splice fault advice_)) = refl
+unread-plain (Err (Splice fault run advice_)) = refl
 unread-plain (Err (OtherFiles name advice_)) = refl
+unread-plain (Err (BadTexts advice_)) = refl
 unread-plain (Err (Store fault advice_)) = refl
 unread-plain (Err _) = refl
 

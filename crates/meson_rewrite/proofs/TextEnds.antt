@@ -30,6 +30,7 @@ use Rattle.meson_rewrite.specs.Stops.{WantsMemory, unread_by}
 use Rattle.meson_rewrite.specs.Texts.{laid, placed, plain}
 use Rattle.meson_rewrite.specs.declared.advice.Advice.{Advice}
 use Rattle.meson_rewrite.specs.declared.said.Said.{Said}
+use Rattle.meson_rewrite.specs.declared.advice.Advice.TheVariants.{Nothing}
 use Rattle.meson_rewrite.specs.declared.stop.Stop.{Stop}
 use Rattle.meson_rewrite.specs.declared.stop.Stop.TheVariants.{BadTexts, Usage}
 
@@ -55,11 +56,11 @@ module _ (a : Asked) (name : List ℕ) (before after : Seen) (u : Untouched befo
   texts-unread stop (inl m) = has_no_memory stop u m
   texts-unread stop (inr none) = has_no_file stop u none
 
-  pub texts-bad : (bytes : List ℕ) → HasBytes before.content name bytes → (stop : Stop) → WantsMemory stop ⊎ ((stop ≡ BadTexts) × HasNoTexts bytes) → TextsEnd a name before after (Err stop)
+  pub texts-bad : (bytes : List ℕ) → HasBytes before.content name bytes → (stop : Stop) → WantsMemory stop ⊎ ((stop ≡ BadTexts Nothing) × HasNoTexts bytes) → TextsEnd a name before after (Err stop)
   texts-bad bytes has stop (inl m) = has_no_memory stop u m
   texts-bad bytes has stop (inr (is, none)) = subst (λ s. TextsEnd a name before after (Err s)) (sym is) (has_no_texts bytes u has none)
 
-pub bad-texts-unread : (bytes : List ℕ) (stop : Stop) → WantsMemory stop ⊎ ((stop ≡ BadTexts) × HasNoTexts bytes) → unread_by stop ≡ None
+pub bad-texts-unread : (bytes : List ℕ) (stop : Stop) → WantsMemory stop ⊎ ((stop ≡ BadTexts Nothing) × HasNoTexts bytes) → unread_by stop ≡ None
 bad-texts-unread bytes stop (inl m) = memory-unread stop m
 bad-texts-unread bytes stop (inr (is, none)) = ap unread_by is
 

@@ -1,6 +1,6 @@
 -- Stops that tell of no file that could not be read.
 use Rattle.std.proofs.Common.{◌≡◌, ◌⊎◌, ◌∙◌, ℕ, List, [], ◌∷◌, None, false, Result, Ok, Err, inl, inr, refl, ap}
-use Rattle.std.specs.Prelude.{IfErr}
+use Rattle.std.specs.Prelude.{◌+◌, IfErr, Option, reverse}
 use Rattle.meson_command.specs.declared.asked.Action.{Action}
 use Rattle.meson_command.specs.declared.asked.Action.TheVariants as action
 use Rattle.meson_command.specs.declared.asked.Flags.{Flags}
@@ -8,6 +8,7 @@ use Rattle.meson_calls.specs.declared.load_fault.LoadFault.TheVariants as load
 use Rattle.meson_script.specs.declared.fault.UndoFault.{UndoFault}
 use Rattle.meson_script.specs.declared.fault.UndoFault.TheVariants as undo
 use Rattle.meson_script.specs.declared.session.Session.{Session}
+use Rattle.meson_splice.specs.declared.change.Change.{Change}
 use Rattle.meson_splice.specs.declared.fault.SpliceFault.{SpliceFault}
 use Rattle.meson_splice.specs.declared.file_set.File.{File}
 use Rattle.meson_splice.specs.declared.history.History.{History}
@@ -24,6 +25,10 @@ use Rattle.meson_store.specs.declared.store_fault.StoreFault.{StoreFault}
 use Rattle.meson_gathering.specs.ReadCounts.{unread_file, unread_name}
 use Rattle.meson_gathering.specs.declared.fault.GatherFault.{GatherFault}
 use Rattle.meson_gathering.specs.declared.fault.GatherFault.TheVariants as gather
+use Rattle.meson_rewrite.specs.LoggedRuns.{newest_run}
+use Rattle.meson_rewrite.specs.declared.logged_runs.LoggedRun.{LoggedRun}
+use Rattle.meson_rewrite.specs.declared.logged_runs.Side.{Side}
+use Rattle.meson_rewrite.specs.declared.logged_runs.Side.TheVariants as side
 use Rattle.meson_rewrite.specs.Requests.{AsksForNone, IsBad}
 use Rattle.meson_rewrite.specs.inside.Requests.{names_file}
 use Rattle.meson_rewrite.specs.Steps.{MayRefuseStep, StopsRun, StopsStep, StopsStepsBack}
@@ -66,33 +71,34 @@ asked-unread flags _ why unnamed (inr none) = absurd none
 
 -- ---- a step that is refused
 
-undo-unread : (files : List File) (fault : UndoFault) → unread_by (undo_stop files fault) ≡ None
-undo-unread files (undo.Splice fault) = refl
-undo-unread files (undo.Load load.TooManyFiles) = refl
-undo-unread files (undo.Load (load.BadFileName place)) = refl
-undo-unread files (undo.Load (load.Parse place fault)) = refl
-undo-unread files (undo.Load load.OutOfMemory) = refl
+undo-unread : (files : List File) (run : Option LoggedRun) (fault : UndoFault) → unread_by (undo_stop files run fault) ≡ None
+undo-unread files run (undo.Splice fault) = refl
+undo-unread files run (undo.Load load.TooManyFiles) = refl
+undo-unread files run (undo.Load (load.BadFileName place)) = refl
+undo-unread files run (undo.Load (load.Parse place fault)) = refl
+undo-unread files run (undo.Load load.OutOfMemory) = refl
 
 run-unread : (flags : Flags) (old : Session) (commands : List Command) (why : Stop) → StopsRun flags old commands why → unread_by why ≡ None
 run-unread flags old commands (Refused fault subject advice) h = refl
 run-unread flags old commands _ h = absurd h
 
-step-unread : (old : Session) (step : Result (History × List File) SpliceFault) (why : Stop) → StopsStep old step why → unread_by why ≡ None
-step-unread old step why h = ap unread_by h.2 ∙ undo-unread old.project.files h.0
+step-unread : (old : Session) (which : Side) (runs : List Change) (step : Result (History × List File) SpliceFault) (why : Stop)
+    → StopsStep old which runs step why → unread_by why ≡ None
+step-unread old which runs step why h = ap unread_by h.2 ∙ undo-unread old.project.files (newest_run which 1 (reverse runs)) h.0
 
 back-unread : (count : ℕ) (old : Session) (why : Stop) → StopsStepsBack count old why → unread_by why ≡ None
-back-unread count old why h = ap unread_by h.3 ∙ undo-unread old.project.files h.0
+back-unread count old why h = ap unread_by h.3 ∙ undo-unread old.project.files (newest_run side.Undo (h.2.done + 1) (reverse h.1.history.past)) h.0
 
 refused-unread : (flags : Flags) (step : Step) (old : Session) (why : Stop) → MayRefuseStep flags step old why → unread_by why ≡ None
 refused-unread flags (Run script title) old why h = run-unread flags old script.commands why h
 refused-unread flags (Tell script) old why h = run-unread flags old script.commands why h
-refused-unread flags Undo old why h = step-unread old (undone old.history old.project.files) why h
+refused-unread flags Undo old why h = step-unread old side.Undo old.history.past (undone old.history old.project.files) why h
 refused-unread flags (UndoTo count) old why h = back-unread count old why h
 refused-unread flags (UndoChecked count kept) old why (inl other) = ap unread_by other.1
 refused-unread flags (UndoChecked count kept) old why (inr (has, back)) = back-unread count old why back
 refused-unread flags (ForgetOldest count) old why h = ap unread_by h.1
 refused-unread flags ForgetAll old why h = absurd h
-refused-unread flags Redo old why h = step-unread old (redone old.history old.project.files) why h
+refused-unread flags Redo old why h = step-unread old side.Redo old.history.future (redone old.history old.project.files) why h
 
 pub stop-unread : (flags : Flags) (step : Step) (old : Session) (why : Stop) → WantsMemory why ⊎ MayRefuseStep flags step old why → unread_by why ≡ None
 stop-unread flags step old why (inl m) = memory-unread why m

@@ -14,7 +14,7 @@ use Rattle.meson_rewrite.specs.declared.advice.Advice.TheVariants.{Nothing}
 use Rattle.meson_rewrite.specs.declared.request.Step.{Step}
 use Rattle.meson_rewrite.specs.declared.said.Said.{Said}
 use Rattle.meson_rewrite.specs.declared.stop.Stop.{Stop}
-use Rattle.meson_rewrite.specs.declared.stop.Stop.TheVariants.{OtherFiles, Parse, Refused, Script, Splice, Store, TooManyFiles, Usage}
+use Rattle.meson_rewrite.specs.declared.stop.Stop.TheVariants.{BadTexts, OtherFiles, Parse, Refused, Script, Splice, Store, TooManyFiles, Usage}
 
 -- the stop without what explains it
 abbrev pub unexplained : Stop → Stop
@@ -23,8 +23,9 @@ unexplained (Script fault advice) = Script fault Nothing
 unexplained (Parse name text fault advice) = Parse name text fault Nothing
 unexplained (TooManyFiles advice) = TooManyFiles Nothing
 unexplained (Refused fault subject advice) = Refused fault subject Nothing
-unexplained (Splice fault advice) = Splice fault Nothing
+unexplained (Splice fault run advice) = Splice fault run Nothing
 unexplained (OtherFiles name advice) = OtherFiles name Nothing
+unexplained (BadTexts advice) = BadTexts Nothing
 unexplained (Store fault advice) = Store fault Nothing
 unexplained stop = stop
 

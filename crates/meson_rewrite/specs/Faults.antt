@@ -5,19 +5,26 @@ use Rattle.meson_explaining.specs.Excerpts.{fault_explanation, fault_lines}
 use Rattle.meson_explaining.specs.Notes.{plain_note}
 use Rattle.meson_explaining.specs.declared.explanation.Explanation.{Explanation}
 use Rattle.meson_gathering.specs.Gathering.{file_of}
+use Rattle.meson_json.specs.declared.fault.ScriptFault.{ScriptFault}
+use Rattle.meson_json.specs.declared.fault.ScriptFault.TheVariants as script
 use Rattle.meson_splice.specs.declared.fault.SpliceFault.{SpliceFault}
 use Rattle.meson_splice.specs.declared.fault.SpliceFault.TheVariants as splice
 use Rattle.meson_store.specs.declared.store_fault.StoreFault.{StoreFault}
 use Rattle.meson_store.specs.declared.store_fault.StoreFault.TheVariants as store
 use Rattle.meson_syntax.specs.declared.fault.ParseFault.{ParseFault}
+use Rattle.meson_explaining.specs.declared.explanation.Note.{Note}
 use Rattle.meson_rewrite.specs.Advising.{advice_of}
+use Rattle.meson_rewrite.specs.declared.logged_runs.LoggedRun.{LoggedRun}
+use Rattle.meson_rewrite.specs.declared.logged_runs.Side.{Side}
+use Rattle.meson_rewrite.specs.declared.logged_runs.Side.TheVariants as side
+use Rattle.meson_rewrite.specs.declared.stop.FileText.TheVariants.{After, Read}
 use Rattle.meson_rewrite.specs.Logs.{log_name}
 use Rattle.meson_rewrite.specs.Stops.{advised}
 use Rattle.meson_rewrite.specs.declared.advice.Advice.{Advice}
 use Rattle.meson_rewrite.specs.declared.advice.Advice.TheVariants.{Lines, OutOfMemory}
 use Rattle.meson_rewrite.specs.declared.said.Said.{Said}
 use Rattle.meson_rewrite.specs.declared.stop.Stop.{Stop}
-use Rattle.meson_rewrite.specs.declared.stop.Stop.TheVariants.{Parse, TooManyFiles, Splice, OtherFiles, Store}
+use Rattle.meson_rewrite.specs.declared.stop.Stop.TheVariants.{BadTexts, Parse, Script, TooManyFiles, Splice, OtherFiles, Store}
 
 -- ---- what is said
 
@@ -26,12 +33,28 @@ abbrev pub file_advice : Bool → List ℕ → List ℕ → ParseFault → Advic
 file_advice false name bytes fault = Lines (fault_lines name bytes fault)
 file_advice true name bytes fault = advice_of true (file_of name bytes ∷ []) (fault_explanation fault)
 
--- what was seen, and what may be done; it is about no place
-abbrev pub plain_explanation : List ℕ → List ℕ → Explanation
-plain_explanation note help = record { notes = plain_note note ∷ []; help = help ∷ [] }
+abbrev pub side_word : Side → List ℕ
+side_word side.Undo = codes "undo"
+side_word side.Redo = codes "redo"
 
-abbrev pub plain_advice : Bool → List ℕ → List ℕ → Advice
-plain_advice json note help = advice_of json [] (plain_explanation note help)
+abbrev pub numbered : ℕ → (title : List ℕ) → List ℕ
+numbered number [] = decimal number
+numbered number (b ∷ title) = decimal number ++ (codes ", title: " ++ b ∷ title)
+
+-- as `history` lists a run of the log
+abbrev pub run_text : LoggedRun → List ℕ
+run_text run = codes "history lists the run as " ++ (side_word run.side ++ (codes " " ++ numbered run.number run.title))
+
+abbrev pub run_notes : Option LoggedRun → List Note
+run_notes None = []
+run_notes (Some run) = plain_note (run_text run) ∷ []
+
+-- what was seen, of which run of the log, and what may be done; it is about no place
+abbrev pub plain_explanation : List ℕ → Option LoggedRun → List ℕ → Explanation
+plain_explanation note run help = record { notes = plain_note note ∷ run_notes run; help = help ∷ [] }
+
+abbrev pub plain_advice : Bool → List ℕ → Option LoggedRun → List ℕ → Advice
+plain_advice json note run help = advice_of json [] (plain_explanation note run help)
 
 -- of the file of that name, which could not be read
 abbrev pub read_help : List ℕ → List ℕ
@@ -61,8 +84,8 @@ store_words (store.NoFile name) = Some (
 )
 store_words _ = None
 
-abbrev pub words_advice : Bool → Option (List ℕ × List ℕ) → Option Advice
-words_advice json words = option_map (λ w. plain_advice json w.0 w.1) words
+abbrev pub words_advice : Bool → Option LoggedRun → Option (List ℕ × List ℕ) → Option Advice
+words_advice json run words = option_map (λ w. plain_advice json w.0 run w.1) words
 
 -- what is done about a change that does not fit
 abbrev pub take_back : List ℕ
@@ -84,16 +107,28 @@ splice_words splice.NothingToUndo = Some (codes "the log has no run to take back
 splice_words splice.NothingToRedo = Some (codes "no run was taken back since the newest one", kept_runs)
 splice_words splice.OutOfMemory = None
 
+-- of a log that cannot be read
+abbrev pub log_advice : Bool → ScriptFault → Option Advice
+log_advice json script.BadLog = Some (plain_advice json
+    (codes "meson.rewrite-log is no valid log: it was edited, merged or cut") None
+    (codes "move it away: its runs cannot be undone then; or run with --no-log"))
+log_advice json _ = None
+
 abbrev pub fault_advice : Bool → Stop → Option Advice
-fault_advice json (Parse name (Some text) fault advice) = Some (file_advice json name text fault)
-fault_advice json (Parse name None fault advice) = Some (plain_advice json (name ++ codes " would be so after the step; no file was changed") take_back)
-fault_advice json (Splice fault advice) = words_advice json (splice_words fault)
+fault_advice json (Parse name (Read text) fault advice) = Some (file_advice json name text fault)
+fault_advice json (Parse name (After run) fault advice) =
+    Some (plain_advice json (name ++ codes " would be so after the step; no file was changed") run take_back)
+fault_advice json (Splice fault run advice) = words_advice json run (splice_words fault)
 fault_advice json (OtherFiles name advice) = Some (plain_advice json
-    (codes "a build file was changed, added or removed since " ++ (name ++ codes " was written, or it has other text"))
+    (codes "a build file was changed, added or removed since " ++ (name ++ codes " was written, or it has other text")) None
     (codes "sha256sum --check prints which file it is: take that change back, or remove meson.rewrite-log and use git"))
 fault_advice json (TooManyFiles advice) =
-    Some (plain_advice json (codes "a project has at most 1024 build files") (codes "--sourcedir names a folder below, whose project has fewer"))
-fault_advice json (Store fault advice) = words_advice json (store_words fault)
+    Some (plain_advice json (codes "a project has at most 1024 build files") None (codes "--sourcedir names a folder below, whose project has fewer"))
+fault_advice json (BadTexts advice) = Some (plain_advice json
+    (codes "the file of --texts is no object with the member texts, an array of objects with the members file and text, or has a file twice") None
+    (codes "each file has the name of a build file, as list prints it"))
+fault_advice json (Script fault advice) = log_advice json fault
+fault_advice json (Store fault advice) = words_advice json None (store_words fault)
 fault_advice json _ = None
 
 -- ---- when

@@ -1,4 +1,5 @@
 pub mod Logs
+pub mod LoggedRuns
 pub mod Stops
 pub mod Lines
 pub mod Codes

@@ -38,9 +38,9 @@ stop_text (Parse name text fault advice) = file_text name fault
 stop_text (TooManyFiles advice) = load_fault_text load.TooManyFiles
 stop_text (BadFileName place) = load_fault_text (load.BadFileName place)
 stop_text (Refused fault subject advice) = refused_text fault.index fault.refusal
-stop_text (Splice fault advice) = splice_fault_text fault
+stop_text (Splice fault run advice) = splice_fault_text fault
 stop_text (OtherFiles name advice) = codes "P6 files are not as " ++ (name ++ codes " has them")
-stop_text BadTexts = codes "J11 bad texts"
+stop_text (BadTexts advice) = codes "J11 bad texts"
 stop_text (Store fault advice) = store_fault_text fault
 
 -- one line for each file that may have its new bytes
@@ -65,8 +65,9 @@ lines_below (Script fault advice) = advice_lines advice
 lines_below (Parse name text fault advice) = advice_lines advice
 lines_below (TooManyFiles advice) = advice_lines advice
 lines_below (Refused fault subject advice) = advice_lines advice
-lines_below (Splice fault advice) = advice_lines advice
+lines_below (Splice fault run advice) = advice_lines advice
 lines_below (OtherFiles name advice) = advice_lines advice
+lines_below (BadTexts advice) = advice_lines advice
 lines_below (Store fault advice) = left_lines (still_new fault) ++ advice_lines advice
 lines_below _ = []
 

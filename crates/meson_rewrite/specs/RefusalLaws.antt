@@ -45,18 +45,18 @@ id_and (Some id) more = id ∷ more
 
 -- the words of a command: its id, its folder and its sources, keys or options
 abbrev pub words_of : Command → List (List ℕ)
-words_of (SourcesAdd target sources) = target ∷ sources
-words_of (SourcesRemove target sources) = target ∷ sources
-words_of (ExtraAdd target sources) = target ∷ sources
-words_of (ExtraRemove target sources) = target ∷ sources
+words_of (SourcesAdd target sources) = target.id ∷ sources
+words_of (SourcesRemove target sources) = target.id ∷ sources
+words_of (ExtraAdd target sources) = target.id ∷ sources
+words_of (ExtraRemove target sources) = target.id ∷ sources
 words_of (TargetAdd target kind subdir sources) = target ∷ subdir ∷ sources
-words_of (TargetRemove target) = target ∷ []
-words_of (TargetInfo target) = target ∷ []
-words_of (KwargsSet role id pairs) = id ∷ map (λ p. p.0) pairs
-words_of (KwargsAdd role id pairs) = id ∷ map (λ p. p.0) pairs
-words_of (KwargsRemove role id pairs) = id ∷ map (λ p. p.0) pairs
-words_of (KwargsDelete role id keys) = id ∷ keys
-words_of (KwargsInfo role id) = id ∷ []
+words_of (TargetRemove target) = target.id ∷ []
+words_of (TargetInfo target) = target.id ∷ []
+words_of (KwargsSet role name pairs) = name.id ∷ map (λ p. p.0) pairs
+words_of (KwargsAdd role name pairs) = name.id ∷ map (λ p. p.0) pairs
+words_of (KwargsRemove role name pairs) = name.id ∷ map (λ p. p.0) pairs
+words_of (KwargsDelete role name keys) = name.id ∷ keys
+words_of (KwargsInfo role name) = name.id ∷ []
 words_of (OptionsSet pairs) = map (λ p. p.0) pairs
 words_of (OptionsDelete names) = names
 words_of (Argument n change) = id_and (id_in n.place.name) n.keys

@@ -47,7 +47,7 @@ splice_offset _ = None
 
 abbrev pub stop_offset : Stop → Option ℕ
 stop_offset (Parse name text fault advice) = file_fault_offset fault
-stop_offset (Splice fault advice) = splice_offset fault
+stop_offset (Splice fault run advice) = splice_offset fault
 stop_offset _ = None
 
 -- ---- the number of the command, and that of the entry of a script
@@ -93,7 +93,7 @@ store_file _ = None
 
 abbrev pub stop_file : Stop → Option (List ℕ)
 stop_file (Parse name text fault advice) = parsed_file name fault
-stop_file (Splice fault advice) = splice_file fault
+stop_file (Splice fault run advice) = splice_file fault
 stop_file (OtherFiles name advice) = Some name
 stop_file (Store fault advice) = store_file fault
 stop_file _ = None

@@ -128,7 +128,7 @@ pub data TextsEnd (a : Asked) (name : List ℕ) (before after : Seen) : Result S
       → TextsEnd a name before after (Err stop)
   -- it lists no texts of build files
   has_no_texts : (bytes : List ℕ) → Untouched before after → HasBytes before.content name bytes → HasNoTexts bytes
-      → TextsEnd a name before after (Err BadTexts)
+      → TextsEnd a name before after (Err (BadTexts Nothing))
   -- the file was read, and then the store as if it held the texts
   as_with_files : (reached : Seen) (bytes : List ℕ) (texts : List GivenText) (end : Result Said Stop) → Untouched before reached → Untouched reached after
       → HasBytes before.content name bytes → HasTexts bytes texts

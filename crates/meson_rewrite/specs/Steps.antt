@@ -1,8 +1,9 @@
 -- What a step does to a session, and what it then says.
-use Rattle.std.specs.Prelude.{◌≡◌, ◌≢◌, ◌<◌, ◌⊎◌, ⊤, Bool, true, false, ℕ, List, [], ◌∷◌, ◌++◌, length, codes, decimal, Result}
+use Rattle.std.specs.Prelude.{◌≡◌, ◌≢◌, ◌<◌, ◌+◌, ◌⊎◌, ⊤, Bool, true, false, ℕ, List, [], ◌∷◌, ◌++◌, length, reverse, codes, decimal, None, Result}
 use Rattle.meson_calls.specs.declared.refusal.Refusal.TheVariants.{OutOfMemory}
 use Rattle.meson_diff.specs.Diff.{IsDiff}
 use Rattle.meson_splice.specs.Past.{Forgets, redone, undone}
+use Rattle.meson_splice.specs.declared.change.Change.{Change}
 use Rattle.meson_splice.specs.declared.fault.SpliceFault.{SpliceFault}
 use Rattle.meson_splice.specs.declared.fault.SpliceFault.TheVariants.{NothingToUndo}
 use Rattle.meson_splice.specs.declared.file_set.File.{File}
@@ -20,6 +21,9 @@ use Rattle.meson_sums.specs.Sums.{sums}
 use Rattle.meson_command.specs.declared.asked.Flags.{Flags}
 use Rattle.meson_rewrite.specs.Advising.{IsTold}
 use Rattle.meson_rewrite.specs.Lines.{done_line, forgot_line, line, title_line}
+use Rattle.meson_rewrite.specs.LoggedRuns.{newest_run}
+use Rattle.meson_rewrite.specs.declared.logged_runs.Side.{Side}
+use Rattle.meson_rewrite.specs.declared.logged_runs.Side.TheVariants as side
 use Rattle.meson_rewrite.specs.Objects.{SaysObject, changes_files}
 use Rattle.meson_rewrite.specs.Stops.{undo_stop}
 use Rattle.meson_rewrite.specs.declared.advice.Advice.TheVariants.{Nothing}
@@ -62,13 +66,15 @@ StopsRun flags old commands (Refused fault subject advice) =
     (fault.refusal ≢ OutOfMemory → MayStop old.project commands fault.index fault.refusal) × IsTold flags old.project commands fault subject advice
 StopsRun flags old commands _ = ⊥
 
--- a change is not taken back or done again
-abbrev pub StopsStep : Session → Result (History × List File) SpliceFault → Stop → Type 0
-StopsStep old step why = (fault : UndoFault) × MayNotStep step fault × (why ≡ undo_stop old.project.files fault)
+-- the next run of a side is not taken back or done again
+abbrev pub StopsStep : Session → Side → List Change → Result (History × List File) SpliceFault → Stop → Type 0
+StopsStep old which runs step why =
+    (fault : UndoFault) × MayNotStep step fault × (why ≡ undo_stop old.project.files (newest_run which 1 (reverse runs)) fault)
 
--- one of this number of changes is not taken back
+-- one of this number of runs is not taken back: the newest one that is left
 abbrev pub StopsStepsBack : ℕ → Session → Stop → Type 0
-StopsStepsBack count old why = (fault : UndoFault) × (between : Session) × StopsBack count old fault between × (why ≡ undo_stop old.project.files fault)
+StopsStepsBack count old why = (fault : UndoFault) × (between : Session) × (stops : StopsBack count old fault between)
+    × (why ≡ undo_stop old.project.files (newest_run side.Undo (stops.done + 1) (reverse between.history.past)) fault)
 
 -- the files have other digests; or they have these, and one of this number of changes is not taken back
 abbrev pub StopsChecked : ℕ → NamedFile → Session → Stop → Type 0
@@ -76,17 +82,17 @@ StopsChecked count kept old why = ((HasSums old kept → ⊥) × (why ≡ OtherF
 
 -- fewer changes are there to drop
 abbrev pub StopsForgetting : ℕ → Session → Stop → Type 0
-StopsForgetting count old why = (length old.history.past < count) × (why ≡ Splice NothingToUndo Nothing)
+StopsForgetting count old why = (length old.history.past < count) × (why ≡ Splice NothingToUndo None Nothing)
 
 abbrev pub MayRefuseStep : Flags → Step → Session → Stop → Type 0
 MayRefuseStep flags (Run script title) old why = StopsRun flags old script.commands why
 MayRefuseStep flags (Tell script) old why = StopsRun flags old script.commands why
-MayRefuseStep flags Undo old why = StopsStep old (undone old.history old.project.files) why
+MayRefuseStep flags Undo old why = StopsStep old side.Undo old.history.past (undone old.history old.project.files) why
 MayRefuseStep flags (UndoTo count) old why = StopsStepsBack count old why
 MayRefuseStep flags (UndoChecked count kept) old why = StopsChecked count kept old why
 MayRefuseStep flags (ForgetOldest count) old why = StopsForgetting count old why
 MayRefuseStep flags ForgetAll old why = ⊥
-MayRefuseStep flags Redo old why = StopsStep old (redone old.history old.project.files) why
+MayRefuseStep flags Redo old why = StopsStep old side.Redo old.history.future (redone old.history old.project.files) why
 
 -- what is kept gets a title
 abbrev pub IsTitled : Step → Type 0

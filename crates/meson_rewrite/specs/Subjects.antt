@@ -18,18 +18,18 @@ id_in (name.Line file line) = None
 
 -- the id of the call that the command is about; default options are of no id
 abbrev pub id_of : Command → Option (List ℕ)
-id_of (SourcesAdd target sources) = Some target
-id_of (SourcesRemove target sources) = Some target
-id_of (ExtraAdd target sources) = Some target
-id_of (ExtraRemove target sources) = Some target
+id_of (SourcesAdd target sources) = Some target.id
+id_of (SourcesRemove target sources) = Some target.id
+id_of (ExtraAdd target sources) = Some target.id
+id_of (ExtraRemove target sources) = Some target.id
 id_of (TargetAdd target kind subdir sources) = Some target
-id_of (TargetRemove target) = Some target
-id_of (TargetInfo target) = Some target
-id_of (KwargsSet role id pairs) = Some id
-id_of (KwargsAdd role id pairs) = Some id
-id_of (KwargsRemove role id pairs) = Some id
-id_of (KwargsDelete role id keys) = Some id
-id_of (KwargsInfo role id) = Some id
+id_of (TargetRemove target) = Some target.id
+id_of (TargetInfo target) = Some target.id
+id_of (KwargsSet role name pairs) = Some name.id
+id_of (KwargsAdd role name pairs) = Some name.id
+id_of (KwargsRemove role name pairs) = Some name.id
+id_of (KwargsDelete role name keys) = Some name.id
+id_of (KwargsInfo role name) = Some name.id
 id_of (OptionsSet pairs) = None
 id_of (OptionsDelete names) = None
 id_of (Argument n change) = id_in n.place.name

@@ -138,9 +138,9 @@ pub(crate) fn code_of(stop: &Stop) -> &'static str
         Stop::TooManyFiles(_) => "M1",
         Stop::BadFileName(_) => "M2",
         Stop::Refused { fault, .. } => refusal_code(&fault.refusal),
-        Stop::Splice(fault, _) => splice_code(fault),
+        Stop::Splice(fault, ..) => splice_code(fault),
         Stop::OtherFiles { .. } => "P6",
-        Stop::BadTexts => "J11",
+        Stop::BadTexts(_) => "J11",
         Stop::Store { fault, .. } => store_code(fault),
     }
 }

@@ -1,14 +1,18 @@
-//! What explains faults of files, of the log and of the store.
+//! What explains faults of files, of texts, of the log and of the store.
 
 ghost use Rattle.std.specs.Prelude.{◌≡◌, IfOk, option_map, string_bytes};
-ghost use Rattle.meson_rewrite.specs.Faults.{IsExplained, IsReported, fault_advice, file_advice, plain_advice, plain_explanation, read_help, splice_words, store_words, words_advice, write_words};
+ghost use Rattle.meson_explaining.specs.Notes.{plain_note};
+ghost use Rattle.meson_rewrite.specs.Faults.{IsExplained, IsReported, fault_advice, file_advice, log_advice, plain_advice, plain_explanation, read_help, run_text, side_word};
+ghost use Rattle.meson_rewrite.specs.Faults.{splice_words, store_words, words_advice, write_words};
 
 use crate::advice::{Advice, advice_of};
+use crate::logged_runs::{LoggedRun, Side};
 use crate::opening::LOG;
 use crate::said::Said;
-use crate::stop::Stop;
+use crate::stop::{FileText, Stop};
 use meson_command::Flags;
 use meson_explaining::{Explanation, Note, explain_fault, fault_lines};
+use meson_json::ScriptFault;
 use meson_splice::{FileSet, Many, SpliceFault, Text};
 use meson_store::StoreFault;
 use meson_syntax::ParseFault;
@@ -28,6 +32,19 @@ const FOLDER_BELOW: &str = "--sourcedir names a folder below, whose project has 
 /// What may be done about files that are not as they were.
 const WHICH_FILE: &str =
     "sha256sum --check prints which file it is: take that change back, or remove meson.rewrite-log and use git";
+
+/// Why a file of texts cannot be read.
+const TEXTS: &str =
+    "the file of --texts is no object with the member texts, an array of objects with the members file and text, or has a file twice";
+
+/// Which names files of texts have.
+const FILE_NAMES: &str = "each file has the name of a build file, as list prints it";
+
+/// Why the log cannot be read.
+const NO_LOG: &str = "meson.rewrite-log is no valid log: it was edited, merged or cut";
+
+/// What may be done about a log that cannot be read.
+const MOVE_AWAY: &str = "move it away: its runs cannot be undone then; or run with --no-log";
 
 /// What explains that the file of this name, with these bytes, is not a valid build file: its line, with a mark below the place.
 fn file_advice(
@@ -50,15 +67,53 @@ fn file_advice(
     advice_of(alloc, true, &files, explain_fault(alloc, fault)?)
 }
 
-/// An explanation that is about no place.
-fn plain_explanation(alloc: Global, note: String, help: &str) -> Result<Explanation, AllocError>
-    ensures { IfOk result (λ e. e ≡ plain_explanation (string_bytes note) help.now) }
+/// The word with which `history` lists the runs of a side.
+fn side_word(side: Side) -> &'static str
+    ensures { result.now ≡ side_word side }
 {
-    let mut notes = Vec::new(alloc);
-    notes.push(Note {
+    match side {
+        Side::Undo => "undo",
+        Side::Redo => "redo",
+    }
+}
+
+/// Which line of `history` lists a run of the log.
+fn run_text(alloc: Global, run: &LoggedRun) -> Result<String, AllocError>
+    ensures { IfOk result (λ text. string_bytes text ≡ run_text run.now) }
+{
+    let word = side_word(run.side);
+    let number = run.number;
+    if run.title.get().is_empty() {
+        return format!(in alloc; "history lists the run as {word} {number}");
+    }
+    let title = run.title.get();
+    format!(in alloc; "history lists the run as {word} {number}, title: {title}")
+}
+
+/// A note that is about no place.
+fn plain_note(note: String) -> Note
+    ensures { result ≡ plain_note (string_bytes note) }
+{
+    Note {
         spot: None,
         text: Text::of(note),
-    })?;
+    }
+}
+
+/// An explanation that is about no place, and about this run of the log, if there is one.
+fn plain_explanation(
+    alloc: Global,
+    note: String,
+    run: &Option<LoggedRun>,
+    help: &str,
+) -> Result<Explanation, AllocError>
+    ensures { IfOk result (λ e. e ≡ plain_explanation (string_bytes note) run.now help.now) }
+{
+    let mut notes = Vec::new(alloc);
+    notes.push(plain_note(note))?;
+    if let Some(run) = run {
+        notes.push(plain_note(run_text(alloc, run)?))?;
+    }
     let mut texts = Vec::new(alloc);
     texts.push(Text::of(String::from_str(alloc, help)?))?;
     Ok(Explanation {
@@ -67,11 +122,17 @@ fn plain_explanation(alloc: Global, note: String, help: &str) -> Result<Explanat
     })
 }
 
-/// What was seen, and what may be done.
-fn plain_advice(alloc: Global, json: bool, note: String, help: &str) -> Result<Advice, AllocError>
-    ensures { IfOk result (λ advice. advice ≡ plain_advice json (string_bytes note) help.now) }
+/// What was seen, of which run of the log, and what may be done.
+fn plain_advice(
+    alloc: Global,
+    json: bool,
+    note: String,
+    run: &Option<LoggedRun>,
+    help: &str,
+) -> Result<Advice, AllocError>
+    ensures { IfOk result (λ advice. advice ≡ plain_advice json (string_bytes note) run.now help.now) }
 {
-    let explanation = plain_explanation(alloc, note, help)?;
+    let explanation = plain_explanation(alloc, note, run, help)?;
     advice_of(alloc, json, &FileSet::new(alloc), explanation)
 }
 
@@ -169,24 +230,39 @@ fn splice_words(
 fn words_advice(
     alloc: Global,
     json: bool,
+    run: &Option<LoggedRun>,
     words: Option<(String, &'static str)>,
 ) -> Result<Option<Advice>, AllocError>
-    ensures { IfOk result (λ advice. advice ≡ words_advice json (option_map (λ w. (string_bytes w.0, w.1.now)) words.entry)) }
+    ensures { IfOk result (λ advice. advice ≡ words_advice json run.now (option_map (λ w. (string_bytes w.0, w.1.now)) words.entry)) }
 {
     match words {
-        Some((note, help)) => Ok(Some(plain_advice(alloc, json, note, help)?)),
+        Some((note, help)) => Ok(Some(plain_advice(alloc, json, note, run, help)?)),
         None => Ok(None),
     }
 }
 
-/// What explains a stop, if it is a fault of a file, of the log, of the store or of the number of files.
+/// What explains that a log cannot be read; nothing of a script.
+fn log_advice(alloc: Global, json: bool, fault: &ScriptFault) -> Result<Option<Advice>, AllocError>
+    ensures { IfOk result (λ advice. advice ≡ log_advice json fault.now) }
+{
+    match fault {
+        ScriptFault::BadLog => {
+            let note = String::from_str(alloc, NO_LOG)?;
+            let advice = plain_advice(alloc, json, note, &None, MOVE_AWAY)?;
+            Ok(Some(advice))
+        }
+        _ => Ok(None),
+    }
+}
+
+/// What explains a stop, if it is a fault of a file, of texts, of the log, of the store or of the number of files.
 fn fault_advice(alloc: Global, json: bool, stop: &Stop) -> Result<Option<Advice>, AllocError>
     ensures { IfOk result (λ advice. advice ≡ fault_advice json stop.now) }
 {
     match stop {
         Stop::Parse {
             name,
-            text: Some(text),
+            text: FileText::Read(text),
             fault,
             ..
         } => {
@@ -195,27 +271,35 @@ fn fault_advice(alloc: Global, json: bool, stop: &Stop) -> Result<Option<Advice>
         }
         Stop::Parse {
             name,
-            text: None,
+            text: FileText::After(run),
             ..
         } => {
             let note = format!(in alloc; "{name} would be so after the step; no file was changed")?;
-            let advice = plain_advice(alloc, json, note, TAKE_BACK)?;
+            let advice = plain_advice(alloc, json, note, run, TAKE_BACK)?;
             Ok(Some(advice))
         }
         Stop::TooManyFiles(_) => {
             let note = String::from_str(alloc, "a project has at most 1024 build files")?;
-            let advice = plain_advice(alloc, json, note, FOLDER_BELOW)?;
+            let advice = plain_advice(alloc, json, note, &None, FOLDER_BELOW)?;
             Ok(Some(advice))
         }
         Stop::OtherFiles { name, .. } => {
             let note = format!(in alloc;
                 "a build file was changed, added or removed since {name} was written, or it has other text"
             )?;
-            let advice = plain_advice(alloc, json, note, WHICH_FILE)?;
+            let advice = plain_advice(alloc, json, note, &None, WHICH_FILE)?;
             Ok(Some(advice))
         }
-        Stop::Splice(fault, _) => words_advice(alloc, json, splice_words(alloc, fault)?),
-        Stop::Store { fault, .. } => words_advice(alloc, json, store_words(alloc, fault)?),
+        Stop::BadTexts(_) => {
+            let note = String::from_str(alloc, TEXTS)?;
+            let advice = plain_advice(alloc, json, note, &None, FILE_NAMES)?;
+            Ok(Some(advice))
+        }
+        Stop::Script { fault, .. } => log_advice(alloc, json, fault),
+        Stop::Splice(fault, run, _) => {
+            words_advice(alloc, json, run, splice_words(alloc, fault)?)
+        }
+        Stop::Store { fault, .. } => words_advice(alloc, json, &None, store_words(alloc, fault)?),
         _ => Ok(None),
     }
 }

@@ -8,6 +8,7 @@ mod faults;
 pub mod laws;
 mod lines;
 mod listed;
+mod logged_runs;
 mod notes;
 mod objects;
 mod opening;

@@ -62,8 +62,9 @@ fn tell_below<O: Output>(alloc: Global, to: &mut O, stop: &Stop) -> io::Result<(
         | Stop::Parse { advice, .. }
         | Stop::TooManyFiles(advice)
         | Stop::Refused { advice, .. }
-        | Stop::Splice(_, advice)
+        | Stop::Splice(_, _, advice)
         | Stop::OtherFiles { advice, .. }
+        | Stop::BadTexts(advice)
         | Stop::Store { advice, .. } => tell_advice(to, advice),
         _ => Ok(()),
     }

@@ -193,7 +193,7 @@ fn answer_with_texts<S: Store>(
     let file = read_named(alloc, store, name)?;
     let texts = texts_in(alloc, folder(&asked.dir), file.bytes.get())?;
     // Until it is answered.
-    let mut end = Err(Stop::BadTexts);
+    let mut end = Err(Stop::BadTexts(Advice::Nothing));
     answer_over::<S, Brand>(alloc, store, &texts, asked, &mut end);
     end
 }

@@ -73,9 +73,9 @@ impl Stop {
     {
         match self {
             Stop::Parse { fault, .. } => file_fault_offset(*fault),
-            Stop::Splice(SpliceFault::OutOfRange(_, at) | SpliceFault::Stale(_, at), _) => Some(
-                *at,
-            ),
+            Stop::Splice(SpliceFault::OutOfRange(_, at) | SpliceFault::Stale(_, at), ..) => {
+                Some(*at)
+            }
             _ => None,
         }
     }
@@ -124,7 +124,7 @@ impl Stop {
                 SpliceFault::NoFile(name)
                 | SpliceFault::OutOfRange(name, _)
                 | SpliceFault::Stale(name, _),
-                _,
+                ..
             )
             | Stop::OtherFiles { name, .. }
             | Stop::Store {

@@ -16,6 +16,7 @@ ghost use Rattle.meson_script.specs.Undoing.{StepsBack};
 ghost use Rattle.meson_splice.specs.Past.{Forgets};
 
 use crate::advice::{Advice, refused};
+use crate::logged_runs::{Side, newest_run, undo_stop};
 use crate::opening::{LOG, LogUse, StoredSession, leave};
 use crate::request::{NamedFile, Step};
 use crate::said::Said;
@@ -23,54 +24,27 @@ use crate::stop::Stop;
 use crate::warnings::{warned, warnings_for};
 use meson_command::Flags;
 use meson_diff::diff;
-use meson_plan::{LoadFault, Project};
-use meson_script::{ListingForm, Report, Session, UndoFault, log_text};
-use meson_splice::{Bytes, FileSet, SpliceFault, Text};
-use meson_store::StoreFault;
+use meson_plan::Project;
+use meson_script::{ListingForm, Report, Session, log_text};
+use meson_splice::{Bytes, FileSet, Text};
 use meson_sums::are_kept;
-use meson_syntax::ParseFault;
 use std::alloc::{AllocError, Global};
-
-/// The file of this number would not be valid.
-fn unparsed(alloc: Global, files: &FileSet, place: usize, fault: ParseFault) -> Stop
-    requires { place < length files.now }
-    ensures { (result ≡ Stop.Parse (name_of_file place files.now) None fault Nothing) ⊎ (result ≡ Stop.Splice SpliceFault.OutOfMemory Nothing) }
-{
-    match String::from_str(alloc, files.name(place)) {
-        Ok(name) => Stop::Parse {
-            name: Text::of(name),
-            text: None,
-            fault,
-            advice: Advice::Nothing,
-        },
-        Err(refused) => Stop::Splice(SpliceFault::from(refused), Advice::Nothing),
-    }
-}
-
-/// Why an undo or a redo is refused on these files.
-fn undo_stop(alloc: Global, files: &FileSet, fault: UndoFault) -> Stop
-    requires { IsWithin fault (length files.now) }
-    ensures { (result ≡ undo_stop files.now fault) ⊎ (result ≡ Stop.Splice SpliceFault.OutOfMemory Nothing) }
-{
-    match fault {
-        UndoFault::Splice(fault) => Stop::Splice(fault, Advice::Nothing),
-        UndoFault::Load(LoadFault::TooManyFiles) => Stop::TooManyFiles(Advice::Nothing),
-        UndoFault::Load(LoadFault::BadFileName(place)) => Stop::BadFileName(place),
-        UndoFault::Load(LoadFault::Parse { index, fault }) => unparsed(alloc, files, index, fault),
-        UndoFault::Load(LoadFault::OutOfMemory) => Stop::from(StoreFault::OutOfMemory),
-    }
-}
 
 /// Takes back this number of the newest changes of a session.
 fn back_to(alloc: Global, session: &mut Session, count: usize) -> Result<Report, Stop>
     ensures does { IfOk result (λ report. StepsBack count session.old report session.new) }
-    ensures refused { IfErr result (StopsStepsBack count session.old) }
+    ensures refused { IfErr result (λ why. WantsMemory why ⊎ StopsStepsBack count session.old why) }
     ensures text { OnOk result (is_text_history session.old.history ≡ true → is_text_history session.new.history ≡ true) }
     ensures project { OnOk result (IsProject session.new.project) }
 {
+    let runs = session.history.past.get().len();
     match session.undo_to(alloc, count) {
         Ok(report) => Ok(report),
-        Err(fault) => Err(undo_stop(alloc, session.files(), fault)),
+        Err(fault) => {
+            let left = session.history.past.get();
+            let run = newest_run(Side::Undo, runs - left.len() + 1, left)?;
+            Err(undo_stop(alloc, session.files(), run, fault))
+        }
     }
 }
 
@@ -120,7 +94,7 @@ fn oldest_forgotten(alloc: Global, session: &mut Session, count: usize) -> Resul
     session.project.reads();
     match session.history.forget_oldest(alloc, count) {
         Ok(()) => Ok(nothing_done(alloc)),
-        Err(fault) => Err(Stop::Splice(fault, Advice::Nothing)),
+        Err(fault) => Err(Stop::from(fault)),
     }
 }
 
@@ -170,13 +144,19 @@ pub(crate) fn act(
         },
         Step::Undo => match session.undo(alloc) {
             Ok(report) => Ok(report),
-            Err(fault) => Err(undo_stop(alloc, session.files(), fault)),
+            Err(fault) => {
+                let run = newest_run(Side::Undo, 1, session.history.past.get())?;
+                Err(undo_stop(alloc, session.files(), run, fault))
+            }
         },
         Step::UndoTo(count) => back_to(alloc, session, *count),
         Step::UndoChecked { count, kept } => checked_back(alloc, session, *count, kept),
         Step::Redo => match session.redo(alloc) {
             Ok(report) => Ok(report),
-            Err(fault) => Err(undo_stop(alloc, session.files(), fault)),
+            Err(fault) => {
+                let run = newest_run(Side::Redo, 1, session.history.future.get())?;
+                Err(undo_stop(alloc, session.files(), run, fault))
+            }
         },
         Step::ForgetOldest(count) => oldest_forgotten(alloc, session, *count),
         Step::ForgetAll => Ok(all_forgotten(alloc, session)),

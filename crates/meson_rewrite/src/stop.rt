@@ -1,6 +1,7 @@
 //! Why a run of the program is stopped.
 
 use crate::advice::Advice;
+use crate::logged_runs::LoggedRun;
 use meson_command::UsageFault;
 use meson_gathering::GatherFault;
 use meson_json::ScriptFault;
@@ -11,6 +12,15 @@ use meson_store::StoreFault;
 use meson_syntax::ParseFault;
 use std::alloc::AllocError;
 use std::fmt;
+
+/// Which text of a build file is not valid.
+#[derive(Drop)]
+pub(crate) enum FileText {
+    /// Its bytes, as they were read.
+    Read(Bytes),
+    /// The one that it would have after this run of the log is taken back or done again.
+    After(Option<LoggedRun>),
+}
 
 /// Why a run was stopped.
 #[derive(Drop)]
@@ -28,8 +38,7 @@ pub(crate) enum Stop {
     /// The file of this name is not a valid build file, or would not be one. The advice explains it.
     Parse {
         name: Text,
-        /// The bytes of a file that is there; none of one that would be.
-        text: Option<Bytes>,
+        text: FileText,
         fault: ParseFault,
         advice: Advice,
     },
@@ -43,15 +52,15 @@ pub(crate) enum Stop {
         subject: Option<Text>,
         advice: Advice,
     },
-    /// The change is not taken back, or not done again. The advice explains it.
-    Splice(SpliceFault, Advice),
+    /// This run of the log, if there is one, is not taken back, or not done again. The advice explains it.
+    Splice(SpliceFault, Option<LoggedRun>, Advice),
     /// The files of the project have other digests than the file of this name holds. The advice explains it.
     OtherFiles {
         name: Text,
         advice: Advice,
     },
-    /// The file of texts lists no texts of build files.
-    BadTexts,
+    /// The file of texts lists no texts of build files. The advice explains it.
+    BadTexts(Advice),
     /// The store failed, or memory ran out. The advice explains it.
     Store {
         fault: StoreFault,
@@ -73,14 +82,15 @@ impl Stop {
             | Stop::Parse { advice, .. }
             | Stop::TooManyFiles(advice)
             | Stop::Refused { advice, .. }
-            | Stop::Splice(_, advice)
+            | Stop::Splice(_, _, advice)
             | Stop::OtherFiles { advice, .. }
+            | Stop::BadTexts(advice)
             | Stop::Store { advice, .. } => Some(advice),
             _ => None,
         }
     }
 
-    /// The same, explained by this in place of what explained it. Only a fault of files, of the log or of the store is explained so.
+    /// The same, explained by this in place of what explained it. Only a fault of files, of texts, of the log or of the store is explained so.
     pub(crate) fn advised(self, advice: Advice) -> Stop
         ensures { result ≡ advised advice self }
     {
@@ -97,8 +107,16 @@ impl Stop {
                 advice,
             },
             Stop::TooManyFiles(_) => Stop::TooManyFiles(advice),
-            Stop::Splice(fault, _) => Stop::Splice(fault, advice),
+            Stop::Splice(fault, run, _) => Stop::Splice(fault, run, advice),
             Stop::OtherFiles { name, .. } => Stop::OtherFiles { name, advice },
+            Stop::BadTexts(_) => Stop::BadTexts(advice),
+            Stop::Script {
+                fault: ScriptFault::BadLog,
+                ..
+            } => Stop::Script {
+                fault: ScriptFault::BadLog,
+                advice,
+            },
             Stop::Store { fault, .. } => Stop::Store { fault, advice },
             stop => stop,
         }
@@ -122,9 +140,9 @@ impl fmt::Display for Stop {
             Stop::TooManyFiles(_) => write!(f, "{}", LoadFault::TooManyFiles),
             Stop::BadFileName(index) => write!(f, "{}", LoadFault::BadFileName(*index)),
             Stop::Refused { fault, .. } => write!(f, "{fault}"),
-            Stop::Splice(fault, _) => write!(f, "{fault}"),
+            Stop::Splice(fault, ..) => write!(f, "{fault}"),
             Stop::OtherFiles { name, .. } => write!(f, "P6 files are not as {name} has them"),
-            Stop::BadTexts => f.write_str("J11 bad texts"),
+            Stop::BadTexts(_) => f.write_str("J11 bad texts"),
             Stop::Store { fault, .. } => write!(f, "{fault}"),
         }
     }
@@ -158,6 +176,18 @@ impl From<StoreFault> for Stop {
     }
 }
 
+impl From<SpliceFault> for Stop {
+    ghost use Rattle.std.specs.Prelude.{◌≡◌, None};
+    ghost use Rattle.meson_rewrite.specs.declared.advice.Advice.TheVariants.{Nothing};
+    ghost use Rattle.meson_rewrite.specs.declared.stop.Stop.TheVariants.{Splice};
+
+    ghost from_gives = { λ fault stop. stop ≡ Splice fault None Nothing };
+
+    fn from(fault: SpliceFault) -> Stop {
+        Stop::Splice(fault, None, Advice::Nothing)
+    }
+}
+
 impl From<GatherFault> for Stop {
     ghost use Rattle.std.specs.Prelude.{◌≡◌};
     ghost use Rattle.meson_rewrite.specs.Stops.{gathering_stop};
@@ -168,7 +198,7 @@ impl From<GatherFault> for Stop {
         match fault {
             GatherFault::Parse { name, bytes, fault } => Stop::Parse {
                 name,
-                text: Some(bytes),
+                text: FileText::Read(bytes),
                 fault,
                 advice: Advice::Nothing,
             },

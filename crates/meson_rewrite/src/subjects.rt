@@ -29,14 +29,14 @@ fn id_of(command: &Command) -> Option<&Text>
         | Command::SourcesRemove { target, .. }
         | Command::ExtraAdd { target, .. }
         | Command::ExtraRemove { target, .. }
-        | Command::TargetAdd { target, .. }
         | Command::TargetRemove { target }
-        | Command::TargetInfo { target } => Some(target),
-        Command::KwargsSet { id, .. }
-        | Command::KwargsAdd { id, .. }
-        | Command::KwargsRemove { id, .. }
-        | Command::KwargsDelete { id, .. }
-        | Command::KwargsInfo { id, .. } => Some(id),
+        | Command::TargetInfo { target } => Some(&target.id),
+        Command::TargetAdd { target, .. } => Some(target),
+        Command::KwargsSet { name, .. }
+        | Command::KwargsAdd { name, .. }
+        | Command::KwargsRemove { name, .. }
+        | Command::KwargsDelete { name, .. }
+        | Command::KwargsInfo { name, .. } => Some(&name.id),
         Command::OptionsSet { .. } | Command::OptionsDelete { .. } => None,
         Command::Argument { name, .. } | Command::ArgumentInfo { name } => {
             id_in(&name.place.name)

@@ -24,25 +24,26 @@ use Rattle.meson_listing.specs.Entries.{target_data, call_data}
 use Rattle.meson_listing.specs.Values.{value_data}
 use Rattle.meson_plan.specs.Listing.{kwargs_listing, or_not_found, target_listing, value_listing}
 use Rattle.meson_plan.specs.Values.{found_at, found_in}
+use Rattle.meson_calls.specs.declared.call.CallName.{CallName}
 
 -- the listing of a target of these files and this project
-abbrev pub target_of : List File → Project Span → List ℕ → Result Data Refusal
+abbrev pub target_of : List File → Project Span → CallName → Result Data Refusal
 target_of files p id =
     then_ok (the_call p role.Target id) (λ c. or_not_found
     (option_and_then (λ h. option_and_then (λ s. option_map (λ x. then_ok s (λ is. then_ok x (λ xs. Ok (target_data files c.place.file h is xs))))
     (extra_files p c.place)) (sources p c.place)) (head p c.place)))
 
 -- the listing of the keyword arguments of a call
-abbrev pub call_of : List File → Project Span → Role → List ℕ → Result Data Refusal
+abbrev pub call_of : List File → Project Span → Role → CallName → Result Data Refusal
 call_of files p r id =
     then_ok (the_call p r id) (λ c. or_not_found
     (option_and_then (λ h. option_map (λ ks. then_ok ks (λ pairs. Ok (call_data files c.place.file h pairs)))
     (option_map (λ found. keywords_of_call (bytes_at c.place.file files) r found.it) (call_at p c.place))) (head p c.place)))
 
-pub targets-same : (p q : Loaded) (id : List ℕ) → p.files ≡ q.files → trees p ≡ trees q → target_listing p id ≡ target_listing q id
+pub targets-same : (p q : Loaded) (id : CallName) → p.files ≡ q.files → trees p ≡ trees q → target_listing p id ≡ target_listing q id
 targets-same p q id files same = ap₂ (λ fs ts. target_of fs (named_trees fs ts) id) files same
 
-pub calls-same : (p q : Loaded) (r : Role) (id : List ℕ) → p.files ≡ q.files → trees p ≡ trees q → kwargs_listing p r id ≡ kwargs_listing q r id
+pub calls-same : (p q : Loaded) (r : Role) (id : CallName) → p.files ≡ q.files → trees p ≡ trees q → kwargs_listing p r id ≡ kwargs_listing q r id
 calls-same p q r id files same = ap₂ (λ fs ts. call_of fs (named_trees fs ts) r id) files same
 
 pub values-same : (p q : Loaded) (n : ValueName) → p.files ≡ q.files → trees p ≡ trees q → value_listing p n ≡ value_listing q n

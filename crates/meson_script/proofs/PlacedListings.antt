@@ -41,6 +41,7 @@ use Rattle.meson_script.specs.declared.listings.ListingForm.{ListingForm}
 use Rattle.meson_script.specs.declared.listings.ListingForm.TheVariants.{Plain, Placed}
 use Rattle.meson_script.specs.Listings.{Added, Lists, listings_text}
 use Rattle.meson_script.proofs.PlainListings.{AllPlain, all-plain, call-plain, either, put-plain, target-plain, text-plain, told-plain, value-plain}
+use Rattle.meson_calls.specs.declared.call.CallName.{CallName}
 
 -- ---- numbers
 
@@ -84,10 +85,10 @@ kwargs-placed-plain files file span head pairs ps =
     members-plain (λ ms. with_position files file span (put (codes "places") places ms)) (call_data files file head pairs) (call-plain files file head pairs) (λ ms p.
     position-plain files file span (put (codes "places") places ms) (put-plain (codes "places") places ms (places-plain files file ps no_members refl) p))
 
-target-info-plain : (l : Loaded) (id : List ℕ) (d : Data) → IsTargetInfo l id d → has_float d ≡ false
+target-info-plain : (l : Loaded) (id : CallName) (d : Data) → IsTargetInfo l id d → has_float d ≡ false
 target-info-plain l id d i = ap has_float i.is ∙ target-placed-plain l.files (span_at l i.told.place) i.told
 
-call-info-plain : (l : Loaded) (role : Role) (id : List ℕ) (d : Data) → IsCallInfo l role id d → has_float d ≡ false
+call-info-plain : (l : Loaded) (role : Role) (id : CallName) (d : Data) → IsCallInfo l role id d → has_float d ≡ false
 call-info-plain l role id d i =
     ap has_float i.is ∙ kwargs-placed-plain l.files i.place.file (span_at l i.place) i.its_head i.pairs (places_of_call role (expression_at (project l) i.place))
 
@@ -150,7 +151,7 @@ no-extra-listed : (files : List File) (file : ℕ) (h : Option Head) (found : So
 no-extra-listed files file None found e d told = let no : ⊥ = cc in no
 no-extra-listed files file (Some k) found e d told = let no : ⊥ = cc in no
 
-no-target-listing : (l : Loaded) (id : List ℕ) (why : Refusal) (d : Data) → HasNoTargetInfo l id why → target_listing l id ≡ Ok d → ⊥
+no-target-listing : (l : Loaded) (id : CallName) (why : Refusal) (d : Data) → HasNoTargetInfo l id why → target_listing l id ≡ Ok d → ⊥
 no-target-listing l id why d (details.not_found w is) told = no-call (the_call (project l) role.Target id) w is (λ place. or_not_found (target_at l place)) d told
 no-target-listing l id why d (untold place w is (no_sources v none)) told =
     let there = at-place (the_call (project l) role.Target id) place is (λ q. or_not_found (target_at l q)) d told in
@@ -170,7 +171,7 @@ no-pairs-listed : (files : List File) (file : ℕ) (h : Option Head) (e : Refusa
 no-pairs-listed files file None e d told = let no : ⊥ = cc in no
 no-pairs-listed files file (Some k) e d told = let no : ⊥ = cc in no
 
-no-call-listing : (l : Loaded) (role : Role) (id : List ℕ) (why : Refusal) (d : Data) → HasNoCallInfo l role id why → kwargs_listing l role id ≡ Ok d → ⊥
+no-call-listing : (l : Loaded) (role : Role) (id : CallName) (why : Refusal) (d : Data) → HasNoCallInfo l role id why → kwargs_listing l role id ≡ Ok d → ⊥
 no-call-listing l role id why d (not_found w is) told = no-call (the_call (project l) role id) w is (λ place. or_not_found (call_listing l role place)) d told
 no-call-listing l role id why d (twice place w is none) told =
     let there = at-place (the_call (project l) role id) place is (λ q. or_not_found (call_listing l role q)) d told in

@@ -32,6 +32,7 @@ use Rattle.meson_listing.specs.Entries.{call_data, id_data, item_data, put_each,
 use Rattle.meson_listing.specs.Values.{content_data, key_data, told_data, value_data}
 use Rattle.meson_plan.specs.Listing.{call_listing, kwargs_listing, or_not_found, target_at, target_listing, told, value_listing}
 use Rattle.meson_plan.specs.Values.{the_value}
+use Rattle.meson_calls.specs.declared.call.CallName.{CallName}
 
 -- ---- the parts
 
@@ -148,12 +149,12 @@ pub call-plain : (files : List File) (file : ℕ) (h : Head) (pairs : List (List
 unfolding call_data
 call-plain files file h pairs = rw (each-plain no_members pairs refl) refl
 
-target-listing-plain : (l : Loaded) (id : List ℕ) → Plain (target_listing l id)
+target-listing-plain : (l : Loaded) (id : CallName) → Plain (target_listing l id)
 target-listing-plain l id = then-plain (the_call (project l) role.Target id) _ (λ c. or-plain (target_at l c.place)
     (and-plain (head (project l) c.place) _ (λ h. and-plain (sources (project l) c.place) _ (λ s. map-plain (extra_files (project l) c.place) _
     (λ x. then-plain s _ (λ is. then-plain x _ (λ xs. target-plain l.files c.place.file h is xs)))))))
 
-call-listing-plain : (l : Loaded) (r : Role) (id : List ℕ) → Plain (kwargs_listing l r id)
+call-listing-plain : (l : Loaded) (r : Role) (id : CallName) → Plain (kwargs_listing l r id)
 call-listing-plain l r id = then-plain (the_call (project l) r id) _ (λ c. or-plain (call_listing l r c.place)
     (and-plain (head (project l) c.place) _ (λ h. map-plain (keywords l r c.place) _ (λ ks. then-plain ks _ (λ pairs. call-plain l.files c.place.file h pairs)))))
 

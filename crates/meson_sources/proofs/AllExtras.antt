@@ -20,6 +20,7 @@ use Rattle.meson_sources.proofs.met.GrownLists.{every_of}
 use Rattle.meson_sources.proofs.met.Targets.{files_stand}
 use Rattle.meson_sources.proofs.told.NamedAgain.{KeepsNames, files_grow, same_trees_named}
 use Rattle.meson_sources.proofs.trees.Calls.{CallIn, called, target_at}
+use Rattle.meson_calls.specs.declared.call.CallName.{CallName}
 
 -- ---- nothing is new
 
@@ -69,7 +70,7 @@ module _ (old new : Loaded) (is : IsProject old) (same_names : file_names new �
 
   extras_come : (list : Option CallRef) → or_option (first_list marks) (first_empty marks) ≡ list → ((h : CallRef) → list ≡ Some h → Home (project old) h) → (new_t : List (List ℕ)) → Every IsUtf8 new_t
       → (steps : List Step) → extra_inserted (project old) (called t) list new_t ≡ Ok steps → ExtraComes (called t) list new_t (plain_trees old) (plain_trees new) → Answer new_t
-  extras_come list is_list homes [] utf8 steps made comes = (nothing_new comes, same_trees_named old new (called t) comes)
+  extras_come list is_list homes [] utf8 steps made comes = (nothing_new comes, same_trees_named old new same_names (called t) comes)
   extras_come None is_list homes (name ∷ more) utf8 steps made comes = without_list (keyed extra_key 0 t.arguments) refl name more utf8 steps made comes
   extras_come (Some h) is_list homes (name ∷ more) utf8 steps made comes =
       let other = extras_elsewhere old (trees_stand old.files old.parsed is.parsed) c t target h is_list in
@@ -78,7 +79,7 @@ module _ (old new : Loaded) (is : IsProject old) (same_names : file_names new �
 abbrev Grown : Loaded → Loaded → List (List ℕ) → Placed (Call Span) → Type 0
 Grown old new names c = FilesGrown extra_files (new_names (extra_marks (project old) c) names) c.place (project old) (project new) × KeepsNames old new c
 
-of_call : (old new : Loaded) → IsProject old → file_names new ≡ file_names old → (id : List ℕ) (names : List (List ℕ)) → All IsUtf8 names → (steps : List Step) → all_stepped steps (plain_trees old) ≡ Some (plain_trees new)
+of_call : (old new : Loaded) → IsProject old → file_names new ≡ file_names old → (id : CallName) (names : List (List ℕ)) → All IsUtf8 names → (steps : List Step) → all_stepped steps (plain_trees old) ≡ Some (plain_trees new)
     → (c : CallRef) (t : CallIn (project old) c) → one_of target_functions t.name.text ≡ true → the_call (project old) role.Target id ≡ Ok (called t) → extra_added (project old) (called t) names ≡ Ok steps
     → Grown old new names (called t)
 of_call old new is same_names id names utf8 steps done c t target found made =
@@ -94,7 +95,7 @@ of_call old new is same_names id names utf8 steps done c t target found made =
     (λ h home. marked_home p ms h (files_stand old is.parsed id (called t) found).extras.stand home)
     (new_names ms names) (every_of IsUtf8 (new_names ms names) (new_texts ms names utf8)) steps inserted (extra-is-added old is id (called t) found names steps (plain_trees new) made done)
 
-both : (old new : Loaded) → IsProject old → file_names new ≡ file_names old → (id : List ℕ) (c : Placed (Call Span)) → the_call (project old) role.Target id ≡ Ok c → (names : List (List ℕ)) → All IsUtf8 names → (steps : List Step)
+both : (old new : Loaded) → IsProject old → file_names new ≡ file_names old → (id : CallName) (c : Placed (Call Span)) → the_call (project old) role.Target id ≡ Ok c → (names : List (List ℕ)) → All IsUtf8 names → (steps : List Step)
     → extra_added (project old) c names ≡ Ok steps → all_stepped steps (plain_trees old) ≡ Some (plain_trees new) → Grown old new names c
 both old new is same_names id c found names utf8 steps made done =
     let p = project old in

@@ -27,6 +27,7 @@ use Rattle.meson_sources.proofs.trees.Calls.{CallIn, bare_arguments, bare_form, 
 use Rattle.meson_sources.proofs.trees.Places.{below, below_itself, below_steps, under}
 use Rattle.meson_sources.proofs.trees.Scenes.{NodeIn, same_places}
 use Rattle.meson_sources.proofs.trees.Shapes.{Becomes, became_new, became_old}
+use Rattle.meson_calls.specs.declared.call.CallName.{CallName}
 
 same_or_not : (p q : CallRef) → (p ≡ q) ⊎ (p ≡ q → ⊥)
 same_or_not p q = go (under p q)
@@ -128,7 +129,7 @@ module _ (old new : Loaded) (is : IsProject old) (same_names : file_names new �
 abbrev Grown : Loaded → Loaded → List (List ℕ) → Placed (Call Span) → Type 0
 Grown old new names c = FilesGrown sources (new_names (source_marks (project old) c) names) c.place (project old) (project new) × KeepsNames old new c
 
-of_call : (old new : Loaded) → IsProject old → file_names new ≡ file_names old → (id : List ℕ) (names : List (List ℕ)) → All IsUtf8 names → (steps : List Step) → all_stepped steps (plain_trees old) ≡ Some (plain_trees new) → (c : CallRef) (t : CallIn (project old) c)
+of_call : (old new : Loaded) → IsProject old → file_names new ≡ file_names old → (id : CallName) (names : List (List ℕ)) → All IsUtf8 names → (steps : List Step) → all_stepped steps (plain_trees old) ≡ Some (plain_trees new) → (c : CallRef) (t : CallIn (project old) c)
     → one_of target_functions t.name.text ≡ true → is_some (first_argument (called t).it) ≡ true → the_call (project old) role.Target id ≡ Ok (called t) → sources_added (project old) (called t) names ≡ Ok steps
     → Grown old new names (called t)
 of_call old new is same_names id names utf8 steps done c t target has_first found made =
@@ -143,7 +144,7 @@ of_call old new is same_names id names utf8 steps done c t target has_first foun
     let checked = then_was (checked_names names) (λ _. once sources_key key (inserted_in p h new_t)) steps made in
     sources_come old new is same_names new_t (every_of IsUtf8 new_t (new_texts ms names utf8)) h (list_turns old new is h hm new_t gets) c t target has_first (few_once sources_key key (inserted_in p h new_t) steps checked.2) refl
 
-both : (old new : Loaded) → IsProject old → file_names new ≡ file_names old → (id : List ℕ) (c : Placed (Call Span)) → the_call (project old) role.Target id ≡ Ok c → (names : List (List ℕ)) → All IsUtf8 names → (steps : List Step)
+both : (old new : Loaded) → IsProject old → file_names new ≡ file_names old → (id : CallName) (c : Placed (Call Span)) → the_call (project old) role.Target id ≡ Ok c → (names : List (List ℕ)) → All IsUtf8 names → (steps : List Step)
     → sources_added (project old) c names ≡ Ok steps → all_stepped steps (plain_trees old) ≡ Some (plain_trees new) → Grown old new names c
 both old new is same_names id c found names utf8 steps made done =
     let p = project old in

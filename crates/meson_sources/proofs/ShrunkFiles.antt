@@ -24,6 +24,7 @@ use Rattle.meson_sources.proofs.met.Targets.{files_stand}
 use Rattle.meson_sources.proofs.told.FoundAgain.{Names}
 use Rattle.meson_sources.proofs.told.Kept.{FirstIs}
 use Rattle.meson_sources.proofs.trees.Calls.{CallIn, bare_arguments, called, target_at}
+use Rattle.meson_calls.specs.declared.call.CallName.{CallName}
 
 -- what is met of a target stands where its slots say
 abbrev pub MetHolds : FileKind → Type 0
@@ -70,12 +71,12 @@ module _ (what : FileKind) (holds : MetHolds what) (lost : MetLost what) where
       pub stay : length (keyed what.key 0 t.arguments) ≤ 1 → FilesStay (goes found) names what.read c (moved_place found c) (project old) (project new)
       stay few = left_answered (goes found) names what old new c (moved_place found c) t few call_then named_go
 
-      pub named : (id : List ℕ) → the_call (project old) role.Target id ≡ Ok (called t) → Names (project new) id (moved_place found c) (called t).it
+      pub named : (id : CallName) → the_call (project old) role.Target id ≡ Ok (called t) → Names (project new) id (moved_place found c) (called t).it
       named = named_left old stand c t target new same_names names (items marks) all_held found of_names are apart done
 
   -- ---- the law
 
-  module _ (old new : Loaded) (is : IsProject old) (same_names : file_names new ≡ file_names old) (id : List ℕ) (names : List (List ℕ)) (steps : List Step) (done : all_stepped steps (plain_trees old) ≡ Some (plain_trees new)) where
+  module _ (old new : Loaded) (is : IsProject old) (same_names : file_names new ≡ file_names old) (id : CallName) (names : List (List ℕ)) (steps : List Step) (done : all_stepped steps (plain_trees old) ≡ Some (plain_trees new)) where
     abbrev Shrinks : Placed (Call Span) → Type 0
     Shrinks c =
         the_call (project old) role.Target id ≡ Ok c → AllStand (project old) (what.marks (project old) c) → (ms : List (Mark Span)) → once what.key (keyword what.key c.it) (what.marks (project old) c) ≡ Ok ms → removed_at (spots_named ms (distinct names)) ≡ Ok steps

@@ -19,6 +19,7 @@ use Rattle.meson_steps.specs.Steps.{Step, all_stepped}
 use Rattle.meson_steps.specs.WrittenTexts.{string_of}
 use Rattle.meson_sources.specs.Without.{each_without}
 use Rattle.meson_sources.specs.SourceEdits.{Spot, extra_added, extra_key, extra_marks, extra_removed, has_text, is_path, is_plain, new_names, sources_added, sources_removed, spots_named}
+use Rattle.meson_calls.specs.declared.call.CallName.{CallName}
 
 -- the elements of the list at a place
 abbrev pub elements_found : CallRef → List Plain → Option (List (Argument Nowhere))
@@ -49,7 +50,7 @@ pub record ListGets (list : CallRef) (names : List (List ℕ)) (before after : L
 
 -- the law: the list to which further sources of the target are added gets those that are not sources of it yet, each once
 abbrev pub SourcesAreAdded : Type 0
-SourcesAreAdded = (old : Loaded) → IsProject old → (id : List ℕ) (c : Placed (Call Span)) → the_call (project old) role.Target id ≡ Ok c
+SourcesAreAdded = (old : Loaded) → IsProject old → (target : CallName) (c : Placed (Call Span)) → the_call (project old) role.Target target ≡ Ok c
     → (names : List (List ℕ)) (steps : List Step) (after : List Plain)
     → sources_added (project old) c names ≡ Ok steps → all_stepped steps (plain_trees old) ≡ Some after
     → ListGets (home c.place (source_marks (project old) c)) (new_names (source_marks (project old) c) names) (plain_trees old) after
@@ -99,7 +100,7 @@ extra_home p c = or_option (first_list (extra_marks p c)) (first_empty (extra_ma
 
 -- the law: of extra files that are added, those are inserted that the target does not have yet, each once
 abbrev pub ExtraIsAdded : Type 0
-ExtraIsAdded = (old : Loaded) → IsProject old → (id : List ℕ) (c : Placed (Call Span)) → the_call (project old) role.Target id ≡ Ok c
+ExtraIsAdded = (old : Loaded) → IsProject old → (target : CallName) (c : Placed (Call Span)) → the_call (project old) role.Target target ≡ Ok c
     → (names : List (List ℕ)) (steps : List Step) (after : List Plain)
     → extra_added (project old) c names ≡ Ok steps → all_stepped steps (plain_trees old) ≡ Some after
     → ExtraComes c (extra_home (project old) c) (new_names (extra_marks (project old) c) names) (plain_trees old) after
@@ -143,13 +144,13 @@ pub record NamesGo (marks : List (Mark Span)) (names : List (List ℕ)) (before 
 
 -- The laws: of the target's sources, or of its extra files, those that are named are gone from all lists that held them, and nothing else is.
 abbrev pub SourcesAreRemoved : Type 0
-SourcesAreRemoved = (old : Loaded) → IsProject old → (id : List ℕ) (c : Placed (Call Span)) → the_call (project old) role.Target id ≡ Ok c
+SourcesAreRemoved = (old : Loaded) → IsProject old → (target : CallName) (c : Placed (Call Span)) → the_call (project old) role.Target target ≡ Ok c
     → (names : List (List ℕ)) (steps : List Step) (after : List Plain)
     → sources_removed (project old) c names ≡ Ok steps → all_stepped steps (plain_trees old) ≡ Some after
     → NamesGo (source_marks (project old) c) names (plain_trees old) after
 
 abbrev pub ExtraIsRemoved : Type 0
-ExtraIsRemoved = (old : Loaded) → IsProject old → (id : List ℕ) (c : Placed (Call Span)) → the_call (project old) role.Target id ≡ Ok c
+ExtraIsRemoved = (old : Loaded) → IsProject old → (target : CallName) (c : Placed (Call Span)) → the_call (project old) role.Target target ≡ Ok c
     → (names : List (List ℕ)) (steps : List Step) (after : List Plain)
     → extra_removed (project old) c names ≡ Ok steps → all_stepped steps (plain_trees old) ≡ Some after
     → NamesGo (extra_marks (project old) c) names (plain_trees old) after

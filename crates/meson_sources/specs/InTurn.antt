@@ -12,6 +12,7 @@ use Rattle.meson_steps.specs.ResultLimits.{plain_trees}
 use Rattle.meson_steps.specs.Steps.{Step, all_stepped}
 use Rattle.meson_sources.specs.SourceEdits.{extra_removed, sources_removed}
 use Rattle.meson_sources.specs.WholeSources.{file_names}
+use Rattle.meson_calls.specs.declared.call.CallName.{CallName}
 
 -- the steps that remove these names from the call of a target
 abbrev pub Removes : Type 0
@@ -19,8 +20,8 @@ Removes = Project Span → Placed (Call Span) → List (List ℕ) → Result (Li
 
 -- Names are removed by the steps that remove the first, and then by those that remove the others from the project that this leaves.
 abbrev pub GoInTurn : Removes → Type 0
-GoInTurn removed = (old mid : Loaded) → IsProject old → IsProject mid → file_names mid ≡ file_names old → (id : List ℕ) (c d : Placed (Call Span))
-    → the_call (project old) role.Target id ≡ Ok c → the_call (project mid) role.Target id ≡ Ok d
+GoInTurn removed = (old mid : Loaded) → IsProject old → IsProject mid → file_names mid ≡ file_names old → (target : CallName) (c d : Placed (Call Span))
+    → the_call (project old) role.Target target ≡ Ok c → the_call (project mid) role.Target target ≡ Ok d
     → (name : List ℕ) (more : List (List ℕ)) → one_of more name ≡ false → (first all : List Step)
     → removed (project old) c (name ∷ []) ≡ Ok first → all_stepped first (plain_trees old) ≡ Some (plain_trees mid)
     → removed (project old) c (name ∷ more) ≡ Ok all

@@ -5,6 +5,7 @@ use Rattle.meson_calls.specs.declared.refusal.Refusal.{Refusal}
 use Rattle.meson_calls.specs.Calls.{Call}
 use Rattle.meson_sources.specs.declared.targeting.TargetChange.{TargetChange}
 use Rattle.meson_sources.specs.declared.targeting.TargetChange.TheVariants.{SourcesAdded, SourcesRemoved, ExtraAdded, ExtraRemoved}
+use Rattle.meson_calls.specs.declared.call.CallName.{CallName}
 use Rattle.meson_calls.specs.declared.call.Role.TheVariants as role
 use Rattle.meson_calls.specs.Project.{Project, Placed}
 use Rattle.meson_calls.specs.Finding.{the_call}
@@ -18,5 +19,5 @@ change_steps p SourcesRemoved names c = sources_removed p c names
 change_steps p ExtraAdded names c = extra_added p c names
 change_steps p ExtraRemoved names c = extra_removed p c names
 
-abbrev pub target_steps : {S : Type 0} → Project S → List ℕ → TargetChange → List (List ℕ) → Result (List Step) Refusal
+abbrev pub target_steps : {S : Type 0} → Project S → CallName → TargetChange → List (List ℕ) → Result (List Step) Refusal
 target_steps p target change names = then_ok (the_call p role.Target target) (change_steps p change names)

@@ -17,6 +17,7 @@ use Rattle.meson_variables.specs.TargetSources.{source_marks, sources}
 use Rattle.meson_steps.specs.ResultLimits.{plain_trees}
 use Rattle.meson_steps.specs.Steps.{Step, all_stepped}
 use Rattle.meson_sources.specs.SourceEdits.{new_names, sources_added, sources_removed}
+use Rattle.meson_calls.specs.declared.call.CallName.{CallName}
 
 -- These texts are in one place among the others, which stay in their order.
 pub record TextsCome (new before after : List (List ℕ)) : Type 0 where
@@ -34,16 +35,16 @@ abbrev pub Reading : Type 0
 Reading = Project Span → CallRef → Option (Result found.Sources Refusal)
 
 -- The id names one target, by a call of the function that it had. The call has the first argument that it had, if that is a literal.
-pub record StillNamed (id : List ℕ) (c : Placed (Call Span)) (q : Project Span) : Type 0 where
+pub record StillNamed (target : CallName) (c : Placed (Call Span)) (q : Project Span) : Type 0 where
   pub call : Placed (Call Span)
-  pub is_call : the_call q role.Target id ≡ Ok call
+  pub is_call : the_call q role.Target target ≡ Ok call
   pub function : call.it.function ≡ c.it.function
   pub first : first_literal call.it ≡ first_literal c.it
 
 -- The one target that the id names is where it was. Its files are those that it had and, in one place among them, these. The number of unknown expressions is
 -- as before.
-pub record FilesGrow (read : Reading) (new : List (List ℕ)) (id : List ℕ) (c : Placed (Call Span)) (p q : Project Span) : Type 0 where
-  pub named : StillNamed id c q
+pub record FilesGrow (read : Reading) (new : List (List ℕ)) (target : CallName) (c : Placed (Call Span)) (p q : Project Span) : Type 0 where
+  pub named : StillNamed target c q
   pub stays : named.call.place ≡ c.place
   pub before : found.Sources
   pub were : read p c.place ≡ Some (Ok before)
@@ -52,7 +53,7 @@ pub record FilesGrow (read : Reading) (new : List (List ℕ)) (id : List ℕ) (c
   pub come : TextsCome new (source_texts before) (source_texts after)
   pub unknown : after.opaque ≡ before.opaque
 
-abbrev pub SourcesGrow : List (List ℕ) → List ℕ → Placed (Call Span) → Project Span → Project Span → Type 0
+abbrev pub SourcesGrow : List (List ℕ) → CallName → Placed (Call Span) → Project Span → Project Span → Type 0
 SourcesGrow = FilesGrow sources
 
 abbrev pub file_names : Loaded → List (List ℕ)
@@ -61,15 +62,15 @@ file_names l = map (λ (f : File). f.name) l.files
 -- the law: after an addition a target has the sources that it had and those that are added and were not there, each once
 abbrev pub AllSourcesGrow : Type 0
 AllSourcesGrow = (old new : Loaded) → IsProject old → file_names new ≡ file_names old
-    → (id : List ℕ) (c : Placed (Call Span)) → the_call (project old) role.Target id ≡ Ok c
+    → (target : CallName) (c : Placed (Call Span)) → the_call (project old) role.Target target ≡ Ok c
     → (names : List (List ℕ)) → All IsUtf8 names → (steps : List Step) → sources_added (project old) c names ≡ Ok steps
     → all_stepped steps (plain_trees old) ≡ Some (plain_trees new)
-    → SourcesGrow (new_names (source_marks (project old) c) names) id c (project old) (project new)
+    → SourcesGrow (new_names (source_marks (project old) c) names) target c (project old) (project new)
 
 -- The files of the one target that the id names are those that it had without the ones that are removed, in their order. The number of unknown expressions is
 -- as before.
-pub record FilesShrink (read : Reading) (gone : List (List ℕ)) (id : List ℕ) (c : Placed (Call Span)) (p q : Project Span) : Type 0 where
-  pub named : StillNamed id c q
+pub record FilesShrink (read : Reading) (gone : List (List ℕ)) (target : CallName) (c : Placed (Call Span)) (p q : Project Span) : Type 0 where
+  pub named : StillNamed target c q
   pub before : found.Sources
   pub were : read p c.place ≡ Some (Ok before)
   pub after : found.Sources
@@ -77,13 +78,13 @@ pub record FilesShrink (read : Reading) (gone : List (List ℕ)) (id : List ℕ)
   pub left : source_texts after ≡ filter (λ text. not (one_of gone text)) (source_texts before)
   pub unknown : after.opaque ≡ before.opaque
 
-abbrev pub SourcesShrink : List (List ℕ) → List ℕ → Placed (Call Span) → Project Span → Project Span → Type 0
+abbrev pub SourcesShrink : List (List ℕ) → CallName → Placed (Call Span) → Project Span → Project Span → Type 0
 SourcesShrink = FilesShrink sources
 
 -- the law: after a removal a target has the sources that it had, but none of those that are named
 abbrev pub AllSourcesShrink : Type 0
-AllSourcesShrink = (old new : Loaded) → IsProject old → file_names new ≡ file_names old → (id : List ℕ) (c : Placed (Call Span))
-    → the_call (project old) role.Target id ≡ Ok c
+AllSourcesShrink = (old new : Loaded) → IsProject old → file_names new ≡ file_names old → (target : CallName) (c : Placed (Call Span))
+    → the_call (project old) role.Target target ≡ Ok c
     → (names : List (List ℕ)) (steps : List Step) → sources_removed (project old) c names ≡ Ok steps
     → all_stepped steps (plain_trees old) ≡ Some (plain_trees new)
-    → SourcesShrink names id c (project old) (project new)
+    → SourcesShrink names target c (project old) (project new)

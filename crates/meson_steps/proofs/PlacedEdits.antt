@@ -14,6 +14,7 @@ placed_by o (code.Replace n new) = option_map (λ s. layout.Replace s new) (opti
 placed_by o (code.Wrap n) = option_map layout.Wrap (option_map expression_span (option_and_then value_of (option_and_then (element_there n) o)))
 placed_by o (code.RemoveStatement n) = None
 placed_by o (code.Append new) = None
+placed_by o (code.Assign new) = None
 
 edit_by : (f : File Span) (path : List ℕ) (e : ListEdit) → edits_list e ≡ true → placed_edit f path e ≡ placed_by (list_at f path) e
 edit_by f path (code.First new) of = refl
@@ -23,6 +24,7 @@ edit_by f path (code.Replace n new) of = refl
 edit_by f path (code.Wrap n) of = refl
 edit_by f path (code.RemoveStatement n) of = absurd cc
 edit_by f path (code.Append new) of = absurd cc
+edit_by f path (code.Assign new) of = absurd cc
 
 by_list : (p : ListAt Span) (e : ListEdit) → placed_by (Some p) e ≡ placed_in p.list e
 by_list p (code.First new) = refl

@@ -79,7 +79,7 @@ pub use Rattle.meson_syntax.proofs.parsing.WithinFiles.{other_limits}
 pub use Rattle.meson_syntax.proofs.paths.Every.{Every}
 pub use Rattle.meson_syntax.proofs.paths.Reaching.{and-then-some, list-fits, map-some}
 pub use Rattle.meson_edit.specs.Blocks.{block_at, block_of_node, BlockAt, statement_in}
-pub use Rattle.meson_edit.specs.Edits.{After, Append, Edit, edited, edited_elements, edited_list, element_added, elements, First, first_element, is_empty}
+pub use Rattle.meson_edit.specs.Edits.{After, Append, Assign, Edit, edited, edited_elements, edited_list, element_added, elements, First, first_element, is_empty}
 pub use Rattle.meson_edit.specs.Edits.{Remove, RemoveStatement, Replace, with_elements, with_value, Wrap, Written}
 pub use Rattle.meson_edit.specs.ExchangedTrees.{IsExchange, tree_with}
 pub use Rattle.meson_edit.specs.Laws.{IsEditOf, MakesText, Spelled, WritesList}
@@ -126,7 +126,7 @@ pub use Rattle.meson_steps.specs.declared.work.Work.{Work}
 pub use Rattle.meson_steps.specs.inside.Bare.{has_trailing, is_bare, is_lone, is_plain, one_plain, speaks_first}
 pub use Rattle.meson_steps.specs.inside.Held.{IsHeld, IsHeldOf, IsReadAgain, IsSettled, MayHold, settled}
 pub use Rattle.meson_steps.specs.inside.Journal.{IsPutBackFor, IsSavedToo, MayTakeMoved, settled_tree}
-pub use Rattle.meson_steps.specs.inside.Layers.{block_any, layer_view, next_layer}
+pub use Rattle.meson_steps.specs.inside.Layers.{assigned_any, block_any, layer_any, layer_view, next_layer}
 pub use Rattle.meson_steps.specs.inside.Laying.{AreLaid}
 pub use Rattle.meson_steps.specs.inside.ListSteps.{edits_list}
 pub use Rattle.meson_steps.specs.inside.Working.{AreShallowSoFar, IsChanged, IsNext, IsShallow, list_again, looked_at, MayBeLaid, MayChange, placed_edit}

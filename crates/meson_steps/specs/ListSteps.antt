@@ -2,7 +2,7 @@
 use Rattle.std.specs.Prelude.{◌≡◌, ◌≤◌, ℕ, List, [], ◌∷◌, map, All, Option, Some, option_map}
 use Rattle.meson_syntax.specs.Tree.{Plain}
 use Rattle.meson_syntax.specs.Grammar.{LevelFile, file_depth}
-use Rattle.meson_edit.specs.Edits.{Edit, First, After, Remove, Replace, Wrap, RemoveStatement, Append}
+use Rattle.meson_edit.specs.Edits.{Edit, First, After, Remove, Replace, Wrap, RemoveStatement, Append, Assign}
 use Rattle.meson_edit.specs.Places.{Writes}
 use Rattle.meson_steps.specs.declared.step.ListEdit.{ListEdit}
 use Rattle.meson_steps.specs.declared.step.ListEdit.TheVariants as code
@@ -21,8 +21,9 @@ bare_edit (Replace path n new) = Some (code.Replace n new.bytes)
 bare_edit (Wrap path n) = Some (code.Wrap n)
 bare_edit (RemoveStatement path n) = Some (code.RemoveStatement n)
 bare_edit (Append new) = Some (code.Append new.bytes)
+bare_edit (Assign path new) = Some (code.Assign new.bytes)
 
--- the list or the block of an edit; a statement is appended to the block of the file
+-- the list, the block or the assignment of an edit; a statement is appended to the block of the file
 abbrev pub path_of : Edit → List ℕ
 path_of (First path new) = path
 path_of (After path n new) = path
@@ -31,6 +32,7 @@ path_of (Replace path n new) = path
 path_of (Wrap path n) = path
 path_of (RemoveStatement path n) = path
 path_of (Append new) = []
+path_of (Assign path new) = path
 
 abbrev pub bare : Step → Option ListStep
 bare s = option_map (λ e. record { list = place s.file (path_of s.edit); edit = e }) (bare_edit s.edit)

@@ -1,7 +1,7 @@
 //! Commands, and what a command did.
 
 use crate::argument::{ValueChange, ValueName};
-use meson_calls::Role;
+use meson_calls::{CallName, Role};
 use meson_splice::{Change, Many, Text};
 use std::fmt;
 
@@ -16,19 +16,19 @@ pub enum Setting {
 /// What may be done to a project, or queried of it.
 pub enum Command {
     SourcesAdd {
-        target: Text,
+        target: CallName,
         sources: Many<Text>,
     },
     SourcesRemove {
-        target: Text,
+        target: CallName,
         sources: Many<Text>,
     },
     ExtraAdd {
-        target: Text,
+        target: CallName,
         sources: Many<Text>,
     },
     ExtraRemove {
-        target: Text,
+        target: CallName,
         sources: Many<Text>,
     },
     /// A new target at the end of the file of `subdir`, or of the root file if that is empty.
@@ -39,34 +39,34 @@ pub enum Command {
         sources: Many<Text>,
     },
     TargetRemove {
-        target: Text,
+        target: CallName,
     },
     TargetInfo {
-        target: Text,
+        target: CallName,
     },
     KwargsSet {
         role: Role,
-        id: Text,
+        name: CallName,
         pairs: Many<(Text, Setting)>,
     },
     KwargsAdd {
         role: Role,
-        id: Text,
+        name: CallName,
         pairs: Many<(Text, Setting)>,
     },
     KwargsRemove {
         role: Role,
-        id: Text,
+        name: CallName,
         pairs: Many<(Text, Setting)>,
     },
     KwargsDelete {
         role: Role,
-        id: Text,
+        name: CallName,
         keys: Many<Text>,
     },
     KwargsInfo {
         role: Role,
-        id: Text,
+        name: CallName,
     },
     OptionsSet {
         pairs: Many<(Text, Text)>,
@@ -124,25 +124,25 @@ impl Drop for Command {
             Command::TargetInfo { target: _ } => {}
             Command::KwargsSet {
                 role: _,
-                id: _,
+                name: _,
                 pairs: _,
             } => {}
             Command::KwargsAdd {
                 role: _,
-                id: _,
+                name: _,
                 pairs: _,
             } => {}
             Command::KwargsRemove {
                 role: _,
-                id: _,
+                name: _,
                 pairs: _,
             } => {}
             Command::KwargsDelete {
                 role: _,
-                id: _,
+                name: _,
                 keys: _,
             } => {}
-            Command::KwargsInfo { role: _, id: _ } => {}
+            Command::KwargsInfo { role: _, name: _ } => {}
             Command::OptionsSet { pairs: _ } => {}
             Command::OptionsDelete { names: _ } => {}
             Command::Argument { name: _, change: _ } => {}
@@ -208,11 +208,14 @@ impl fmt::Debug for Command {
             Command::TargetRemove { target } | Command::TargetInfo { target } => {
                 shown.field(target)
             }
-            Command::KwargsSet { role, id, pairs }
-            | Command::KwargsAdd { role, id, pairs }
-            | Command::KwargsRemove { role, id, pairs } => shown.field(role).field(id).field(pairs),
-            Command::KwargsDelete { role, id, keys } => shown.field(role).field(id).field(keys),
-            Command::KwargsInfo { role, id } => shown.field(role).field(id),
+            Command::KwargsSet { role, name, pairs }
+            | Command::KwargsAdd { role, name, pairs }
+            | Command::KwargsRemove { role, name, pairs } => shown
+                .field(role)
+                .field(name)
+                .field(pairs),
+            Command::KwargsDelete { role, name, keys } => shown.field(role).field(name).field(keys),
+            Command::KwargsInfo { role, name } => shown.field(role).field(name),
             Command::OptionsSet { pairs } => shown.field(pairs),
             Command::OptionsDelete { names } => shown.field(names),
             Command::Argument { name, change } => shown.field(name).field(change),

@@ -10,7 +10,7 @@ ghost use Rattle.meson_steps.specs.Steps.{effective};
 ghost use Rattle.meson_steps.specs.inside.Working.{MayBeLaid, looked_at, placed_edit, placed_in};
 
 use crate::spans::{element_span, list_spot, value_span};
-use crate::statements::statement_span;
+use crate::statements::{assigned_span, statement_span};
 use crate::step::ListEdit;
 use meson_calls::Refusal;
 use meson_layout::{Primitive, layout, list_layout};
@@ -46,10 +46,11 @@ pub(crate) fn list_primitive(list: &meson_syntax::List, edit: ListEdit) -> Optio
         },
         ListEdit::RemoveStatement(_) => None,
         ListEdit::Append(_) => None,
+        ListEdit::Assign(_) => None,
     }
 }
 
-/// An edit of the block at a path as it is laid out.
+/// An edit of the block or the assignment at a path as it is laid out.
 fn block_primitive(tree: &Parsed, path: &Path, edit: ListEdit) -> Option<Primitive>
     ensures { (source : Source) → edits_list edit ≡ false → result ≡ placed_edit (view source tree.now) path.now.steps edit }
 {
@@ -59,11 +60,15 @@ fn block_primitive(tree: &Parsed, path: &Path, edit: ListEdit) -> Option<Primiti
             None => None,
         },
         ListEdit::Append(new) => Some(Primitive::Append { new }),
+        ListEdit::Assign(new) => match assigned_span(tree, path) {
+            Some(value) => Some(Primitive::Replace { value, new }),
+            None => None,
+        },
         _ => None,
     }
 }
 
-/// An edit of the list or the block at a path as it is laid out.
+/// An edit of the list, the block or the assignment at a path as it is laid out.
 pub(crate) fn primitive_of(tree: &Parsed, path: &Path, edit: ListEdit) -> Option<Primitive>
     ensures { (source : Source) → result ≡ placed_edit (view source tree.now) path.now.steps edit }
 {

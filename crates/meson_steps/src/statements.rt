@@ -1,20 +1,22 @@
-//! Statements, by the path of their block and their number there.
+//! Statements, by the path of their block and their number there, and assigned values, by the path of their assignment.
 
 ghost use Rattle.std.specs.Prelude.{◌≡◌, ◌++◌, option_and_then, option_map};
+ghost use Rattle.meson_edit.specs.Assigned.{assigned_at, assigned_in};
 ghost use Rattle.meson_edit.specs.Blocks.{block_at, statement_in};
-ghost use Rattle.meson_syntax.specs.inside.Children.{otherwise_parts, rust_branches_parts, statement_parts};
+ghost use Rattle.meson_syntax.specs.Children.{a_block};
+ghost use Rattle.meson_syntax.specs.inside.Children.{node_at, otherwise_parts, rust_branches_parts, statement_parts};
 ghost use Rattle.meson_syntax.specs.Paths.{nth};
 ghost use Rattle.meson_edit.specs.Standing.{statement_span};
-ghost use Rattle.meson_syntax.specs.View.{block_view, otherwise_view, stmt_view, view};
-ghost use Rattle.meson_edit.specs.Places.{span_of_statement};
-ghost use Rattle.meson_steps.specs.inside.Layers.{block_any, layer_view, next_layer};
+ghost use Rattle.meson_syntax.specs.View.{block_view, expr_view, otherwise_view, stmt_view, view};
+ghost use Rattle.meson_edit.specs.Places.{assigned_span, span_of_statement};
+ghost use Rattle.meson_steps.specs.inside.Layers.{assigned_any, block_any, layer_any, layer_view, next_layer};
 ghost use Rattle.meson_calls.specs.ChosenNotes.{Source};
 
 use meson_edit::span_of;
 use meson_lex::Span;
-use meson_syntax::{Block, Branch, Parsed, Path, Stmt};
+use meson_syntax::{Block, Branch, Expr, Parsed, Path, Stmt};
 
-/// A block, or a statement on the way to one.
+/// A block or a statement, as they are met on the way down a path.
 #[derive(Clone, Copy)]
 pub enum Layer<'t> {
     Block(&'t Block),
@@ -90,6 +92,16 @@ fn stmt_in(block: &Block, n: usize) -> Option<&Stmt>
     }
 }
 
+/// The value that a statement assigns.
+fn assigned_by(stmt: &Stmt) -> Option<&Expr>
+    ensures { (source : Source) → option_map (λ e. expr_view source e.now) result ≡ option_map (λ a. a.value) (assigned_in (stmt_view source stmt.now)) }
+{
+    match stmt {
+        Stmt::Assign { value, .. } => Some(value),
+        _ => None,
+    }
+}
+
 impl<'t> Layer<'t> {
     /// Its n-th child.
     fn child(self, n: usize) -> Option<Layer<'t>>
@@ -116,12 +128,22 @@ impl<'t> Layer<'t> {
             Layer::Stmt(_) => None,
         }
     }
+
+    /// The value that it assigns, if this is an assignment.
+    fn assigned(self) -> Option<&'t Expr>
+        ensures { (source : Source) → option_map (λ e. expr_view source e.now) result ≡ assigned_any (layer_view source self.entry) }
+    {
+        match self {
+            Layer::Block(_) => None,
+            Layer::Stmt(stmt) => assigned_by(stmt),
+        }
+    }
 }
 
-/// The block that the path names.
-fn block_at<'t>(tree: &'t Parsed, path: &Path) -> Option<&'t Block>
-    ensures { (source : Source) → option_map (λ b. block_view source b.now) result
-        ≡ option_map (λ b. b.inside) (block_at (view source tree.now) path.now.steps) }
+/// The block or the statement that the path names.
+fn layer_at<'t>(tree: &'t Parsed, path: &Path) -> Option<Layer<'t>>
+    ensures { (source : Source) → option_map (layer_view source) result
+        ≡ option_and_then layer_any (node_at (a_block (block_view source tree.now.block)) path.now.steps) }
 {
     let mut layer = Layer::Block(&tree.block);
     let steps = path.steps.get();
@@ -131,7 +153,39 @@ fn block_at<'t>(tree: &'t Parsed, path: &Path) -> Option<&'t Block>
             None => return None,
         }
     }
-    layer.block()
+    Some(layer)
+}
+
+/// The block that the path names.
+fn block_at<'t>(tree: &'t Parsed, path: &Path) -> Option<&'t Block>
+    ensures { (source : Source) → option_map (λ b. block_view source b.now) result
+        ≡ option_map (λ b. b.inside) (block_at (view source tree.now) path.now.steps) }
+{
+    match layer_at(tree, path) {
+        Some(layer) => layer.block(),
+        None => None,
+    }
+}
+
+/// The value that the assignment at the path assigns.
+pub fn assigned_at<'t>(tree: &'t Parsed, path: &Path) -> Option<&'t Expr>
+    ensures { (source : Source) → option_map (λ e. expr_view source e.now) result
+        ≡ option_map (λ p. p.value) (assigned_at (view source tree.now) path.now.steps) }
+{
+    match layer_at(tree, path) {
+        Some(layer) => layer.assigned(),
+        None => None,
+    }
+}
+
+/// The span of that value, in bytes.
+pub(crate) fn assigned_span(tree: &Parsed, path: &Path) -> Option<Span>
+    ensures { (source : Source) → result ≡ assigned_span (view source tree.now) path.now.steps }
+{
+    match assigned_at(tree, path) {
+        Some(value) => Some(span_of(value)),
+        None => None,
+    }
 }
 
 /// The n-th statement of the block that the path names.

@@ -1,4 +1,4 @@
-//! The steps of a command: edits of lists and of whole statements, one after another.
+//! The steps of a command: edits of lists, of whole statements and of assigned values, one after another.
 
 ghost use Rattle.std.specs.Prelude.{◌≡◌, ◌++◌, ◌∷◌, [], OnErr, OnOk};
 ghost use Rattle.meson_steps.specs.inside.ListSteps.{edits_list};
@@ -7,7 +7,7 @@ use meson_calls::CallRef;
 use meson_splice::Bytes;
 use std::alloc::AllocError;
 
-/// One edit of a list or a block, with the numbers of its elements or statements and the bytes to write.
+/// One edit of a list, a block or an assignment, with the numbers of elements or statements and the bytes to write.
 #[derive(Debug, Drop)]
 pub enum ListEdit {
     /// The first element of an empty list.
@@ -24,6 +24,8 @@ pub enum ListEdit {
     RemoveStatement(usize),
     /// A statement after all others of the file.
     Append(Bytes),
+    /// The assignment assigns another value.
+    Assign(Bytes),
 }
 
 impl ListEdit {
@@ -31,11 +33,14 @@ impl ListEdit {
     pub(crate) fn is_of_list(&self) -> bool
         ensures { result ≡ edits_list self.now }
     {
-        !matches!(self, ListEdit::RemoveStatement(_) | ListEdit::Append(_))
+        !matches!(
+            self,
+            ListEdit::RemoveStatement(_) | ListEdit::Append(_) | ListEdit::Assign(_)
+        )
     }
 }
 
-/// An edit of the list of the array, dictionary or call at a place, or of the block there.
+/// An edit of the list of the array, dictionary or call at a place, or of the block or the assignment there.
 #[derive(Debug, Drop)]
 pub struct ListStep {
     pub list: CallRef,

@@ -2,9 +2,9 @@
 use Rattle.meson_targets.proofs.Words.{◌≡◌, ℕ, true, false, List, [], ◌∷◌, ◌++◌, map, Option, Some, None, refl, sym, ap, ap₂, ◌∙◌, subst, arith, Bool}
 use Rattle.meson_targets.proofs.Words.{if◌then◌else◌, bytes_eq, option_and_then, option_map, cons_option, filter_map, Span, block_of, Nowhere, Name, Expression}
 use Rattle.meson_targets.proofs.Words.{call, Statement, assign, erase_expression, erase_statement, some-injective, Every, BlockAt, block_at, statement_in, Call}
-use Rattle.meson_targets.proofs.Words.{all_chosen, call_of, assigned_values, part_set_to, value_of_assignment, Part, parts_of_expression, parts}
+use Rattle.meson_targets.proofs.Words.{all_chosen, call_of, values_among, part_set_to, value_of_assignment, Part, parts_of_expression}
 use Rattle.meson_targets.proofs.Words.{parts_of_statement, BuildFile, Placed, Project, child, nth_file, place, placed, has_role, with_role, CallRef, InProject}
-use Rattle.meson_targets.proofs.Words.{every_chosen, every_part, any, bare_call, bare_part, bare_placed, role_alike, StatementPlace}
+use Rattle.meson_targets.proofs.Words.{every_chosen, any, bare_call, bare_part, bare_placed, role_alike, StatementPlace}
 use Rattle.meson_syntax.specs.declared.operator.Assignment.TheVariants as assignment
 use Rattle.meson_syntax.specs.Children as syntax
 use Rattle.meson_syntax.specs.inside.Children as tree_nodes
@@ -36,17 +36,17 @@ module _ (id : List ℕ) where
   tell_set x = option_and_then set_target (part_set_to id x)
 
   -- the targets that a variable of this name is set to
-  abbrev pub set_targets : {S : Type 0} → Project S → List (Placed (Call S))
-  set_targets p = all_chosen (with_role role.Target) (all_chosen call_of (assigned_values p id))
+  abbrev pub set_targets : {S : Type 0} → List (Placed (Part S)) → List (Placed (Call S))
+  set_targets qs = all_chosen (with_role role.Target) (all_chosen call_of (values_among qs id))
 
   moved_its : {X Y : Type 0} (h : X → Option Y) (qs : List (Placed X)) → filter_map (λ (q : Placed X). h q.it) (map value_of_assignment qs) ≡ filter_map (λ (q : Placed X). h q.it) qs
   moved_its h [] = refl
   moved_its h (q ∷ qs) = ap (cons_option (h q.it)) (moved_its h qs)
 
-  pub set_told : {S : Type 0} (p : Project S) → map (λ (c : Placed (Call S)). c.it) (set_targets p) ≡ filter_map (λ (q : Placed (Part S)). tell_set q.it) (parts p)
-  set_told p =
-      chosen_its (with_role role.Target) (all_chosen call_of (assigned_values p id)) ∙ sym (chosen_told call_of (with_role role.Target) (assigned_values p id))
-      ∙ moved_its set_target (all_chosen (part_set_to id) (parts p)) ∙ sym (chosen_told (part_set_to id) set_target (parts p))
+  pub set_told : {S : Type 0} (qs : List (Placed (Part S))) → map (λ (c : Placed (Call S)). c.it) (set_targets qs) ≡ filter_map (λ (q : Placed (Part S)). tell_set q.it) qs
+  set_told qs =
+      chosen_its (with_role role.Target) (all_chosen call_of (values_among qs id)) ∙ sym (chosen_told call_of (with_role role.Target) (values_among qs id))
+      ∙ moved_its set_target (all_chosen (part_set_to id) qs) ∙ sym (chosen_told (part_set_to id) set_target qs)
 
   -- ---- without spans
 
@@ -127,12 +127,12 @@ module _ (id : List ℕ) where
       by true same = subst (λ d. SetAt (placed q.place d)) (some-injective q.it c same) at
       by false same = absurd cc
 
-    pub all_set : Every SetAt (set_targets p)
-    all_set =
-        every_chosen SetAt SetAt (with_role role.Target) role_set (all_chosen call_of (assigned_values p id))
-        (every_chosen Set SetAt call_of call_set (assigned_values p id)
-        (all_moved (all_chosen (part_set_to id) (parts p))
-        (every_chosen (InProject 0 p) Given (part_set_to id) (λ q v stands is. record { part = q; stands = stands; is_set = is; is_place = refl }) (parts p) (every_part 0 p))))
+    pub all_set : (qs : List (Placed (Part Span))) → Every (InProject 0 p) qs → Every SetAt (set_targets qs)
+    all_set qs all =
+        every_chosen SetAt SetAt (with_role role.Target) role_set (all_chosen call_of (values_among qs id))
+        (every_chosen Set SetAt call_of call_set (values_among qs id)
+        (all_moved (all_chosen (part_set_to id) qs)
+        (every_chosen (InProject 0 p) Given (part_set_to id) (λ q v stands is. record { part = q; stands = stands; is_set = is; is_place = refl }) qs all)))
 
   -- ---- its statement tells of the target
 

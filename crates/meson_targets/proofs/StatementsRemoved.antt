@@ -6,6 +6,7 @@ use Rattle.meson_targets.proofs.Words.{AreMeant, Step, ListStep, StatementPlace,
 use Rattle.meson_targets.proofs.Words.{named_removed, not_in_use, call_removed, statement_removal, target_removed}
 use Rattle.meson_calls.specs.declared.call.Role.TheVariants as role
 use Rattle.meson_steps.specs.declared.step.ListEdit.TheVariants as code
+use Rattle.meson_calls.specs.declared.call.CallName.{CallName}
 use Rattle.meson_calls.specs.Finding.{the_call}
 use Rattle.meson_calls.proofs.Standing.{nth_there}
 use Rattle.meson_calls.proofs.OneCall.{placed_at, call_there}
@@ -81,7 +82,7 @@ module _ (p : Project Span) (call : CallRef) where
 -- ---- of the target that is named
 
 -- the call that an id names is removed at its place
-pub named_at : (p : Project Span) (id : List ℕ) (call : CallRef) → placed_at (the_call p role.Target id) ≡ Ok call → call_removed p call ≡ named_removed p id
-named_at p id call found =
-    let one = call_there (the_call p role.Target id) call found in
+pub named_at : (p : Project Span) (name : CallName) (call : CallRef) → placed_at (the_call p role.Target name) ≡ Ok call → call_removed p call ≡ named_removed p name
+named_at p name call found =
+    let one = call_there (the_call p role.Target name) call found in
     sym (ap (λ r. then_ok r (λ c. target_removed p c)) one.1 ∙ ap (call_removed p) one.2)

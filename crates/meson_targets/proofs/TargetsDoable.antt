@@ -12,6 +12,7 @@ use Rattle.meson_targets.proofs.Words.{target_removed, written_target}
 use Rattle.std.proofs.lemmas.List.Quantifiers.{position-Some}
 use Rattle.meson_syntax.specs.Tree as tree
 use Rattle.meson_calls.specs.declared.call.Role.TheVariants as role
+use Rattle.meson_calls.specs.declared.call.CallName.{CallName}
 use Rattle.meson_calls.specs.Finding.{the_call}
 use Rattle.meson_steps.specs.Plans.{ArePlanned}
 use Rattle.meson_targets.proofs.NewTargets.{as_many_named}
@@ -140,7 +141,7 @@ module _ (old : Loaded) (whole : IsProject old) where
     }
     addition_means target kind folder sources is (Err e) utf8 meant = tt
 
-    pub removal_means : (target : List ℕ) → planned ≡ then_ok (the_call p role.Target target) (λ c. target_removed p c)
+    pub removal_means : (target : CallName) → planned ≡ then_ok (the_call p role.Target target) (λ c. target_removed p c)
         → (r : Result V Refusal) → IfOk r (λ v. AreMeant (then_ok (the_call p role.Target target) (λ c. target_removed p c)) (list v)) → IfOk r (λ v. ArePlanned old planned (list v))
     removal_means target is (Ok v) meant =
         let c = then_was (the_call p role.Target target) (λ d. target_removed p d) meant.steps meant.is in

@@ -37,13 +37,13 @@ pub use Rattle.meson_edit.proofs.paths.Erased.{blocks-erase}
 pub use Rattle.meson_calls.specs.Calls.{all_chosen, Call, call_of, chosen, first_literal, is, part_call}
 pub use Rattle.meson_calls.specs.Finding.{only_one}
 pub use Rattle.meson_calls.specs.Loading.{AreParsed, IsProject, Loaded, named_trees, project, views}
-pub use Rattle.meson_calls.specs.Naming.{assigned_values, or_else, part_set_to, value_of_assignment, with_name}
+pub use Rattle.meson_calls.specs.Naming.{assigned_values, or_else, part_set_to, value_of_assignment, values_among, with_name}
 pub use Rattle.meson_calls.specs.NotedProjects.{project_in}
 pub use Rattle.meson_calls.specs.Notes.{Note, note_of, note_view, note_views, noted, notes}
 pub use Rattle.meson_calls.specs.Parts.{Part, parts, parts_from, parts_of_arguments, parts_of_expression, parts_of_file, parts_of_listing, parts_of_statement}
 pub use Rattle.meson_calls.specs.Parts.{parts_of_statements}
 pub use Rattle.meson_calls.specs.Project.{BuildFile, child, nth_file, place, Placed, placed, Project}
-pub use Rattle.meson_calls.specs.Roles.{has_role, one_of, places, role_calls, target_functions, with_role}
+pub use Rattle.meson_calls.specs.Roles.{has_role, one_of, places, role_calls, role_calls_among, target_functions, with_role}
 pub use Rattle.meson_calls.specs.Strings.{AreGood, note_words}
 pub use Rattle.meson_calls.specs.Walks.{keeper_view, part_reads, read_in, reads_kept, with_parts}
 pub use Rattle.meson_calls.specs.declared.call.CallRef.{CallRef}
@@ -74,6 +74,6 @@ pub use Rattle.meson_targets.specs.Effects.{AddedTargetsAreNamed, block_statemen
 pub use Rattle.meson_targets.specs.TargetEdits.{append_steps, call_removed, call_uses, checked_kind, file_number, file_of_folder, goes_through, Held, held_by}
 pub use Rattle.meson_targets.specs.TargetEdits.{Holder, holder, is_target_kind, is_used_outside, kind_key, name_set, named_removed, not_in_use, not_taken}
 pub use Rattle.meson_targets.specs.TargetEdits.{number_in, part_uses, set_to, statement_of, statement_path, statement_removal, statement_there, StatementPlace}
-pub use Rattle.meson_targets.specs.TargetEdits.{target_added, target_removed, target_statement, targets_named, variable_functions, variable_of, written_target}
+pub use Rattle.meson_targets.specs.TargetEdits.{target_added, target_removed, target_statement, targets_among, targets_named, variable_functions, variable_of, written_target}
 pub use Rattle.meson_targets.specs.inside.TargetViews.{held_view, holder_view, IsNamed, place_view}
 pub use Rattle.meson_targets.specs.inside.Uses.{is_noted_outside, is_outside, is_read_outside, note_uses}

@@ -5,6 +5,7 @@ use Rattle.meson_lex.specs.declared.kinds.Span.{Span}
 use Rattle.meson_edit.specs.Blocks.{BlockAt, block_at}
 use Rattle.meson_syntax.specs.Paths.{nth}
 use Rattle.meson_syntax.specs.Tree.{Nowhere, Plain, Statement, statement_list, Block, block, listing, plain, arguments_of}
+use Rattle.meson_calls.specs.declared.call.CallName.{CallName}
 use Rattle.meson_calls.specs.declared.call.CallRef.{CallRef}
 use Rattle.meson_calls.specs.declared.call.Role.TheVariants as role
 use Rattle.meson_calls.specs.declared.refusal.Refusal.TheVariants.{NotFound}
@@ -13,11 +14,12 @@ use Rattle.meson_calls.specs.Finding.{the_call}
 use Rattle.meson_calls.specs.Loading.{IsProject, Loaded, named_trees, project}
 use Rattle.meson_calls.specs.Parts.{Part, parts, parts_of_statement}
 use Rattle.meson_calls.specs.Project.{Project, Placed, place, placed}
+use Rattle.meson_calls.specs.Searching.{anywhere, project_names, searched_file, within}
 use Rattle.meson_steps.specs.Names.{distinct}
 use Rattle.meson_steps.specs.ResultLimits.{plain_trees}
 use Rattle.meson_steps.specs.Steps.{Step, all_stepped}
 use Rattle.meson_steps.specs.WrittenTexts.{string_of}
-use Rattle.meson_targets.specs.TargetEdits.{StatementPlace, number_in, statement_of, target_added, target_removed, targets_named}
+use Rattle.meson_targets.specs.TargetEdits.{StatementPlace, number_in, statement_of, target_added, target_removed, targets_among}
 
 -- the call of this function with these texts as its arguments
 abbrev pub call_with_texts : List ℕ → List (List ℕ) → Call Nowhere
@@ -26,7 +28,7 @@ call_with_texts kind texts = record { function = kind; arguments = listing tt fa
 -- The name names one call of a target: this one, in the file of this number.
 pub record NamesTarget (p : Project Nowhere) (name : List ℕ) (it : Call Nowhere) (file : ℕ) : Type 0 where
   pub place : CallRef
-  pub is_call : the_call p role.Target name ≡ Ok (placed place it)
+  pub is_call : the_call p role.Target (anywhere name) ≡ Ok (placed place it)
   pub in_file : place.file ≡ file
 
 -- The law: a target that is added is the one that its name names. It is in the build file of its folder, with the name and each source once as its arguments.
@@ -72,26 +74,28 @@ calls_among qs = map (λ (c : Placed (Call Nowhere)). c.it) (all_chosen part_cal
 abbrev pub calls_in : Statement Nowhere → List (Call Nowhere)
 calls_in it = calls_among (parts_of_statement (place 0 []) it)
 
--- The calls in the statement are gone, and all others stay in their order. No target has the name any more. If none had it before, since the id is that of a
--- variable, the id names none.
-pub record CallsGone (it : Statement Nowhere) (id : List ℕ) (before after : Project Nowhere) : Type 0 where
+-- The calls in the statement are gone, and all others stay in their order. No target in the files that are searched has the name any more. If none there had it
+-- before, since the id is that of a variable, nothing is named any more.
+pub record CallsGone (it : Statement Nowhere) (name : CallName) (searched : Option ℕ) (before after : Project Nowhere) : Type 0 where
   pub front : List (Call Nowhere)
   pub back : List (Call Nowhere)
   pub had : calls_among (parts before) ≡ front ++ (calls_in it ++ back)
   pub has : calls_among (parts after) ≡ front ++ back
-  pub named : targets_named after id ≡ []
-  pub by_variable : targets_named before id ≡ [] → the_call after role.Target id ≡ Err NotFound
+  pub named : targets_among (within searched (parts after)) name.id ≡ []
+  pub by_variable : targets_among (within searched (parts before)) name.id ≡ [] → the_call after role.Target name ≡ Err NotFound
 
 -- The statement of the call at a place, by which the target is removed.
-pub record TargetRemoved (old : Loaded) (id : List ℕ) (c : CallRef) (after : List Plain) : Type 0 where
+pub record TargetRemoved (old : Loaded) (name : CallName) (c : CallRef) (after : List Plain) : Type 0 where
   pub line : StatementPlace
   pub is_line : statement_of c ≡ Some line
   pub it : Statement Nowhere
   pub statement : StatementGone line it (plain_trees old) after
-  pub calls : CallsGone it id (named_trees old.files (plain_trees old)) (named_trees old.files after)
+  pub searched : Option ℕ
+  pub is_searched : searched_file (project_names (project old)) name.folder ≡ Ok searched
+  pub calls : CallsGone it name searched (named_trees old.files (plain_trees old)) (named_trees old.files after)
 
--- the law: a target that is removed is gone with its statement, no target has its name, and all else stays
+-- the law: a target that is removed is gone with its statement, no target in the files that are searched has its name, and all else stays
 abbrev pub RemovedTargetsAreGone : Type 0
-RemovedTargetsAreGone = (old : Loaded) → IsProject old → (id : List ℕ) (c : Placed (Call Span)) → the_call (project old) role.Target id ≡ Ok c
+RemovedTargetsAreGone = (old : Loaded) → IsProject old → (name : CallName) (c : Placed (Call Span)) → the_call (project old) role.Target name ≡ Ok c
     → (steps : List Step) (after : List Plain)
-    → target_removed (project old) c ≡ Ok steps → all_stepped steps (plain_trees old) ≡ Some after → TargetRemoved old id c.place after
+    → target_removed (project old) c ≡ Ok steps → all_stepped steps (plain_trees old) ≡ Some after → TargetRemoved old name c.place after

@@ -7,6 +7,7 @@ use Rattle.meson_syntax.specs.declared.operator.Assignment.TheVariants as assign
 use Rattle.meson_syntax.specs.Tree.{bare_name, Nowhere, Expression, identifier, call, listing, plain, arguments_of, Statement, evaluate, assign, iteration}
 use Rattle.meson_edit.specs.Blocks.{block_at, statement_in}
 use Rattle.meson_edit.specs.Edits.{Written, RemoveStatement, Append}
+use Rattle.meson_calls.specs.declared.call.CallName.{CallName}
 use Rattle.meson_calls.specs.declared.call.CallRef.{CallRef}
 use Rattle.meson_calls.specs.declared.call.Role.TheVariants as role
 use Rattle.meson_calls.specs.declared.refusal.Refusal.{Refusal}
@@ -15,7 +16,7 @@ use Rattle.meson_calls.specs.Project.{Project, BuildFile, Placed, place, child, 
 use Rattle.meson_calls.specs.Parts.{Part, an_expression, a_statement, parts}
 use Rattle.meson_calls.specs.Calls.{Call, all_chosen, first_literal, is}
 use Rattle.meson_calls.specs.Finding.{the_call}
-use Rattle.meson_calls.specs.Roles.{target_functions, one_of, role_calls}
+use Rattle.meson_calls.specs.Roles.{target_functions, one_of, role_calls_among}
 use Rattle.meson_calls.specs.Naming.{with_name}
 use Rattle.meson_variables.specs.Variables.{one_of_names}
 use Rattle.meson_calls.specs.Folders.{build_file, file_in}
@@ -35,9 +36,12 @@ kind_key = codes "target_type"
 abbrev pub checked_kind : List ℕ → Result (Unit {0}) Refusal
 checked_kind kind = if is_target_kind kind then Ok tt else Err (WrongKind kind_key)
 
--- the calls of targets whose first argument is a literal of this text
+-- the calls of targets whose first argument is a literal of this text, among some parts, and in a project
+abbrev pub targets_among : {S : Type 0} → List (Placed (Part S)) → List ℕ → List (Placed (Call S))
+targets_among qs name = all_chosen (with_name name) (role_calls_among qs role.Target)
+
 abbrev pub targets_named : {S : Type 0} → Project S → List ℕ → List (Placed (Call S))
-targets_named p name = all_chosen (with_name name) (role_calls p role.Target)
+targets_named p name = targets_among (parts p) name
 
 -- there must be none
 abbrev pub not_taken : {X : Type 0} → List X → Result (Unit {0}) Refusal
@@ -174,6 +178,6 @@ call_removed p c = then_ok (ok_or (holder p c) NotStatement) (λ h. then_ok (not
 abbrev pub target_removed : {S : Type 0} → Project S → Placed (Call S) → Result (List Step) Refusal
 target_removed p c = call_removed p c.place
 
--- the target that an id names
-abbrev pub named_removed : {S : Type 0} → Project S → List ℕ → Result (List Step) Refusal
-named_removed p id = then_ok (the_call p role.Target id) (λ c. target_removed p c)
+-- the target that is named
+abbrev pub named_removed : {S : Type 0} → Project S → CallName → Result (List Step) Refusal
+named_removed p name = then_ok (the_call p role.Target name) (λ c. target_removed p c)

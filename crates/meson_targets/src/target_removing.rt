@@ -4,6 +4,7 @@ ghost use Rattle.std.specs.Prelude.{◌≡◌, ◌∷◌, [], IfErr, IfOk, Ok};
 ghost use Rattle.meson_calls.specs.Loading.{IsProject};
 ghost use Rattle.meson_calls.specs.NotedProjects.{IsNotedFor, loaded_in, project_in};
 ghost use Rattle.meson_calls.specs.Refusals.{RefusedAs};
+ghost use Rattle.meson_calls.specs.Searching.{name_at};
 ghost use Rattle.meson_steps.specs.Meanings.{AreMeant};
 ghost use Rattle.meson_targets.specs.TargetEdits.{named_removed, not_in_use, call_removed};
 ghost use Rattle.meson_targets.specs.inside.TargetViews.{IsNamed, held_view, place_view};
@@ -13,7 +14,7 @@ use crate::uses::{StatementPlace, is_used_outside};
 use meson_calls::finding::the_call;
 use meson_calls::noted::Noted;
 use meson_calls::roles::identifier_text;
-use meson_calls::{CallRef, Refusal, Role};
+use meson_calls::{BorrowedName, CallRef, Refusal, Role};
 use meson_splice::Text;
 use meson_steps::step::{ListEdit, ListStep, push_step};
 use std::alloc::Global;
@@ -80,12 +81,12 @@ fn call_removed(alloc: Global, noted: &Noted<'_>, call: &CallRef) -> Result<Vec<
 pub fn target_removed(
     alloc: Global,
     noted: &Noted<'_>,
-    target: &str,
+    target: BorrowedName<'_>,
 ) -> Result<Vec<ListStep>, Refusal>
-    requires { IsNotedFor Role.Target target.now noted.now }
-    ensures meant { IfOk result (λ steps. AreMeant (named_removed (project_in noted.now) target.now) steps.items) }
-    ensures refused { RefusedAs result (named_removed (project_in noted.now) target.now) }
+    requires { IsNotedFor Role.Target target.id.now noted.now }
+    ensures meant { IfOk result (λ steps. AreMeant (named_removed (project_in noted.now) (name_at target.entry)) steps.items) }
+    ensures refused { RefusedAs result (named_removed (project_in noted.now) (name_at target.entry)) }
 {
-    let call = the_call(alloc, Role::Target, target, noted.notes)?;
+    let call = the_call(alloc, Role::Target, target, noted.files, noted.notes)?;
     call_removed(alloc, noted, &call)
 }

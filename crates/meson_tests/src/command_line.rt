@@ -51,7 +51,10 @@ fn is_given(asked: &Asked) -> bool {
     let [first, last] = sources.get() else {
         return false;
     };
-    target.get() == "a 'b'" && first.get() == "ä.c" && last.get().is_empty()
+    target.id.get() == "a 'b'"
+        && target.folder.is_none()
+        && first.get() == "ä.c"
+        && last.get().is_empty()
 }
 
 #[test]

@@ -26,6 +26,7 @@ use Rattle.meson_warnings.specs.LeftVariables.{all_left, few_left, is_read_outsi
 use Rattle.meson_warnings.specs.Reads.{is_in_one, is_inside, reads}
 use Rattle.meson_warnings.specs.SharedLists.{few_sharers, is_same, is_sharer, reads_one, sharer_notes, sharers, sharers_at}
 use Rattle.meson_warnings.specs.UnsetNames.{assigns, is_set, names_in, unset_among, unset_at, unset_names, unset_note, unset_words}
+use Rattle.meson_calls.specs.declared.call.CallName.{CallName}
 
 -- ---- lists
 
@@ -190,9 +191,9 @@ sharers_read l id (x ∷ more) =
 
 -- ---- variables that are left
 
-module _ (l : Loaded) (id : List ℕ) (known : readers_known l ≡ true) where
+module _ (l : Loaded) (id : CallName) (known : readers_known l ≡ true) where
   abbrev removed : List HeldCall
-  removed = calls_named l role.Target id
+  removed = calls_named l role.Target id.id
 
   module _ (x : List ℕ) (its : Contains (variables_at l id) x) (unread : is_read_outside removed (readers l) x (reads l x) ≡ false) where
     left_said : (n : Placed (read.Note Span)) → Contains (notes (project l)) n → (y : List ℕ) (sets : Bool) (e : Expression Span)

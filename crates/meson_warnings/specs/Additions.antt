@@ -15,6 +15,7 @@ use Rattle.meson_variables.specs.declared.source.Sources.{Sources}
 use Rattle.meson_explaining.specs.declared.explanation.Note.{Note}
 use Rattle.meson_explaining.specs.Notes.{call_note}
 use Rattle.meson_explaining.specs.Sources.{is_missing}
+use Rattle.meson_calls.specs.declared.call.CallName.{CallName}
 
 abbrev pub is_place : CallRef → CallRef → Bool
 is_place a b = (a.file == b.file) && bytes_eq a.path.steps b.path.steps
@@ -32,10 +33,10 @@ abbrev pub into_at : Loaded → List (List ℕ) → Result (Placed (Call Span)) 
 into_at l names (Err e) = false
 into_at l names (Ok c) = into_one names c.place (sources (project l) c.place)
 
-unfoldable pub goes_into_call : Loaded → List ℕ → List (List ℕ) → Bool
-goes_into_call l id names = into_at l names (the_call (project l) role.Target id)
+unfoldable pub goes_into_call : Loaded → CallName → List (List ℕ) → Bool
+goes_into_call l name names = into_at l names (the_call (project l) role.Target name)
 
-abbrev pub into_call : Loaded → List ℕ → List (List ℕ) → List Note
-into_call l id names =
-    if goes_into_call l id names then map (call_note (codes ": the new source is added to this call, since some of its sources are not known"))
-    (calls_named l role.Target id) else []
+abbrev pub into_call : Loaded → CallName → List (List ℕ) → List Note
+into_call l name names =
+    if goes_into_call l name names then map (call_note (codes ": the new source is added to this call, since some of its sources are not known"))
+    (calls_named l role.Target name.id) else []

@@ -20,6 +20,7 @@ use Rattle.meson_warnings.specs.LeftVariables.{left_note, left_variables, reader
 use Rattle.meson_warnings.specs.Reads.{is_in_one, is_inside, reads}
 use Rattle.meson_warnings.specs.SharedLists.{is_same, sharers}
 use Rattle.meson_warnings.specs.UnsetNames.{assigns, names_in, unset_names, unset_words}
+use Rattle.meson_calls.specs.declared.call.CallName.{CallName}
 
 -- ---- names that no build file sets
 
@@ -62,11 +63,11 @@ SharersRead = (l : Loaded) (id : List ℕ) (variables : List (List ℕ)) → All
 
 -- ---- variables that are left
 
-pub record IsLeft (l : Loaded) (id : List ℕ) (n : Note) : Type 0 where
+pub record IsLeft (l : Loaded) (target : CallName) (n : Note) : Type 0 where
   pub variable : List ℕ
-  pub is_its : Contains (variables_at l id) variable
+  pub is_its : Contains (variables_at l target) variable
   pub all_known : readers_known l ≡ true
-  pub not_read : All (λ s. is_in_one (calls_named l role.Target id) s ≡ true) (reads l variable)
+  pub not_read : All (λ s. is_in_one (calls_named l role.Target target.id) s ≡ true) (reads l variable)
   pub not_named : names_one variable (readers l) ≡ false
   pub set : Placed (read.Note Span)
   pub is_there : Contains (notes (project l)) set
@@ -77,4 +78,4 @@ pub record IsLeft (l : Loaded) (id : List ℕ) (n : Note) : Type 0 where
 
 -- the law: a variable that is said to be left is read in the removed call alone
 abbrev pub LeftAreUnread : Type 0
-LeftAreUnread = (l : Loaded) (id : List ℕ) → All (λ n. IsLeft l id n ⊎ IsCount n) (left_variables l id)
+LeftAreUnread = (l : Loaded) (target : CallName) → All (λ n. IsLeft l target n ⊎ IsCount n) (left_variables l target)

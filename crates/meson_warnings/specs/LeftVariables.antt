@@ -22,6 +22,7 @@ use Rattle.meson_warnings.specs.Known.{names_one, readers_known}
 use Rattle.meson_warnings.specs.Overwrites.{keywords_at}
 use Rattle.meson_warnings.specs.Reads.{is_in_one, reads}
 use Rattle.meson_warnings.specs.SharedLists.{variable_in}
+use Rattle.meson_calls.specs.declared.call.CallName.{CallName}
 
 -- ---- the variables of a target
 
@@ -32,8 +33,8 @@ variables_shown (shown.Ids xs) = xs
 variables_shown _ = []
 
 -- those that were followed to its sources, and those of the keyword arguments that commands change
-abbrev pub variables_at : Loaded → List ℕ → List (List ℕ)
-variables_at l id = flat_map variable_in (sources_at l id) ++ flat_map (λ p. variables_shown p.1) (keywords_at l role.Target id)
+abbrev pub variables_at : Loaded → CallName → List (List ℕ)
+variables_at l target = flat_map variable_in (sources_at l target) ++ flat_map (λ p. variables_shown p.1) (keywords_at l role.Target target)
 
 -- ---- what reads them
 
@@ -74,8 +75,8 @@ few_left notes = take 5 notes ++ further (codes "further assignments to variable
 abbrev pub left_named : Loaded → List HeldCall → List HeldCall → List (List ℕ) → List Note
 left_named l calls by_name xs = flat_map (λ x. left_of calls by_name (notes (project l)) x (reads l x)) xs
 
-abbrev pub all_left : Loaded → List ℕ → List Note
-all_left l id = left_named l (calls_named l role.Target id) (readers l) (distinct (variables_at l id))
+abbrev pub all_left : Loaded → CallName → List Note
+all_left l target = left_named l (calls_named l role.Target target.id) (readers l) (distinct (variables_at l target))
 
-abbrev pub left_variables : Loaded → List ℕ → List Note
-left_variables l id = if readers_known l then few_left (all_left l id) else []
+abbrev pub left_variables : Loaded → CallName → List Note
+left_variables l target = if readers_known l then few_left (all_left l target) else []

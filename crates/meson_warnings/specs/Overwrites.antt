@@ -15,6 +15,7 @@ use Rattle.meson_details.specs.declared.details.Shown.TheVariants as shown
 use Rattle.meson_details.specs.Details.{keywords}
 use Rattle.meson_explaining.specs.declared.explanation.Note.{Note}
 use Rattle.meson_explaining.specs.Values.{value_notes}
+use Rattle.meson_calls.specs.declared.call.CallName.{CallName}
 
 -- an expression; or variables, where the key takes none
 abbrev pub is_computed : Role → List ℕ → Shown → Bool
@@ -36,11 +37,11 @@ pairs_at l r (Err e) = []
 pairs_at l r (Ok c) = pairs_of (keywords l r c.place)
 
 -- the keyword arguments of the call that an id names, if it names one
-unfoldable pub keywords_at : Loaded → Role → List ℕ → List (List ℕ × Shown)
+unfoldable pub keywords_at : Loaded → Role → CallName → List (List ℕ × Shown)
 keywords_at l r id = pairs_at l r (the_call (project l) r id)
 
 abbrev pub lost_note : Note → Note
 lost_note n = record { spot = n.spot; text = codes "writes over " ++ n.text }
 
-abbrev pub lost_value : Loaded → Role → List ℕ → List ℕ → List Note
+abbrev pub lost_value : Loaded → Role → CallName → List ℕ → List Note
 lost_value l r id key = if list_any (is_lost r key) (keywords_at l r id) then map lost_note (value_notes l r id key) else []

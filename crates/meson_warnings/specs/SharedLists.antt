@@ -14,6 +14,7 @@ use Rattle.meson_explaining.specs.Sources.{is_missing, sources_at}
 use Rattle.meson_explaining.specs.declared.explanation.Note.{Note}
 use Rattle.meson_explaining.specs.declared.explanation.Spot.{Spot}
 use Rattle.meson_warnings.specs.Reads.{is_inside, reads}
+use Rattle.meson_calls.specs.declared.call.CallName.{CallName}
 
 -- ---- the variables whose lists change
 
@@ -67,8 +68,8 @@ abbrev pub sharers : Loaded → List ℕ → List (List ℕ) → List Note
 sharers l id [] = []
 sharers l id (x ∷ more) = sharers_at l id (take 5000 (flat_map (reads l) (distinct (x ∷ more))))
 
-abbrev pub shared_by_adding : Loaded → List ℕ → List (List ℕ) → List Note
-shared_by_adding l id names = sharers l id (grown (sources_at l id) names)
+abbrev pub shared_by_adding : Loaded → CallName → List (List ℕ) → List Note
+shared_by_adding l target names = sharers l target.id (grown (sources_at l target) names)
 
-abbrev pub shared_by_removing : Loaded → List ℕ → List (List ℕ) → List Note
-shared_by_removing l id names = sharers l id (shrunk (sources_at l id) names)
+abbrev pub shared_by_removing : Loaded → CallName → List (List ℕ) → List Note
+shared_by_removing l target names = sharers l target.id (shrunk (sources_at l target) names)

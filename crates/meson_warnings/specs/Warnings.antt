@@ -11,9 +11,9 @@ use Rattle.meson_warnings.specs.SharedLists.{shared_by_adding, shared_by_removin
 use Rattle.meson_warnings.specs.UnsetNames.{unset_names}
 
 abbrev pub warnings : Loaded → Command → List Note
-warnings l (command.KwargsSet r id pairs) = flat_map (λ p. lost_value l r id p.0) pairs ++ unset_names l r id pairs
-warnings l (command.KwargsAdd r id pairs) = unset_names l r id pairs
-warnings l (command.SourcesAdd id names) = into_call l id names ++ shared_by_adding l id names
-warnings l (command.SourcesRemove id names) = shared_by_removing l id names
-warnings l (command.TargetRemove id) = left_variables l id
+warnings l (command.KwargsSet r name pairs) = flat_map (λ p. lost_value l r name p.0) pairs ++ unset_names l r name.id pairs
+warnings l (command.KwargsAdd r name pairs) = unset_names l r name.id pairs
+warnings l (command.SourcesAdd target names) = into_call l target names ++ shared_by_adding l target names
+warnings l (command.SourcesRemove target names) = shared_by_removing l target names
+warnings l (command.TargetRemove target) = left_variables l target
 warnings l _ = []

@@ -7,8 +7,9 @@ ghost use Rattle.meson_calls.specs.Roles.{is_target};
 ghost use Rattle.meson_explaining.specs.Sources.{is_missing};
 ghost use Rattle.meson_variables.specs.TargetSources.{sources};
 ghost use Rattle.meson_warnings.specs.Additions.{goes_into_call, into_call, into_one, is_into_call, is_place};
+ghost use Rattle.meson_calls.specs.Searching.{name_at};
 
-use meson_calls::{CallRef, Refusal};
+use meson_calls::{BorrowedName, CallRef, Refusal};
 use meson_explaining::Note;
 use meson_explaining::calls::add_each;
 use meson_explaining::sources::is_missing;
@@ -61,12 +62,12 @@ fn into_one(
 fn goes_into_call(
     alloc: Global,
     project: &Project,
-    id: &str,
+    target: BorrowedName<'_>,
     names: &[Text],
 ) -> Result<bool, AllocError>
-    ensures { IfOk result (λ yes. yes ≡ goes_into_call project.now id.now names.now) }
+    ensures { IfOk result (λ yes. yes ≡ goes_into_call project.now (name_at target.entry) names.now) }
 {
-    match project.find_one(alloc, Role::Target, id) {
+    match project.find_one(alloc, Role::Target, target) {
         Ok(call) => into_one(alloc, project, &call, names),
         Err(Refusal::OutOfMemory) => Err(AllocError),
         Err(_) => Ok(false),
@@ -77,16 +78,16 @@ fn goes_into_call(
 pub(crate) fn into_call(
     alloc: Global,
     project: &Project,
-    id: &str,
+    target: BorrowedName<'_>,
     names: &[Text],
 ) -> Result<Vec<Note>, AllocError>
-    ensures { IfOk result (λ notes. notes.items ≡ into_call project.now id.now names.now) }
+    ensures { IfOk result (λ notes. notes.items ≡ into_call project.now (name_at target.entry) names.now) }
 {
     let mut notes = Vec::new(alloc);
-    if !goes_into_call(alloc, project, id, names)? {
+    if !goes_into_call(alloc, project, target, names)? {
         return Ok(notes);
     }
-    let calls = calls_named(alloc, project, Role::Target, id)?;
+    let calls = calls_named(alloc, project, Role::Target, target.id)?;
     let more = ": the new source is added to this call, since some of its sources are not known";
     add_each(alloc, &mut notes, more, calls.get())?;
     Ok(notes)

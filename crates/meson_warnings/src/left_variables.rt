@@ -9,11 +9,13 @@ ghost use Rattle.meson_warnings.specs.LeftVariables.{all_left, few_left, is_read
 ghost use Rattle.meson_warnings.specs.LeftVariables.{left_named, left_variables, readers, variables_at, variables_shown};
 ghost use Rattle.meson_warnings.specs.Reads.{is_in_one, reads};
 ghost use Rattle.meson_warnings.specs.SharedLists.{variable_in};
+ghost use Rattle.meson_calls.specs.Searching.{name_at};
 
 use crate::known::{names_one, readers_known};
 use crate::overwrites::keywords_at;
 use crate::reads::{add_reads, is_in_one};
 use crate::shared_lists::add_variable;
+use meson_calls::BorrowedName;
 use meson_calls::note::What;
 use meson_calls::notes::notes_of;
 use meson_calls::roles::text_of;
@@ -79,15 +81,19 @@ fn add_followed(variables: &mut Vec<Text>, items: &[SourceItem]) -> Result<(), A
 }
 
 /// The variables of the target that an id names.
-fn variables_at(alloc: Global, project: &Project, id: &str) -> Result<Vec<Text>, AllocError>
-    ensures { IfOk result (λ variables. variables.items ≡ variables_at project.now id.now) }
+fn variables_at(
+    alloc: Global,
+    project: &Project,
+    target: BorrowedName<'_>,
+) -> Result<Vec<Text>, AllocError>
+    ensures { IfOk result (λ variables. variables.items ≡ variables_at project.now (name_at target.entry)) }
 {
     let mut variables = Vec::new(alloc);
-    let items = sources_at(alloc, project, id)?;
+    let items = sources_at(alloc, project, target)?;
     add_followed(&mut variables, items.get())?;
     let subject = Subject {
         role: Role::Target,
-        id,
+        name: target,
     };
     let pairs = keywords_at(alloc, project, subject)?;
     add_all_shown(&mut variables, pairs.as_slice())?;
@@ -249,12 +255,16 @@ fn left_named(
 }
 
 /// The warnings of the variables of the target that an id names.
-fn all_left(alloc: Global, project: &Project, id: &str) -> Result<Vec<Note>, AllocError>
-    ensures { IfOk result (λ notes. notes.items ≡ all_left project.now id.now) }
+fn all_left(
+    alloc: Global,
+    project: &Project,
+    target: BorrowedName<'_>,
+) -> Result<Vec<Note>, AllocError>
+    ensures { IfOk result (λ notes. notes.items ≡ all_left project.now (name_at target.entry)) }
 {
-    let named = calls_named(alloc, project, Role::Target, id)?;
+    let named = calls_named(alloc, project, Role::Target, target.id)?;
     let readers = readers(alloc, project)?;
-    let variables = variables_at(alloc, project, id)?;
+    let variables = variables_at(alloc, project, target)?;
     let names = distinct(alloc, variables.as_slice())?;
     left_named(
         alloc,
@@ -285,13 +295,13 @@ fn few_left(alloc: Global, all: Vec<Note>) -> Result<Vec<Note>, AllocError>
 pub(crate) fn left_variables(
     alloc: Global,
     project: &Project,
-    id: &str,
+    target: BorrowedName<'_>,
 ) -> Result<Vec<Note>, AllocError>
-    ensures { IfOk result (λ notes. notes.items ≡ left_variables project.now id.now) }
+    ensures { IfOk result (λ notes. notes.items ≡ left_variables project.now (name_at target.entry)) }
 {
     if !readers_known(alloc, project)? {
         return Ok(Vec::new(alloc));
     }
-    let notes = all_left(alloc, project, id)?;
+    let notes = all_left(alloc, project, target)?;
     few_left(alloc, notes)
 }

@@ -5,6 +5,7 @@ ghost use Rattle.std.specs.List.{list_any};
 ghost use Rattle.meson_calls.specs.Loading.{project as trees_of};
 ghost use Rattle.meson_details.specs.Details.{is_call, keywords};
 ghost use Rattle.meson_warnings.specs.Overwrites.{is_computed, is_lost, keywords_at, lost_note, lost_value, pairs_of};
+ghost use Rattle.meson_calls.specs.Searching.{name_at};
 
 use meson_calls::keys::is_identifier_list_key;
 use meson_calls::{CallRef, Refusal};
@@ -52,9 +53,9 @@ pub(crate) fn keywords_at(
     project: &Project,
     subject: Subject<'_>,
 ) -> Result<Vec<(Text, Shown)>, AllocError>
-    ensures { IfOk result (λ pairs. pairs.items ≡ keywords_at project.now subject.entry.role subject.entry.id.now) }
+    ensures { IfOk result (λ pairs. pairs.items ≡ keywords_at project.now subject.entry.role (name_at subject.entry.name)) }
 {
-    match project.find_one(alloc, subject.role, subject.id) {
+    match project.find_one(alloc, subject.role, subject.name) {
         Ok(call) => keywords_of(alloc, project, subject.role, &call),
         Err(Refusal::OutOfMemory) => Err(AllocError),
         Err(_) => Ok(Vec::new(alloc)),
@@ -98,7 +99,7 @@ fn add_lost_value(
     subject: Subject<'_>,
     key: &str,
 ) -> Result<(), AllocError>
-    ensures { OnOk result (notes.new.items ≡ notes.old.items ++ lost_value project.now subject.entry.role subject.entry.id.now key.now) }
+    ensures { OnOk result (notes.new.items ≡ notes.old.items ++ lost_value project.now subject.entry.role (name_at subject.entry.name) key.now) }
 {
     let pairs = keywords_at(alloc, project, subject)?;
     if !is_lost(subject.role, key, pairs.as_slice()) {
@@ -115,7 +116,7 @@ pub(crate) fn lost_values(
     subject: Subject<'_>,
     pairs: &[(Text, Setting)],
 ) -> Result<Vec<Note>, AllocError>
-    ensures { IfOk result (λ notes. notes.items ≡ flat_map (λ p. lost_value project.now subject.entry.role subject.entry.id.now p.0) pairs.now) }
+    ensures { IfOk result (λ notes. notes.items ≡ flat_map (λ p. lost_value project.now subject.entry.role (name_at subject.entry.name) p.0) pairs.now) }
 {
     let mut notes = Vec::new(alloc);
     for (key, _) in pairs {

@@ -5,9 +5,11 @@ ghost use Rattle.std.specs.List.{list_any};
 ghost use Rattle.meson_warnings.specs.Reads.{reads};
 ghost use Rattle.meson_warnings.specs.SharedLists.{few_sharers, grown, is_in_list, is_same, is_sharer, lost_from, reads_one};
 ghost use Rattle.meson_warnings.specs.SharedLists.{shared_by_adding, shared_by_removing, sharer_notes, sharers, sharers_at, shrunk, variable_in};
+ghost use Rattle.meson_calls.specs.Searching.{name_at};
 
 use crate::additions::has_new;
 use crate::reads::{add_reads, is_inside};
+use meson_calls::BorrowedName;
 use meson_explaining::calls::{add_further, call_note};
 use meson_explaining::removals::is_one_of;
 use meson_explaining::sources::sources_at;
@@ -235,26 +237,26 @@ fn sharers(
 pub(crate) fn shared_by_adding(
     alloc: Global,
     project: &Project,
-    id: &str,
+    target: BorrowedName<'_>,
     names: &[Text],
 ) -> Result<Vec<Note>, AllocError>
-    ensures { IfOk result (λ notes. notes.items ≡ shared_by_adding project.now id.now names.now) }
+    ensures { IfOk result (λ notes. notes.items ≡ shared_by_adding project.now (name_at target.entry) names.now) }
 {
-    let items = sources_at(alloc, project, id)?;
+    let items = sources_at(alloc, project, target)?;
     let variables = grown(alloc, items.get(), names)?;
-    sharers(alloc, project, id, variables.as_slice())
+    sharers(alloc, project, target.id, variables.as_slice())
 }
 
 /// The warnings of other targets that use a list from which `target rm` removes a source.
 pub(crate) fn shared_by_removing(
     alloc: Global,
     project: &Project,
-    id: &str,
+    target: BorrowedName<'_>,
     names: &[Text],
 ) -> Result<Vec<Note>, AllocError>
-    ensures { IfOk result (λ notes. notes.items ≡ shared_by_removing project.now id.now names.now) }
+    ensures { IfOk result (λ notes. notes.items ≡ shared_by_removing project.now (name_at target.entry) names.now) }
 {
-    let items = sources_at(alloc, project, id)?;
+    let items = sources_at(alloc, project, target)?;
     let variables = shrunk(alloc, items.get(), names)?;
-    sharers(alloc, project, id, variables.as_slice())
+    sharers(alloc, project, target.id, variables.as_slice())
 }

@@ -6,12 +6,14 @@ ghost use Rattle.meson_warnings.specs.Overwrites.{lost_value};
 ghost use Rattle.meson_warnings.specs.SharedLists.{shared_by_adding};
 ghost use Rattle.meson_warnings.specs.UnsetNames.{unset_names};
 ghost use Rattle.meson_warnings.specs.Warnings.{warnings};
+ghost use Rattle.meson_calls.specs.Searching.{name_at};
 
 use crate::additions::into_call;
 use crate::left_variables::left_variables;
 use crate::overwrites::lost_values;
 use crate::shared_lists::{shared_by_adding, shared_by_removing};
 use crate::unset_names::unset_names;
+use meson_calls::BorrowedName;
 use meson_explaining::Note;
 use meson_explaining::subject::Subject;
 use meson_plan::Project;
@@ -26,8 +28,8 @@ fn warn_of_set(
     subject: Subject<'_>,
     pairs: &[(Text, Setting)],
 ) -> Result<Vec<Note>, AllocError>
-    ensures { let role = subject.entry.role in let id = subject.entry.id.now in
-        IfOk result (λ notes. notes.items ≡ flat_map (λ p. lost_value project.now role id p.0) pairs.now ++ unset_names project.now role id pairs.now) }
+    ensures { let role = subject.entry.role in let name = name_at subject.entry.name in
+        IfOk result (λ notes. notes.items ≡ flat_map (λ p. lost_value project.now role name p.0) pairs.now ++ unset_names project.now role name.id pairs.now) }
 {
     let mut notes = lost_values(alloc, project, subject, pairs)?;
     let mut more = unset_names(alloc, project, subject, pairs)?;
@@ -39,13 +41,13 @@ fn warn_of_set(
 fn warn_of_add(
     alloc: Global,
     project: &Project,
-    id: &str,
+    target: BorrowedName<'_>,
     names: &[Text],
 ) -> Result<Vec<Note>, AllocError>
-    ensures { IfOk result (λ notes. notes.items ≡ into_call project.now id.now names.now ++ shared_by_adding project.now id.now names.now) }
+    ensures { IfOk result (λ notes. notes.items ≡ into_call project.now (name_at target.entry) names.now ++ shared_by_adding project.now (name_at target.entry) names.now) }
 {
-    let mut notes = into_call(alloc, project, id, names)?;
-    let mut more = shared_by_adding(alloc, project, id, names)?;
+    let mut notes = into_call(alloc, project, target, names)?;
+    let mut more = shared_by_adding(alloc, project, target, names)?;
     notes.append(&mut more)?;
     Ok(notes)
 }
@@ -64,27 +66,27 @@ pub fn warnings(
     ensures { IfOk result (λ notes. notes.items ≡ warnings project.now command.now) }
 {
     match command {
-        Command::KwargsSet { role, id, pairs } => {
+        Command::KwargsSet { role, name, pairs } => {
             let subject = Subject {
                 role: *role,
-                id: id.get(),
+                name: name.as_name(),
             };
             warn_of_set(alloc, project, subject, pairs.get())
         }
-        Command::KwargsAdd { role, id, pairs } => {
+        Command::KwargsAdd { role, name, pairs } => {
             let subject = Subject {
                 role: *role,
-                id: id.get(),
+                name: name.as_name(),
             };
             unset_names(alloc, project, subject, pairs.get())
         }
         Command::SourcesAdd { target, sources } => {
-            warn_of_add(alloc, project, target.get(), sources.get())
+            warn_of_add(alloc, project, target.as_name(), sources.get())
         }
         Command::SourcesRemove { target, sources } => {
-            shared_by_removing(alloc, project, target.get(), sources.get())
+            shared_by_removing(alloc, project, target.as_name(), sources.get())
         }
-        Command::TargetRemove { target } => left_variables(alloc, project, target.get()),
+        Command::TargetRemove { target } => left_variables(alloc, project, target.as_name()),
         _ => Ok(Vec::new(alloc)),
     }
 }

@@ -150,9 +150,9 @@ fn unset_at(
     names: &[&Text],
 ) -> Result<Vec<Note>, AllocError>
     ensures { let subject = subject.entry in
-        IfOk result (λ notes. notes.items ≡ unset_at project.now subject.role subject.id.now (map (λ x. x.now) names.now)) }
+        IfOk result (λ notes. notes.items ≡ unset_at project.now subject.role subject.name.id.now (map (λ x. x.now) names.now)) }
 {
-    let named = calls_named(alloc, project, subject.role, subject.id)?;
+    let named = calls_named(alloc, project, subject.role, subject.name.id)?;
     let setters = calls_held(alloc, project, "set_variable")?;
     project.reads();
     let taken = notes_of(alloc, project.files(), project.trees())?;
@@ -172,7 +172,7 @@ fn unset_among(
     subject: Subject<'_>,
     names: &[Text],
 ) -> Result<Vec<Note>, AllocError>
-    ensures { IfOk result (λ notes. notes.items ≡ unset_among project.now subject.entry.role subject.entry.id.now names.now) }
+    ensures { IfOk result (λ notes. notes.items ≡ unset_among project.now subject.entry.role subject.entry.name.id.now names.now) }
 {
     if names.is_empty() {
         return Ok(Vec::new(alloc));
@@ -192,7 +192,7 @@ pub(crate) fn unset_names(
     subject: Subject<'_>,
     pairs: &[(Text, Setting)],
 ) -> Result<Vec<Note>, AllocError>
-    ensures { IfOk result (λ notes. notes.items ≡ unset_names project.now subject.entry.role subject.entry.id.now pairs.now) }
+    ensures { IfOk result (λ notes. notes.items ≡ unset_names project.now subject.entry.role subject.entry.name.id.now pairs.now) }
 {
     let names = all_names(alloc, subject.role, pairs)?;
     unset_among(alloc, project, subject, names.as_slice())

@@ -85,9 +85,13 @@ blank-after s xs x e = after-append s xs (x ∷ []) ∙ gap-after (role x.kind) 
 pub blank-emitted : (s : State) (xs : List Lexeme) (x : Lexeme) → x.kind ≡ k.Blank → emitted s (xs ++ x ∷ []) ≡ emitted s xs ++ []
 blank-emitted s xs x e = emitted-append s xs (x ∷ []) ∙ ap (λ w. emitted s xs ++ (w ++ [])) (gap-emit (role x.kind) (after s xs) (x.kind, kept x.kind x.text) (ap role e))
 
+-- behind what is a statement, or the end of one
+pub tight-after : (s : State) (own : List Lexeme) (words : List Word) → s.depth ≡ 0 → IsTight own → emitted s own ≡ words → Flat words → after s own ≡ in_line
+tight-after s own words zero t is flat =
+    same-state (after s own) 0 false
+    (ap (λ (s : State). s.depth) (state-is s own) ∙ flat-depth (emitted s own) s zero (subst Flat (sym is) flat))
+    (ap (λ l. (after s l).fresh) t.ends ∙ ap (λ (s : State). s.fresh) (after-append s t.front (t.last ∷ [])) ∙ speaks-fresh (role t.last.kind) (after s t.front) t.last_speaks)
+
 -- behind a statement that begins a line
 pub tight-state : (own : List Lexeme) (words : List Word) → IsTight own → emitted start own ≡ words → Flat words → after start own ≡ in_line
-tight-state own words t is flat =
-    same-state (after start own) 0 false
-    (ap (λ (s : State). s.depth) (state-is start own) ∙ flat-depth (emitted start own) start refl (subst Flat (sym is) flat))
-    (ap (λ l. (after start l).fresh) t.ends ∙ ap (λ (s : State). s.fresh) (after-append start t.front (t.last ∷ [])) ∙ speaks-fresh (role t.last.kind) (after start t.front) t.last_speaks)
+tight-state own words t is flat = tight-after start own words refl t is flat

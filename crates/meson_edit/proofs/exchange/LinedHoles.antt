@@ -51,7 +51,7 @@ module _ (S : Type 0) where
   tails-inner (tail t more) =
       every-append IsInner _ _ (inner-around [] (tails_words more) (λ x. tail x more) (tail_children t) (tail-inner t)) (inner-around (tail_words t) [] (tail t) (tails_children more) (tails-inner more))
 
-  expression-inner : (e : Expression S) → Every IsInner (expression_children e)
+  pub expression-inner : (e : Expression S) → Every IsInner (expression_children e)
   expression-inner (identifier s x) = tt
   expression-inner (boolean s b) = tt
   expression-inner (integer s x) = tt

@@ -8,7 +8,7 @@ use Rattle.meson_lex.specs.declared.kinds.Kind.TheVariants as k
 use Rattle.meson_syntax.specs.declared.operator.Assignment.TheVariants as assigns
 use Rattle.meson_edit.proofs.exchange.States.{Lines, no-lines, lines-append, line-more, line-flat}
 
-assignment-other : (a : Assignment) → role (assignment_kind a) ≡ Other
+pub assignment-other : (a : Assignment) → role (assignment_kind a) ≡ Other
 assignment-other assigns.Set = refl
 assignment-other assigns.Add = refl
 

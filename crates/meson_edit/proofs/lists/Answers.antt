@@ -1,6 +1,6 @@
 -- The laws of edits of lists.
 use Rattle.meson_edit.proofs.Words.{◌≡◌, ℕ, List, Some, Ok, sym, subst, Lexeme, IsItemList, Span, patched_by, layout_of, Primitive, IsSpannedWithin, Plain}
-use Rattle.meson_edit.proofs.Words.{File, erase, Limits, Edit, First, After, Remove, Replace, Wrap, RemoveStatement, Append, edited, edited_list, KeepsIn}
+use Rattle.meson_edit.proofs.Words.{File, erase, Limits, Edit, First, After, Remove, Replace, Wrap, RemoveStatement, Append, Assign, edited, edited_list, KeepsIn}
 use Rattle.meson_edit.proofs.Words.{FirstsSpell, InsertionsSpell, RemovalsSpell, ReplacementsSpell, WrapsSpell, IsEditOf, ListEditsLook, ListEditsWrite}
 use Rattle.meson_edit.proofs.Words.{primitive_of, Writes}
 use Rattle.meson_edit.proofs.lists.Found.{found}
@@ -32,6 +32,7 @@ list-lays (Remove list n) path is = subst (Lays (Remove list n)) (sym is) (remov
 list-lays (Replace list n new) path is = subst (Lays (Replace list n new)) (sym is) (replace-lays list n new)
 list-lays (Wrap list n) path is = subst (Lays (Wrap list n)) (sym is) (wrap-lays list n)
 list-lays (RemoveStatement block n) path is = absurd is
+list-lays (Assign assignment new) path is = absurd is
 list-lays (Append new) path is = absurd is
 
 pub list-edits-write : ListEditsWrite

@@ -3,7 +3,7 @@ use Rattle.meson_edit.proofs.Words.{◌≡◌, ℕ, zero, suc, ◌+◌, ◌<◌,
 use Rattle.meson_edit.proofs.Words.{inr, ◌⊎◌, append_assoc, length-append, arith, eq-or-lt_of_le, append-nil, Lexeme, joined, IsItemList, Word, Role, Gap, Ends}
 use Rattle.meson_edit.proofs.Words.{Opens, Closes, Other, role, speaks, spoken_by, word, spoken, Span, joined-append, comma_word, IsCommaAtMost, comma_words}
 use Rattle.meson_edit.proofs.Words.{argument_words, nth, ListAt, ElementAt, elements_at, element_at, words_ahead, Arguments, no_arguments, argument, Listing}
-use Rattle.meson_edit.proofs.Words.{listing, some-injective, Edit, First, After, Remove, Replace, Wrap, RemoveStatement, Append, Touches, KeepsList, IsBefore}
+use Rattle.meson_edit.proofs.Words.{listing, some-injective, Edit, First, After, Remove, Replace, Wrap, RemoveStatement, Append, Assign, Touches, KeepsList, IsBefore}
 use Rattle.meson_edit.proofs.Words.{IsBehind, SameUpTo, SameFrom, argument_span, ListStands, ElementStands}
 use Rattle.meson_layout.proofs.Ends.{spoken-append}
 use Rattle.meson_edit.proofs.places.Elements.{element-words}
@@ -223,6 +223,7 @@ module _ (items : List Lexeme) (p : ListAt Span) (l : ListStands items p) (m : �
       before-by n y is_y before left front gone (omega arith) cut comma
   enough-before (RemoveStatement path n) left right notes t before front gone cut comma = absurd before
   enough-before (Append new) left right notes t before front gone cut comma = absurd before
+  enough-before (Assign path new) left right notes t before front gone cut comma = absurd before
 
   behind-of : (n : ℕ) (y : ElementAt Span) → element_at p.list n ≡ Some y → n < m → (right lost rest : List Lexeme) → spoken right ≡ y.behind → right ≡ lost ++ rest → IsCommaAtMost (spoken lost)
       → length (argument_words x.element) + length x.behind ≤ length (spoken rest)
@@ -245,6 +246,7 @@ module _ (items : List Lexeme) (p : ListAt Span) (l : ListStands items p) (m : �
   enough-behind (Wrap path n) left right notes (y, is_y, v, is_v, part, left_is, right_is, n_is) behind lost rest cut comma = behind-of n y is_y behind right lost rest (ap spoken right_is ∙ part.is_right) cut comma
   enough-behind (RemoveStatement path n) left right notes t behind lost rest cut comma = absurd behind
   enough-behind (Append new) left right notes t behind lost rest cut comma = absurd behind
+  enough-behind (Assign path new) left right notes t behind lost rest cut comma = absurd behind
 
   -- ---- items
 
@@ -257,6 +259,7 @@ module _ (items : List Lexeme) (p : ListAt Span) (l : ListStands items p) (m : �
   inner-left (Wrap path n) left right notes (y, is_y, v, is_v, part, left_is, right_is, n_is) = (part.own, part.parts ∙ ap₂ (λ u v. u ++ (part.own ++ v)) (sym left_is) (sym right_is))
   inner-left (RemoveStatement path n) left right notes t = absurd t
   inner-left (Append new) left right notes t = absurd t
+  inner-left (Assign path new) left right notes t = absurd t
 
 -- ---- bytes
 

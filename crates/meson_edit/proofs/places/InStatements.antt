@@ -90,7 +90,7 @@ otherwise-inside (otherwise b) d ts h =
       tt,
     )
 
-statement-inside : (s : Statement Span) (d : ℕ) (ts : List Token) → SpellsStatement s d ts
+pub statement-inside : (s : Statement Span) (d : ℕ) (ts : List Token) → SpellsStatement s d ts
     → Every (InHole (Statement Span) (SpellsOther of_statement s d 0) ts) (statement_children s)
 statement-inside (evaluate e) d ts h =
     (holds e [] [] d ts [] ts [] (whole-part ts) refl refl h (λ y new ends sp room. let z = sp room in (tt, alone (SpellsExpression y d) new z.1)), tt)

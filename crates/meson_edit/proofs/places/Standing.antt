@@ -1,5 +1,5 @@
 -- Where the nodes of a spanned tree stand among the items of its text.
-use Rattle.meson_edit.proofs.Words.{◌≡◌, ℕ, ◌+◌, Bool, true, false, List, [], ◌∷◌, ◌++◌, length, Some, refl, sym, ap, ap₂, subst, ◌∙◌, append_assoc, arith}
+use Rattle.meson_edit.proofs.Words.{◌≡◌, ℕ, Bool, true, false, List, [], ◌∷◌, ◌++◌, length, Some, refl, sym, ap, ap₂, subst, ◌∙◌, append_assoc, arith}
 use Rattle.meson_edit.proofs.Words.{append-nil, Lexeme, joined, Token, words, spots, end_after, closing_at, located, Word, State, start, step, after, emitted}
 use Rattle.meson_edit.proofs.Words.{closing, Span, words-append, words-spots, expression_words, argument_words, statement_words, opens, closes, Sort}
 use Rattle.meson_edit.proofs.Words.{of_expression, of_statement, of_block, Node, ElementAt, element_at, words_ahead, list_span, inner_words, Hole, reach}

@@ -1,5 +1,5 @@
 -- The items of pieces before and after.
-use Rattle.std.specs.Prelude.{◌+◌, List, [], ◌∷◌, ◌++◌}
+use Rattle.std.specs.Prelude.{List, [], ◌∷◌, ◌++◌}
 use Rattle.meson_lex.specs.Items.{Lexeme}
 use Rattle.meson_layout.specs.Pieces.{Piece, Change, Keep}
 

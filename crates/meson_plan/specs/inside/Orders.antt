@@ -18,17 +18,18 @@ use Rattle.meson_plan.specs.declared.order.Order.{Order}
 use Rattle.meson_plan.specs.declared.order.Order.TheVariants as order
 use Rattle.meson_plan.specs.declared.order.Plan.{Plan}
 use Rattle.meson_plan.specs.declared.order.Plan.TheVariants as plan
+use Rattle.meson_calls.specs.Searching.{name_at}
 
 -- the role and the name or variable of the call that is searched for
 abbrev pub sought : Plan → Role × List ℕ
-sought (plan.OnTarget target change names) = (role.Target, target.now)
+sought (plan.OnTarget target change names) = (role.Target, target.id.now)
 sought (plan.AddTarget new) = (role.Target, new.name.now)
-sought (plan.RemoveTarget target) = (role.Target, target.now)
+sought (plan.RemoveTarget target) = (role.Target, target.id.now)
 
 abbrev pub plan_steps : Project Span → Plan → Meaning
-plan_steps p (plan.OnTarget target change names) = target_steps p target.now change names.now
+plan_steps p (plan.OnTarget target change names) = target_steps p (name_at target) change names.now
 plan_steps p (plan.AddTarget new) = new_target p new
-plan_steps p (plan.RemoveTarget target) = named_removed p target.now
+plan_steps p (plan.RemoveTarget target) = named_removed p (name_at target)
 
 -- an order of a command: its steps are those that the command means, or it is the change of a value that the command is
 abbrev pub IsOrder : Command → Order → Type 0

@@ -7,6 +7,7 @@ use Rattle.meson_variables.specs.declared.variables.Variables.{Variables}
 use Rattle.meson_sources.specs.declared.targeting.TargetChange.{TargetChange}
 use Rattle.meson_calls.specs.GoodLists.{GoodListing}
 use Rattle.meson_calls.specs.OnePlace.{the_place}
+use Rattle.meson_calls.specs.Searching.{names_of}
 use Rattle.meson_edit.proofs.lists.CodeElements.{list_elements}
 use Rattle.meson_calls.proofs.CallsAt.{listing_good}
 use Rattle.meson_calls.proofs.NotedCalls.{call_in, call_within, one_at, one_is, the_one, trees_as_many}
@@ -24,6 +25,7 @@ use Rattle.meson_sources.proofs.added.Homes.{sources_may_be_added, extras_may_be
 use Rattle.meson_sources.proofs.gone.Trees.{sources_may_be_removed, extras_may_be_removed}
 use Rattle.meson_sources.proofs.met.Standing.{TargetThere, targets_stand}
 use Rattle.meson_sources.proofs.met.Targets.{FilesStand, files_stand}
+use Rattle.meson_calls.specs.declared.call.CallName.{CallName}
 
 -- ==== The call of the target that a command names, and its arguments in the code.
 
@@ -35,7 +37,7 @@ some_tree : (trees : List Parsed) (i : ℕ) → i < length trees → Parsed
 some_tree [] i within = absurd (omega (arith, within))
 some_tree (t ∷ trees) i within = t
 
-module _ (n : Noted) (id : List ℕ) (is : IsNotedFor role.Target id n) (place : CallRef) (found : the_place role.Target id (note_views n.notes.now) ≡ Ok place) where
+module _ (n : Noted) (id : CallName) (is : IsNotedFor role.Target id.id n) (place : CallRef) (found : the_place role.Target id (names_of n.files.now) (note_views n.notes.now) ≡ Ok place) where
   abbrev files : List File
   files = n.files.now
 
@@ -103,7 +105,7 @@ module _ (old : Loaded) (whole : IsProject old) where
   changed ExtraRemoved c there files names utf8 steps is = extras_may_be_removed old whole.parsed c there files.extras names utf8 steps is
 
   -- the steps on a target
-  target_means : (target : List ℕ) (change : TargetChange) (names : List (List ℕ)) → All IsUtf8 names → (list : List ListStep) → AreMeant (target_steps p target change names) list → ArePlanned old (target_steps p target change names) list
+  target_means : (target : CallName) (change : TargetChange) (names : List (List ℕ)) → All IsUtf8 names → (list : List ListStep) → AreMeant (target_steps p target change names) list → ArePlanned old (target_steps p target change names) list
   target_means target change names utf8 list meant =
       let c = then_was (the_call p role.Target target) (change_steps p change names) meant.steps meant.is in
       let there = targets_stand p target c.0 c.1 in
@@ -114,7 +116,7 @@ module _ (old : Loaded) (whole : IsProject old) where
       }
 
   module _ {V : Type 0} (list : V → List ListStep) where
-    pub all_mean : (target : List ℕ) (change : TargetChange) (names : List (List ℕ)) (r : Result V Refusal) → IfOk r (λ v. All IsUtf8 names)
+    pub all_mean : (target : CallName) (change : TargetChange) (names : List (List ℕ)) (r : Result V Refusal) → IfOk r (λ v. All IsUtf8 names)
         → IfOk r (λ v. AreMeant (target_steps p target change names) (list v)) → IfOk r (λ v. ArePlanned old (target_steps p target change names) (list v))
     all_mean target change names (Ok v) utf8 meant = target_means target change names utf8 (list v) meant
     all_mean target change names (Err e) utf8 meant = tt

@@ -26,6 +26,7 @@ use Rattle.meson_sources.proofs.told.Variables.{files_no_matter, target_no_files
 use Rattle.meson_sources.proofs.trees.Calls.{CallIn, CallNode, bare_arguments, bare_form, called, stands_bare}
 use Rattle.meson_sources.proofs.trees.Elements.{Node, element_any, string_child}
 use Rattle.meson_sources.proofs.trees.Scenes.{NodeIn, SameTells}
+use Rattle.meson_calls.specs.declared.call.CallName.{CallName}
 
 -- where a place is after the elements at these spots have gone
 abbrev pub moved_place : List Spot → CallRef → CallRef
@@ -174,7 +175,7 @@ module _ (old : Loaded) (stand : All MayStandBetween (plain_trees old)) (c : Cal
         }
 
     -- the id of the call names it still, and it alone
-    pub named_left : (id : List ℕ) → the_call (project old) role.Target id ≡ Ok (called t) → Names (project new) id (place_left gone c) (called t).it
+    pub named_left : (id : CallName) → the_call (project old) role.Target id ≡ Ok (called t) → Names (project new) id (place_left gone c) (called t).it
     named_left id found_call =
         let k = call_left in
         let name = k.node.name in
@@ -182,4 +183,4 @@ module _ (old : Loaded) (stand : All MayStandBetween (plain_trees old)) (c : Cal
         let owns : tell_call (call_of node) ≡ tell_call (Some (called t).it) =
         call_tells name.text tt k.node.trailing k.ys ∙ ap (λ f. call_by f (first_plain k.ys)) k.same_name ∙ own_left gone c 0 t.name.text bare_xs k.ys first k.each ∙ by_bare t.name.text t.arguments
         ∙ sym (call_tells t.name.text t.brackets t.trailing t.arguments) in
-        named_again old new names_stay id (called t) found_call (place_left gone c) node k.node.node owns set_left
+        named_again old new same_names names_stay id (called t) found_call (place_left gone c) refl node k.node.node owns set_left

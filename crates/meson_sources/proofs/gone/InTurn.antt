@@ -21,6 +21,7 @@ use Rattle.meson_sources.proofs.met.Marks.{contents_spots}
 use Rattle.meson_sources.proofs.met.Standing.{StringIn, AllStand}
 use Rattle.meson_sources.proofs.met.Targets.{files_stand}
 use Rattle.meson_sources.proofs.trees.Calls.{CallIn, called, target_at}
+use Rattle.meson_calls.specs.declared.call.CallName.{CallName}
 
 -- ---- one name before others
 
@@ -61,7 +62,7 @@ abbrev pub FilesThere : FileKind → Loaded → Placed (Call Span) → Type 0
 FilesThere what l c = AllStand (project l) (what.marks (project l) c)
 
 module _ (what : FileKind) (holds : MetHolds what) (lost : MetLost what) where
-  module _ (old mid : Loaded) (is : IsProject old) (is_mid : IsProject mid) (same_names : file_names mid ≡ file_names old) (id : List ℕ) (d : Placed (Call Span)) (found_mid : the_call (project mid) role.Target id ≡ Ok d)
+  module _ (old mid : Loaded) (is : IsProject old) (is_mid : IsProject mid) (same_names : file_names mid ≡ file_names old) (id : CallName) (d : Placed (Call Span)) (found_mid : the_call (project mid) role.Target id ≡ Ok d)
       (there_mid : FilesThere what mid d) (name : List ℕ) (more : List (List ℕ)) (other : one_of more name ≡ false) (first all : List Step) (done : all_stepped first (plain_trees old) ≡ Some (plain_trees mid)) where
     abbrev InTurn : Placed (Call Span) → Type 0
     InTurn c =

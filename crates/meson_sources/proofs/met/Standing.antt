@@ -11,6 +11,7 @@ use Rattle.meson_sources.proofs.Words.{plain_trees, Step, element_erased, plain_
 use Rattle.meson_sources.proofs.Words.{sources_added, sources_removed, Spot}
 use Rattle.meson_sources.proofs.gone.Spots.{Pairwise, AreApart}
 use Rattle.meson_sources.proofs.trees.Elements.{IsElementAt, IsStringElement, AreLevel, value_stands}
+use Rattle.meson_calls.specs.declared.call.CallName.{CallName}
 
 -- ==== Where what a target holds stands in the trees of its project, and that the steps of commands on it may be done.
 
@@ -54,7 +55,7 @@ SpotStands p s = StringThere p s.list s.number
 -- ---- what stands
 
 abbrev pub TargetsStand : Type 0
-TargetsStand = (p : Project Span) (id : List ℕ) (c : Placed (Call Span)) → the_call p role.Target id ≡ Ok c → TargetThere p c
+TargetsStand = (p : Project Span) (id : CallName) (c : Placed (Call Span)) → the_call p role.Target id ≡ Ok c → TargetThere p c
 
 -- what stands in the list of a place is its child
 abbrev pub SlotFits : Slot → CallRef → Type 0

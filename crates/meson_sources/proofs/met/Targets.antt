@@ -18,6 +18,7 @@ use Rattle.meson_sources.proofs.met.Standing.{ElementAt, StandsAs, elements_stan
 use Rattle.meson_sources.proofs.told.Variables.{target_no_files}
 use Rattle.meson_sources.proofs.trees.Calls.{CallIn, called, target_at}
 use Rattle.meson_sources.proofs.trees.Elements.{AreLevel, parsed_level, value_stands}
+use Rattle.meson_calls.specs.declared.call.CallName.{CallName}
 
 -- ---- the arguments of a call, by their numbers
 
@@ -183,7 +184,7 @@ pub record FilesStand (p : Project Span) (c : Placed (Call Span)) : Type 0 where
   pub sources : AllStand p (source_marks p c)
   pub extras : AllStand p (extra_marks p c)
 
-pub files_stand : (old : Loaded) → AreParsed old.files old.parsed → (id : List ℕ) (c : Placed (Call Span)) → the_call (project old) role.Target id ≡ Ok c → FilesStand (project old) c
+pub files_stand : (old : Loaded) → AreParsed old.files old.parsed → (id : CallName) (c : Placed (Call Span)) → the_call (project old) role.Target id ≡ Ok c → FilesStand (project old) c
 files_stand old are id c found =
     let p = project old in
     let t = target_at p id c found in

@@ -7,7 +7,13 @@ use Rattle.meson_calls.specs.Parts as part
 use Rattle.meson_calls.specs.Naming.{or_else, part_set_to, set_to, value_of_assignment, with_name}
 use Rattle.meson_calls.proofs.CallsReached.{InProject, every_chosen, every_part}
 use Rattle.meson_calls.proofs.PartsContained.{all_has}
-use Rattle.meson_sources.proofs.Words.{cons_option, Contains, bytes_eq, if◌then◌else◌, Ok, option_map, slice_index_or, ◌⊎◌, [], ap, arith, Bool, false, inl}
+use Rattle.meson_calls.specs.declared.call.CallName.{CallName}
+use Rattle.meson_calls.specs.Finding.{call_within}
+use Rattle.meson_calls.specs.Searching.{project_names, searched_file, within}
+use Rattle.std.specs.Prelude.{◌==◌}
+use Rattle.meson_calls.proofs.Searched.{every_within}
+use Rattle.meson_calls.proofs.SearchedFiles.{found_in_file}
+use Rattle.meson_sources.proofs.Words.{Err, Refusal, Result, eq-eqb, then_ok, cons_option, Contains, bytes_eq, if◌then◌else◌, Ok, option_map, slice_index_or, ◌⊎◌, [], ap, arith, Bool, false, inl}
 use Rattle.meson_sources.proofs.Words.{inr, length, List, map, None, Option, refl, Some, subst, suc, sym, true, zero, ℕ, ◌+◌, ◌<◌, ◌∙◌, ◌∷◌, ◌≡◌, Span}
 use Rattle.meson_sources.proofs.Words.{block_of, assign, Expression, Name, Statement, some-injective, Every, all_chosen, Call, call_of, first_literal, is}
 use Rattle.meson_sources.proofs.Words.{part_call, only_one, the_call, Part, parts, BuildFile, child, nth_file, place, Placed, placed, Project, has_role}
@@ -223,10 +229,10 @@ module _ (p : Project Span) (id : List ℕ) where
   every_child [] all = tt
   every_child (x ∷ xs) all = (record { at = x.place; is_place = refl; set = all.0 }, every_child xs all.1)
 
-  sets_are : Every (λ (k : Placed (Call Span)). SetThere k.place) (by_variable id (parts p))
-  sets_are =
-      let values = all_chosen (part_set_to id) (parts p) in
-      let are : Every (λ (x : Placed (Expression Span)). SetAt p id x.place) values = every_chosen (InProject 0 p) (λ x. SetAt p id x.place) (part_set_to id) (λ q e i chosen. set_at q e i chosen) (parts p) (every_part 0 p) in
+  sets_are : (qs : Parts) → Every (InProject 0 p) qs → Every (λ (k : Placed (Call Span)). SetThere k.place) (by_variable id qs)
+  sets_are qs all =
+      let values = all_chosen (part_set_to id) qs in
+      let are : Every (λ (x : Placed (Expression Span)). SetAt p id x.place) values = every_chosen (InProject 0 p) (λ x. SetAt p id x.place) (part_set_to id) (λ q e i chosen. set_at q e i chosen) qs all in
       every_chosen (λ k. SetThere k.place) (λ k. SetThere k.place) (with_role role.Target) (λ q k there chosen. there) (all_chosen call_of (map value_of_assignment values))
       (every_chosen (λ x. SetThere x.place) (λ k. SetThere k.place) call_of (λ q k there chosen. there) (map value_of_assignment values) (every_child values are))
 
@@ -249,54 +255,107 @@ call_told (Some k) f literal tells = go (has_role role.Target k) refl tells
         record { it = k; is_it = refl; is_one = yea; function = let s : k.function ≡ f = cc in s; first = let s : first_literal k ≡ literal = cc in s }
     go false nay same = absurd cc
 
--- The id names one call, at the place, with the function of this one and its first argument if that is a literal.
-pub record Names (p : Project Span) (id : List ℕ) (d : CallRef) (call : Call Span) : Type 0 where
+-- The id names one call in the files that are searched, at the place, with the function of this one and its first argument if that is a literal.
+pub record NamesWithin (w : Option ℕ) (p : Project Span) (id : List ℕ) (d : CallRef) (call : Call Span) : Type 0 where
   pub it : Call Span
-  pub is_call : the_call p role.Target id ≡ Ok (placed d it)
+  pub is_call : call_within w p role.Target id ≡ Ok (placed d it)
   pub function : it.function ≡ call.function
   pub first : first_literal it ≡ first_literal call
 
-module _ (p q : Project Span) (tells : told (parts q) ≡ told (parts p)) (id : List ℕ) (c : Placed (Call Span)) (found : the_call p role.Target id ≡ Ok c) (is_one : has_role role.Target c.it ≡ true)
-    (d : CallRef) (value : Expression Span) (file : BuildFile Span) (is_file : nth_file q d.file ≡ Some file)
+-- whether a place is in the file that is searched
+abbrev IsSearched : Option ℕ → CallRef → Type 0
+IsSearched None at = Unit {0}
+IsSearched (Some n) at = at.file ≡ n
+
+kept_in : {X : Type 0} (w : Option ℕ) (x : Placed X) (xs : List (Placed X)) → IsSearched w x.place → In x xs → In x (within w xs)
+kept_in None x xs is there = there
+kept_in (Some n) x [] is there = absurd there
+kept_in {X} (Some n) x (y ∷ ys) is (inl same) =
+    let kept : (y.place.file == n) ≡ true = ap (λ (z : Placed X). z.place.file == n) same ∙ eq-eqb x.place.file n is in
+    subst (In x) (sym (ap (λ b. if b then y ∷ within (Some n) ys else within (Some n) ys) kept)) (inl same)
+kept_in {X} (Some n) x (y ∷ ys) is (inr there) = go (y.place.file == n) (kept_in (Some n) x ys is there)
+  where
+    go : (b : Bool) → In x (within (Some n) ys) → In x (if b then y ∷ within (Some n) ys else within (Some n) ys)
+    go true later = inr later
+    go false later = later
+
+found_searched : (w : Option ℕ) (p : Project Span) (id : List ℕ) (c : Placed (Call Span)) (d : CallRef) → d.file ≡ c.place.file → call_within w p role.Target id ≡ Ok c → IsSearched w d
+found_searched None p id c d stays found = tt
+found_searched (Some n) p id c d stays found = stays ∙ found_in_file n p role.Target id c found
+
+module _ (w : Option ℕ) (p q : Project Span) (tells : told (within w (parts q)) ≡ told (within w (parts p))) (id : List ℕ) (c : Placed (Call Span)) (found : call_within w p role.Target id ≡ Ok c)
+    (is_one : has_role role.Target c.it ≡ true) (d : CallRef) (stays : d.file ≡ c.place.file) (value : Expression Span) (file : BuildFile Span) (is_file : nth_file q d.file ≡ Some file)
     (is_node : tree_nodes.node_at (syntax.a_block (block_of file.tree)) d.path.steps ≡ Some (syntax.an_expression value)) (own_is : tell_call (call_of value) ≡ tell_call (Some c.it))
     (sets : (at : CallRef) → c.place ≡ child at 0 → SetAt p id at → (b : CallRef) × (d ≡ child b 0) × SetAt q id b) where
-  pub again : Names q id d c.it
+  -- the parts that are searched
+  abbrev ps : Parts
+  ps = within w (parts p)
+
+  abbrev qs : Parts
+  qs = within w (parts q)
+
+  pub again : NamesWithin w q id d c.it
   again =
       let k = call_told (call_of value) c.it.function (first_literal c.it) (own_is ∙ ap (λ b. if b then Some (a_target c.it.function (first_literal c.it)) else None) is_one) in
       let with_its_role : with_role role.Target k.it ≡ Some k.it = ap (λ b. if b then Some k.it else None) k.is_one in
-      let part_there : In (placed d (part.an_expression value)) (parts q) = in_parts d (part.an_expression value) file is_file is_node in
+      let part_there = in_parts d (part.an_expression value) (found_searched w p id c d stays found) file is_file is_node in
       record {
         it = k.it;
-        is_call = one_again c (placed d k.it) (by_name id (parts p)) (by_variable id (parts p)) (by_name id (parts q)) (by_variable id (parts q)) found
-            (name_count id (parts q) ∙ ap (named_in id) tells ∙ sym (name_count id (parts p))) (set_count id (parts q) ∙ ap (set_in id) tells ∙ sym (set_count id (parts p)))
+        is_call = one_again c (placed d k.it) (by_name id ps) (by_variable id ps) (by_name id qs) (by_variable id qs) found
+            (name_count id qs ∙ ap (named_in id) tells ∙ sym (name_count id ps)) (set_count id qs ∙ ap (set_in id) tells ∙ sym (set_count id ps))
             (λ there.
-            let named = every_in (HasName p id) c (by_name id (parts p)) (names_are p id (all_chosen (with_role role.Target) (all_chosen part_call (parts p)))) there in
+            let named = every_in (HasName p id) c (by_name id ps) (names_are p id (all_chosen (with_role role.Target) (all_chosen part_call ps))) there in
             let with_its_name : with_name id k.it ≡ Some k.it = ap (λ b. if b then Some k.it else None) (ap (is id) k.first ∙ named) in
-            in_chosen (with_name id) d k.it k.it with_its_name _ (in_chosen (with_role role.Target) d k.it k.it with_its_role _ (in_chosen part_call d (part.an_expression value) k.it k.is_it (parts q) part_there)))
-            (λ there. by_set k.it k.is_it with_its_role (every_in (λ (x : Placed (Call Span)). SetThere p id x.place) c (by_variable id (parts p)) (sets_are p id) there));
+            in_chosen (with_name id) d k.it k.it with_its_name _ (in_chosen (with_role role.Target) d k.it k.it with_its_role _ (in_chosen part_call d (part.an_expression value) k.it k.is_it qs part_there)))
+            (λ there. by_set k.it k.is_it with_its_role (every_in (λ (x : Placed (Call Span)). SetThere p id x.place) c (by_variable id ps) (sets_are p id ps (every_within (InProject 0 p) w (parts p) (every_part 0 p))) there));
         function = k.function;
         first = k.first;
       }
     where
-      in_parts : (at : CallRef) (y : Part Span) (g : BuildFile Span) → nth_file q at.file ≡ Some g → tree_nodes.node_at (syntax.a_block (block_of g.tree)) at.path.steps ≡ Some (any y) → In (placed at y) (parts q)
-      in_parts at y g is_g node =
+      in_parts : (at : CallRef) (y : Part Span) → IsSearched w at → (g : BuildFile Span) → nth_file q at.file ≡ Some g
+          → tree_nodes.node_at (syntax.a_block (block_of g.tree)) at.path.steps ≡ Some (any y) → In (placed at y) qs
+      in_parts at y is g is_g node =
           let z : 0 + at.file ≡ at.file = omega arith in
-          contained (parts q) (placed at y) (subst (λ m. Contains (parts q) (placed (place m at.path.steps) y)) z (all_has 0 at.file q g at.path.steps y is_g node))
+          kept_in w (placed at y) (parts q) is (contained (parts q) (placed at y) (subst (λ m. Contains (parts q) (placed (place m at.path.steps) y)) z (all_has 0 at.file q g at.path.steps y is_g node)))
 
-      by_set : (k : Call Span) → call_of value ≡ Some k → with_role role.Target k ≡ Some k → SetThere p id c.place → In (placed d k) (by_variable id (parts q))
+      by_set : (k : Call Span) → call_of value ≡ Some k → with_role role.Target k ≡ Some k → SetThere p id c.place → In (placed d k) (by_variable id qs)
       by_set k is_k with_its_role there =
-          let w = sets there.at there.is_place there.set in
-          let set = w.2 in
-          let statement = in_parts w.0 (part.a_statement (assign set.s set.name assignment.Set set.value)) set.file set.is_file set.is_node in
+          let v = sets there.at there.is_place there.set in
+          let set = v.2 in
+          let outer : v.0.file ≡ c.place.file = ap (λ (x : CallRef). x.file) (sym v.1) ∙ stays in
+          let statement = in_parts v.0 (part.a_statement (assign set.s set.name assignment.Set set.value)) (found_searched w p id c v.0 outer found) set.file set.is_file set.is_node in
           let chosen : part_set_to id (part.a_statement (assign set.s set.name assignment.Set set.value)) ≡ Some set.value = ap (λ b. if b then Some set.value else None) set.is_name in
-          let at_value : In (placed (child w.0 0) set.value) (map value_of_assignment (all_chosen (part_set_to id) (parts q))) =
-          in_map value_of_assignment (placed w.0 set.value) (all_chosen (part_set_to id) (parts q)) (in_chosen (part_set_to id) w.0 (part.a_statement (assign set.s set.name assignment.Set set.value)) set.value chosen (parts q) statement) in
-          let same_file : set.file ≡ file = some-injective _ _ (sym set.is_file ∙ ap (nth_file q) (sym (ap (λ (x : CallRef). x.file) w.1)) ∙ is_file) in
+          let at_value : In (placed (child v.0 0) set.value) (map value_of_assignment (all_chosen (part_set_to id) qs)) =
+          in_map value_of_assignment (placed v.0 set.value) (all_chosen (part_set_to id) qs) (in_chosen (part_set_to id) v.0 (part.a_statement (assign set.s set.name assignment.Set set.value)) set.value chosen qs statement) in
+          let same_file : set.file ≡ file = some-injective _ _ (sym set.is_file ∙ ap (nth_file q) (sym (ap (λ (x : CallRef). x.file) v.1)) ∙ is_file) in
           let nodes : syntax.an_expression set.value ≡ syntax.an_expression value =
-          some-injective _ _ (sym (node_between w.0.path.steps (0 ∷ []) (syntax.a_block (block_of set.file.tree)) _ set.is_node)
-          ∙ ap (λ (g : BuildFile Span). tree_nodes.node_at (syntax.a_block (block_of g.tree)) (child w.0 0).path.steps) same_file
-          ∙ ap (tree_nodes.node_at (syntax.a_block (block_of file.tree))) (sym (ap (λ (x : CallRef). x.path.steps) w.1)) ∙ is_node) in
+          some-injective _ _ (sym (node_between v.0.path.steps (0 ∷ []) (syntax.a_block (block_of set.file.tree)) _ set.is_node)
+          ∙ ap (λ (g : BuildFile Span). tree_nodes.node_at (syntax.a_block (block_of g.tree)) (child v.0 0).path.steps) same_file
+          ∙ ap (tree_nodes.node_at (syntax.a_block (block_of file.tree))) (sym (ap (λ (x : CallRef). x.path.steps) v.1)) ∙ is_node) in
           let same_value : set.value ≡ value = cc in
           in_chosen (with_role role.Target) d k k with_its_role _
-          (in_chosen call_of d value k is_k _ (subst (λ (x : CallRef). In (placed x value) (map value_of_assignment (all_chosen (part_set_to id) (parts q)))) (sym w.1)
-          (subst (λ (e : Expression Span). In (placed (child w.0 0) e) (map value_of_assignment (all_chosen (part_set_to id) (parts q)))) same_value at_value)))
+          (in_chosen call_of d value k is_k _ (subst (λ (x : CallRef). In (placed x value) (map value_of_assignment (all_chosen (part_set_to id) qs))) (sym v.1)
+          (subst (λ (e : Expression Span). In (placed (child v.0 0) e) (map value_of_assignment (all_chosen (part_set_to id) qs))) same_value at_value)))
+
+-- The name names one call, at the place, with the function of this one and its first argument if that is a literal.
+pub record Names (p : Project Span) (name : CallName) (d : CallRef) (call : Call Span) : Type 0 where
+  pub it : Call Span
+  pub is_call : the_call p role.Target name ≡ Ok (placed d it)
+  pub function : it.function ≡ call.function
+  pub first : first_literal it ≡ first_literal call
+
+-- the same where the names of the files are those that they were
+pub same_names_found : (p q : Project Span) → project_names q ≡ project_names p → (name : CallName) (c : Placed (Call Span)) (d : CallRef) → the_call p role.Target name ≡ Ok c
+    → ((w : Option ℕ) → call_within w p role.Target name.id ≡ Ok c → NamesWithin w q name.id d c.it) → Names q name d c.it
+same_names_found p q same name c d found again_within = go (searched_file (project_names p) name.folder) refl found
+  where
+    go : (o : Result (Option ℕ) Refusal) → searched_file (project_names p) name.folder ≡ o → then_ok o (λ w. call_within w p role.Target name.id) ≡ Ok c → Names q name d c.it
+    go (Ok w) is k =
+        let n = again_within w k in
+        record {
+          it = n.it;
+          is_call = ap (λ names. then_ok (searched_file names name.folder) (λ v. call_within v q role.Target name.id)) same ∙ ap (λ o. then_ok o (λ v. call_within v q role.Target name.id)) is ∙ n.is_call;
+          function = n.function;
+          first = n.first;
+        }
+    go (Err e) is k = absurd cc

@@ -4,11 +4,14 @@ use Rattle.meson_calls.specs.declared.call.Role.TheVariants as role
 use Rattle.meson_sources.proofs.Words.{bytes_eq, if◌then◌else◌, nat_eq, Ok, option_map, ◌⊎◌, [], ap, ap₂, Bool, false, inl, inr, List, map, None, Option, refl}
 use Rattle.meson_sources.proofs.Words.{Some, subst, suc, sym, true, ℕ, ◌++◌, ◌+◌, ◌∙◌, ◌∷◌, ◌≡◌, eq-eqb, eqb-true, filter_map-append, File, Span, a_block}
 use Rattle.meson_sources.proofs.Words.{a_statement, an_expression, Any, block_of, nth, array, assign, erase, erase_expression, erase_name, Expression, file}
-use Rattle.meson_sources.proofs.Words.{Name, Nowhere, Plain, view, Assignment, Parsed, node_at, some-injective, map-some, Call, call_of, first_literal}
+use Rattle.meson_sources.proofs.Words.{zero, nth_file, Name, Nowhere, Plain, view, Assignment, Parsed, node_at, some-injective, map-some, Call, call_of, first_literal}
 use Rattle.meson_sources.proofs.Words.{the_call, Loaded, named_trees, project, views, parts, parts_from, parts_of_file, child, Placed, placed, has_role}
 use Rattle.meson_sources.proofs.Words.{is_target_call, CallRef, role_found, erase_any, plain_trees, tree_there, FilesGrow, Reading}
 use Rattle.meson_sources.proofs.met.Files.{FilesGrown}
-use Rattle.meson_sources.proofs.told.FoundAgain.{Names, SetAt, again}
+use Rattle.meson_calls.specs.declared.call.CallName.{CallName}
+use Rattle.meson_calls.specs.Searching.{project_names, within}
+use Rattle.meson_calls.proofs.SearchedFiles.{parts_in, parts_searched}
+use Rattle.meson_sources.proofs.told.FoundAgain.{Names, SetAt, again, same_names_found}
 use Rattle.meson_sources.proofs.told.Staying.{Alike, alike_along}
 use Rattle.meson_sources.proofs.told.Targets.{Naming, expression_erased, in_any, in_file, parts_file, tell, tell_call, told, SameNames, a_target, a_variable}
 use Rattle.meson_sources.proofs.told.Targets.{own, names_itself}
@@ -40,6 +43,39 @@ same_files [] [] same = refl
 same_files [] (u ∷ us) same = absurd (same 0)
 same_files (t ∷ ts) [] same = absurd (same 0)
 same_files (t ∷ ts) (u ∷ us) same = ap₂ (λ l m. l ++ m) (root_tells u ∙ same 0 ∙ sym (root_tells t)) (same_files ts us (λ i. same (suc i)))
+
+-- ---- one file
+
+abbrev told_of : Option Plain → List Naming
+told_of None = []
+told_of (Some t) = in_any (root t)
+
+nth_tells : (n i : ℕ) (files : List File) (parsed : List Parsed) → told (parts_in n (nth_file (named_trees files (views files parsed)) i)) ≡ told_of (nth (map erase (views files parsed)) i)
+nth_tells n i [] parsed = refl
+nth_tells n i (f ∷ files) [] = refl
+nth_tells n zero (f ∷ files) (t ∷ parsed) = parts_file n (view f.bytes t) ∙ root_tells (erase (view f.bytes t))
+nth_tells n (suc i) (f ∷ files) (t ∷ parsed) = nth_tells n i files parsed
+
+same_told : (o m : Option Plain) → SameNames o m → told_of m ≡ told_of o
+same_told None None same = refl
+same_told (Some t) (Some u) same = same
+same_told None (Some u) same = absurd same
+same_told (Some t) None same = absurd same
+
+-- ---- the names of the files
+
+same_named : (fs : List File) (ps : List Parsed) (gs : List File) (qs : List Parsed) → names_of gs ≡ names_of fs → ((i : ℕ) → SameNames (nth (map erase (views fs ps)) i) (nth (map erase (views gs qs)) i))
+    → project_names (named_trees gs (views gs qs)) ≡ project_names (named_trees fs (views fs ps))
+same_named [] ps [] qs names same = refl
+same_named [] ps (g ∷ gs) qs names same = absurd cc
+same_named (f ∷ fs) ps [] qs names same = absurd cc
+same_named (f ∷ fs) [] (g ∷ gs) [] names same = refl
+same_named (f ∷ fs) [] (g ∷ gs) (q ∷ qs) names same = absurd (same 0)
+same_named (f ∷ fs) (p ∷ ps) (g ∷ gs) [] names same = absurd (same 0)
+same_named (f ∷ fs) (p ∷ ps) (g ∷ gs) (q ∷ qs) names same =
+    let head : g.name ≡ f.name = cc in
+    let tails : names_of gs ≡ names_of fs = cc in
+    ap₂ (λ x l. x ∷ l) head (same_named fs ps gs qs tails (λ i. same (suc i)))
 
 -- ---- assignments with and without spans
 
@@ -101,32 +137,39 @@ pub record SetStays (trees : List Plain) (d : CallRef) (text : List ℕ) : Type 
   pub node : NodeIn trees at (a_statement (assign r name assignment.Set value))
   pub same : name.text ≡ text
 
-module _ (old new : Loaded) (same : (i : ℕ) → SameNames (nth (plain_trees old) i) (nth (plain_trees new) i)) (id : List ℕ) (c : Placed (Call Span)) (found : the_call (project old) role.Target id ≡ Ok c)
-    (d : CallRef) (e : Expression Nowhere) (node : NodeIn (plain_trees new) d (an_expression e)) (owns : tell_call (call_of e) ≡ tell_call (Some c.it))
+module _ (old new : Loaded) (names : names_of new.files ≡ names_of old.files) (same : (i : ℕ) → SameNames (nth (plain_trees old) i) (nth (plain_trees new) i)) (name : CallName) (c : Placed (Call Span))
+    (found : the_call (project old) role.Target name ≡ Ok c) (d : CallRef) (stays : d.file ≡ c.place.file) (e : Expression Nowhere) (node : NodeIn (plain_trees new) d (an_expression e)) (owns : tell_call (call_of e) ≡ tell_call (Some c.it))
     (sets : (at : CallRef) (x : Name Nowhere) (v : Expression Nowhere) → c.place ≡ child at 0 → NodeIn (plain_trees old) at (a_statement (assign tt x assignment.Set v)) → SetStays (plain_trees new) d x.text) where
-  tells : told (parts (project new)) ≡ told (parts (project old))
-  tells = files_tell 0 new.files new.parsed ∙ same_files (plain_trees old) (plain_trees new) same ∙ sym (files_tell 0 old.files old.parsed)
+  tells : (w : Option ℕ) → told (within w (parts (project new))) ≡ told (within w (parts (project old)))
+  tells None = files_tell 0 new.files new.parsed ∙ same_files (plain_trees old) (plain_trees new) same ∙ sym (files_tell 0 old.files old.parsed)
+  tells (Some n) =
+      ap told (parts_searched n (project new)) ∙ nth_tells n n new.files new.parsed ∙ same_told (nth (plain_trees old) n) (nth (plain_trees new) n) (same n)
+      ∙ sym (ap told (parts_searched n (project old)) ∙ nth_tells n n old.files old.parsed)
 
-  set_again : (at : CallRef) → c.place ≡ child at 0 → SetAt (project old) id at → (b : CallRef) × (d ≡ child b 0) × SetAt (project new) id b
+  abbrev sought : List ℕ
+  sought = name.id
+
+  set_again : (at : CallRef) → c.place ≡ child at 0 → SetAt (project old) sought at → (b : CallRef) × (d ≡ child b 0) × SetAt (project new) sought b
   set_again at is_place s =
-      let w = sets at (erase_name s.name) (erase_expression s.value) is_place (set_bare old id at s) in
-      (w.at, w.is_place, set_with_spans new id w.at w.r w.name w.value (ap (λ t. bytes_eq t id) w.same ∙ s.is_name) w.node)
+      let w = sets at (erase_name s.name) (erase_expression s.value) is_place (set_bare old sought at s) in
+      (w.at, w.is_place, set_with_spans new sought w.at w.r w.name w.value (ap (λ t. bytes_eq t sought) w.same ∙ s.is_name) w.node)
 
-  pub named_again : Names (project new) id d c.it
+  pub named_again : Names (project new) name d c.it
   named_again =
-      let role_at = role_found (project old) role.Target id c found in
+      let role_at = role_found (project old) role.Target name c found in
       let tree_at = span_tree new.files new.parsed d.file node.tree node.is_tree in
       let spanned = node_with_spans tree_at.0.tree d.path.steps e (ap (λ u. node_at (root u) d.path.steps) tree_at.2 ∙ node.is_node) in
-      again (project old) (project new) tells id c found role_at.is_one d spanned.0 tree_at.0 tree_at.1 (expression_node Span tree_at.0.tree d.path.steps spanned.0 spanned.1)
-      (sym (expression_erased spanned.0) ∙ ap (λ z. tell_call (call_of z)) spanned.2 ∙ owns) set_again
+      same_names_found (project old) (project new) (same_named old.files old.parsed new.files new.parsed names same) name c d found
+      (λ w within_it. again w (project old) (project new) (tells w) sought c within_it role_at.is_one d stays spanned.0 tree_at.0 tree_at.1 (expression_node Span tree_at.0.tree d.path.steps spanned.0 spanned.1)
+      (sym (expression_erased spanned.0) ∙ ap (λ z. tell_call (call_of z)) spanned.2 ∙ owns) set_again)
 
--- ==== Where one node of a project has become another one of which the same is told, the id of a target names its call at the old place.
+-- ==== Where one node of a project has become another one of which the same is told, the sought of a target names its call at the old place.
 
--- each id of the call names it, where it was
+-- each sought of the call names it, where it was
 abbrev pub KeepsNames : Loaded → Loaded → Placed (Call Span) → Type 0
-KeepsNames old new c = (id : List ℕ) → the_call (project old) role.Target id ≡ Ok c → Names (project new) id c.place c.it
+KeepsNames old new c = (name : CallName) → the_call (project old) role.Target name ≡ Ok c → Names (project new) name c.place c.it
 
-pub files_grow : (read : Reading) (texts : List (List ℕ)) (old new : Loaded) (c : Placed (Call Span)) (id : List ℕ) → FilesGrown read texts c.place (project old) (project new) → Names (project new) id c.place c.it → FilesGrow read texts id c (project old) (project new)
+pub files_grow : (read : Reading) (texts : List (List ℕ)) (old new : Loaded) (c : Placed (Call Span)) (id : CallName) → FilesGrown read texts c.place (project old) (project new) → Names (project new) id c.place c.it → FilesGrow read texts id c (project old) (project new)
 files_grow read texts old new c id g n = record {
   named = record { call = placed c.place n.it; is_call = n.is_call; function = n.function; first = n.first };
   stays = refl;
@@ -170,8 +213,8 @@ module _ (old new : Loaded) (names : names_of new.files ≡ names_of old.files) 
           subst (λ o. SameNames (nth ts i) o) (sym (others i (λ same. let both : true ≡ false = sym (eq-eqb h.file i same) ∙ is in cc))) (names_itself (nth ts i))
 
   -- what stood under the node
-  within : (p : CallRef) (m : ℕ) (rest : List ℕ) → p ≡ below h (m ∷ rest) → (y : Any Nowhere) → NodeIn ts p y → node_at (an_expression older) (m ∷ rest) ≡ Some y
-  within p m rest is y n =
+  stood_within : (p : CallRef) (m : ℕ) (rest : List ℕ) → p ≡ below h (m ∷ rest) → (y : Any Nowhere) → NodeIn ts p y → node_at (an_expression older) (m ∷ rest) ≡ Some y
+  stood_within p m rest is y n =
       let same_tree : n.tree ≡ tree = some-injective _ _ (sym n.is_tree ∙ ap (λ (q : CallRef). nth ts q.file) is ∙ was) in
       sym (node_between h.path.steps (m ∷ rest) (a_block (block_of tree)) (an_expression older) (became_old (an_expression older) (an_expression newer) h.path.steps (a_block (block_of tree)) (a_block (block_of now)) becomes))
       ∙ ap (node_at (a_block (block_of tree))) (sym (ap (λ (q : CallRef). q.path.steps) is)) ∙ ap (λ t. node_at (a_block (block_of t)) p.path.steps) (sym same_tree) ∙ n.is_node
@@ -212,11 +255,11 @@ module _ (old new : Loaded) (names : names_of new.files ≡ names_of old.files) 
         r = tt;
         name = x;
         value = v;
-        node = node_away old new names h tree now was is_now others older newer becomes at not (λ m rest is. no_statement (m ∷ rest) older _ (within at m rest is (a_statement (assign tt x assignment.Set v)) n)) (a_statement (assign tt x assignment.Set v)) n;
+        node = node_away old new names h tree now was is_now others older newer becomes at not (λ m rest is. no_statement (m ∷ rest) older _ (stood_within at m rest is (a_statement (assign tt x assignment.Set v)) n)) (a_statement (assign tt x assignment.Set v)) n;
         same = refl;
       }
 
-  module _ (id : List ℕ) (c : Placed (Call Span)) (found : the_call (project old) role.Target id ≡ Ok c)
+  module _ (id : CallName) (c : Placed (Call Span)) (found : the_call (project old) role.Target id ≡ Ok c)
       (stays_below : (m : ℕ) (rest : List ℕ) (y : Any Nowhere) → c.place ≡ below h (m ∷ rest) → node_at (an_expression older) (m ∷ rest) ≡ Some y → node_at (an_expression newer) (m ∷ rest) ≡ Some y) where
     pub named_stays : Names (project new) id c.place c.it
     named_stays =
@@ -230,11 +273,11 @@ module _ (old new : Loaded) (names : names_of new.files ≡ names_of old.files) 
             stands z same there =
                 let tells : own z ≡ tell_call (Some c.it) = same ∙ owns in
                 let w = an_expression_tells z c.it.function (first_literal c.it) (tells ∙ ap (λ b. if b then Some (a_target c.it.function (first_literal c.it)) else None) is_one) in
-                named_again old new same_names id c found c.place w.0 (subst (NodeIn us c.place) w.1 there) (sym (ap own w.1) ∙ tells) (set_stays c.place)
+                named_again old new names same_names id c found c.place refl w.0 (subst (NodeIn us c.place) w.1 there) (sym (ap own w.1) ∙ tells) (set_stays c.place)
 
             below_it : (rest : List ℕ) → c.place ≡ below h rest → ((rest : List ℕ) → h ≡ below c.place rest → ⊥) → Names (project new) id c.place c.it
             below_it [] is not = absurd (not [] (sym (below_itself h) ∙ sym is ∙ sym (below_itself c.place)))
-            below_it (m ∷ rest) is not = stands (an_expression e) refl (still_within c.place m rest is (an_expression e) (stays_below m rest (an_expression e) is (within c.place m rest is (an_expression e) n)))
+            below_it (m ∷ rest) is not = stands (an_expression e) refl (still_within c.place m rest is (an_expression e) (stays_below m rest (an_expression e) is (stood_within c.place m rest is (an_expression e) n)))
 
             aside : ((rest : List ℕ) × (c.place ≡ below h rest)) ⊎ ((rest : List ℕ) → c.place ≡ below h rest → ⊥) → ((rest : List ℕ) → h ≡ below c.place rest → ⊥) → Names (project new) id c.place c.it
             aside (inl w) not = below_it w.0 w.1 not
@@ -248,9 +291,9 @@ module _ (old new : Loaded) (names : names_of new.files ≡ names_of old.files) 
             go (inr not) = aside (under h c.place) not
 
 -- nothing has changed
-pub same_trees_named : (old new : Loaded) (c : Placed (Call Span)) → plain_trees new ≡ plain_trees old → KeepsNames old new c
-same_trees_named old new c same id found =
+pub same_trees_named : (old new : Loaded) → names_of new.files ≡ names_of old.files → (c : Placed (Call Span)) → plain_trees new ≡ plain_trees old → KeepsNames old new c
+same_trees_named old new names c same id found =
     let role_at = role_found (project old) role.Target id c found in
-    named_again old new (λ i. subst (λ ts. SameNames (nth (plain_trees old) i) (nth ts i)) (sym same) (names_itself (nth (plain_trees old) i))) id c found c.place (erase_expression role_at.at.value)
+    named_again old new names (λ i. subst (λ ts. SameNames (nth (plain_trees old) i) (nth ts i)) (sym same) (names_itself (nth (plain_trees old) i))) id c found c.place refl (erase_expression role_at.at.value)
     (subst (λ ts. NodeIn ts c.place (an_expression (erase_expression role_at.at.value))) (sym same) (bare_in old c.place role_at.at.value role_at.at.is_at)) (expression_erased role_at.at.value ∙ ap tell_call role_at.at.is_call)
     (λ at x v is_place n. record { at = at; is_place = is_place; r = tt; name = x; value = v; node = subst (λ ts. NodeIn ts at (a_statement (assign tt x assignment.Set v))) (sym same) n; same = refl })

@@ -8,6 +8,7 @@ use Rattle.meson_sources.proofs.Words.{placed, Project, has_role, one_of, target
 use Rattle.meson_sources.proofs.gone.Spots.{both_true}
 use Rattle.meson_sources.proofs.trees.Places.{node_with_spans}
 use Rattle.meson_sources.proofs.trees.Scenes.{NodeIn, bare_in}
+use Rattle.meson_calls.specs.declared.call.CallName.{CallName}
 
 pub record CallIn (p : Project Span) (c : CallRef) : Type 0 where
   pub span : Span
@@ -71,7 +72,7 @@ pub record TargetAt (p : Project Span) (c : Placed (Call Span)) : Type 0 where
   pub is_target : one_of target_functions it.name.text ≡ true
   pub has_first : is_some (first_argument (called it).it) ≡ true
 
-pub target_at : (p : Project Span) (id : List ℕ) (c : Placed (Call Span)) → the_call p role.Target id ≡ Ok c → TargetAt p c
+pub target_at : (p : Project Span) (id : CallName) (c : Placed (Call Span)) → the_call p role.Target id ≡ Ok c → TargetAt p c
 target_at p id c found = let r = role_found p role.Target id c found in go r.at.value r.at.is_at r.at.is_call r.is_one
   where
     go : (e : Expression Span) → expression_at p c.place ≡ Some e → call_of e ≡ Some c.it → has_role role.Target c.it ≡ true → TargetAt p c

@@ -12,3 +12,4 @@ edits_list (code.Replace n new) = true
 edits_list (code.Wrap n) = true
 edits_list (code.RemoveStatement n) = false
 edits_list (code.Append new) = false
+edits_list (code.Assign new) = false

@@ -17,7 +17,7 @@ use Rattle.meson_syntax.specs.Paths.{ListAt, ListIn, list_at, list_span, nth, va
 use Rattle.meson_edit.specs.Standing.{argument_span, expression_span}
 use Rattle.meson_syntax.specs.View.{view}
 use Rattle.meson_edit.specs.Edits.{elements}
-use Rattle.meson_edit.specs.Places.{bracket_offset, element_span, value_span, span_of_statement}
+use Rattle.meson_edit.specs.Places.{bracket_offset, element_span, value_span, span_of_statement, assigned_span}
 use Rattle.meson_steps.specs.declared.journal.Saved.{Saved}
 use Rattle.meson_steps.specs.declared.spans.ListSpot.{ListSpot}
 use Rattle.meson_steps.specs.declared.step.ListStep.{ListStep}
@@ -32,7 +32,7 @@ use Rattle.meson_steps.specs.ResultLimits.{saturated}
 use Rattle.meson_steps.specs.Steps.{Step, bytes_again}
 use Rattle.meson_steps.specs.Working.{Standing, HasReached}
 
--- an edit of the list or the block at a path as it is laid out
+-- an edit of the list, the block or the assignment at a path as it is laid out
 abbrev pub placed_edit : tree.File Span → List ℕ → ListEdit → Option Primitive
 placed_edit f path (code.First new) = option_map (λ at. layout.First at new) (bracket_offset f path)
 placed_edit f path (code.After n new) = option_map (λ s. layout.After s new) (element_span f path n)
@@ -41,6 +41,7 @@ placed_edit f path (code.Replace n new) = option_map (λ s. layout.Replace s new
 placed_edit f path (code.Wrap n) = option_map layout.Wrap (value_span f path n)
 placed_edit f path (code.RemoveStatement n) = option_map layout.RemoveStatement (span_of_statement f path n)
 placed_edit f path (code.Append new) = Some (layout.Append new)
+placed_edit f path (code.Assign new) = option_map (λ s. layout.Replace s new) (assigned_span f path)
 
 -- an edit of a list as it is laid out
 abbrev pub placed_in : tree.Listing Span → ListEdit → Option Primitive
@@ -51,6 +52,7 @@ placed_in l (code.Replace n new) = option_map (λ s. layout.Replace s new) (opti
 placed_in l (code.Wrap n) = option_map layout.Wrap (option_map expression_span (option_and_then value_of (nth (elements l) n)))
 placed_in l (code.RemoveStatement n) = None
 placed_in l (code.Append new) = None
+placed_in l (code.Assign new) = None
 
 -- the list that alone is read, if an edit is one of a list
 abbrev pub looked_at : tree.File Span → List ℕ → Bool → Option Span

@@ -1,6 +1,7 @@
 use Rattle.meson_edit.proofs.statements.Removed.{removals-spell}
 use Rattle.meson_edit.proofs.statements.Appended.{appended-spell}
+use Rattle.meson_edit.proofs.statements.Assigned.{assignments-spell}
 use Rattle.meson_edit.proofs.laws.statements.Goals as goal
 
 pub returns : goal.returns
-returns c = record { removals = removals-spell; appended = appended-spell }
+returns c = record { removals = removals-spell; appended = appended-spell; assigned = assignments-spell }

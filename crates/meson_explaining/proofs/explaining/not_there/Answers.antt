@@ -7,13 +7,13 @@ use Rattle.meson_explaining.proofs.explaining.not_there.Goals as goal
 pub returns-in_ok-items-in-SourcesRemove : goal.returns-in_ok-items-in-SourcesRemove
 returns-in_ok-items-in-SourcesRemove c =
     let l = c.args.project.now in
-    let items = c.get-in-SourcesRemove.ensures ∙ c.in_ok-items-in-SourcesRemove.ensures ∙ ap (sources_at l) c.get.ensures in
+    let items = c.get.ensures ∙ c.in_ok-items-in-SourcesRemove.ensures ∙ ap (sources_at l) c.as_name.ensures in
     IfOk-weaker c.with_info.result _ _
-    (λ e is. is ∙ ap₂ (λ xs names. with_info (source_notes xs names)) items c.get-in-SourcesRemove-2.ensures ∙ sym (ap (not_there l) c.in-SourcesRemove.is)) c.with_info.ensures
+    (λ e is. is ∙ ap₂ (λ xs names. with_info (source_notes xs names)) items c.get-in-SourcesRemove.ensures ∙ sym (ap (not_there l) c.in-SourcesRemove.is)) c.with_info.ensures
 
 pub returns-in_ok-items-in-ExtraRemove : goal.returns-in_ok-items-in-ExtraRemove
 returns-in_ok-items-in-ExtraRemove c =
     let l = c.args.project.now in
-    let items = c.get-in-ExtraRemove-2.ensures ∙ c.in_ok-items-in-ExtraRemove.ensures ∙ ap (extras_at l) c.get-in-ExtraRemove.ensures in
+    let items = c.get-in-ExtraRemove.ensures ∙ c.in_ok-items-in-ExtraRemove.ensures ∙ ap (extras_at l) c.as_name-in-ExtraRemove.ensures in
     IfOk-weaker c.with_info-in-ExtraRemove.result _ _
-    (λ e is. is ∙ ap₂ (λ xs names. with_info (source_notes xs names)) items c.get-in-ExtraRemove-3.ensures ∙ sym (ap (not_there l) c.in-ExtraRemove.is)) c.with_info-in-ExtraRemove.ensures
+    (λ e is. is ∙ ap₂ (λ xs names. with_info (source_notes xs names)) items c.get-in-ExtraRemove-2.ensures ∙ sym (ap (not_there l) c.in-ExtraRemove.is)) c.with_info-in-ExtraRemove.ensures

@@ -9,20 +9,20 @@ pub returns-in_ok-items-in-SourcesRemove : goal.returns-in_ok-items-in-SourcesRe
 returns-in_ok-items-in-SourcesRemove c =
     let l = c.args.project.now in
     let target = c.in-SourcesRemove.target in
-    let items = c.get-in-SourcesRemove-2.ensures ∙ c.in_ok-items-in-SourcesRemove.ensures ∙ ap (sources_at l) c.get.ensures in
+    let items = c.get.ensures ∙ c.in_ok-items-in-SourcesRemove.ensures ∙ ap (sources_at l) c.as_name.ensures in
     IfOk-weaker c.not_known.result _ _
     (λ e is. is
-    ∙ ap (λ t. not_known l t (codes "sources") c.get-in-SourcesRemove-2.result.now c.get-in-SourcesRemove-3.result.now) c.get-in-SourcesRemove.ensures
-    ∙ ap₂ (not_known l target (codes "sources")) items c.get-in-SourcesRemove-3.ensures
+    ∙ ap (λ t. not_known l t (codes "sources") c.get.result.now c.get-in-SourcesRemove.result.now) c.as_name-in-SourcesRemove.ensures
+    ∙ ap₂ (not_known l target (codes "sources")) items c.get-in-SourcesRemove.ensures
     ∙ sym (ap (unresolved l) c.in-SourcesRemove.is)) c.not_known.ensures
 
 pub returns-in_ok-items-in-ExtraRemove : goal.returns-in_ok-items-in-ExtraRemove
 returns-in_ok-items-in-ExtraRemove c =
     let l = c.args.project.now in
     let target = c.in-ExtraRemove.target in
-    let items = c.get-in-ExtraRemove-3.ensures ∙ c.in_ok-items-in-ExtraRemove.ensures ∙ ap (extras_at l) c.get-in-ExtraRemove.ensures in
+    let items = c.get-in-ExtraRemove.ensures ∙ c.in_ok-items-in-ExtraRemove.ensures ∙ ap (extras_at l) c.as_name-in-ExtraRemove.ensures in
     IfOk-weaker c.not_known-in-ExtraRemove.result _ _
     (λ e is. is
-    ∙ ap (λ t. not_known l t (codes "extra_files") c.get-in-ExtraRemove-3.result.now c.get-in-ExtraRemove-4.result.now) c.get-in-ExtraRemove-2.ensures
-    ∙ ap₂ (not_known l target (codes "extra_files")) items c.get-in-ExtraRemove-4.ensures
+    ∙ ap (λ t. not_known l t (codes "extra_files") c.get-in-ExtraRemove.result.now c.get-in-ExtraRemove-2.result.now) c.as_name-in-ExtraRemove-2.ensures
+    ∙ ap₂ (not_known l target (codes "extra_files")) items c.get-in-ExtraRemove-2.ensures
     ∙ sym (ap (unresolved l) c.in-ExtraRemove.is)) c.not_known-in-ExtraRemove.ensures

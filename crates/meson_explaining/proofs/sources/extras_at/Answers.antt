@@ -1,5 +1,6 @@
 use Rattle.meson_plan.proofs.PlacesFound.{target_found}
 use Rattle.meson_explaining.proofs.sources.extras_at.Goals as goal
+use Rattle.meson_calls.specs.Searching.{name_at}
 
 pub extras_of-requires : goal.extras_of-requires
-extras_of-requires c = target_found c.args.project.now c.args.id.now c.in-Ok.target c.in-Ok.ensures.found
+extras_of-requires c = target_found c.args.project.now (name_at c.args.name) c.in-Ok.target c.in-Ok.ensures.found

@@ -12,11 +12,12 @@ use Rattle.meson_variables.specs.CodeVariables.{project_of}
 use Rattle.meson_explaining.specs.Unknown.{argument_unknown}
 use Rattle.meson_explaining.proofs.UnknownArguments.{unknown_found}
 use Rattle.meson_explaining.proofs.unknown.unknown_arguments.Goals as goal
+use Rattle.meson_calls.specs.Searching.{name_at}
 
 pub call_at-called-requires-clause-there : goal.call_at-called-requires-clause-there
 call_at-called-requires-clause-there c =
     subst₂ (λ fs ts. IsTrue (is_call (named_trees fs (views fs ts)) c.in-Ok.place)) (sym c.files-in-Ok.ensures) (sym c.trees-in-Ok.ensures)
-    (call_found c.args.project.now role.Target c.args.target.now c.in-Ok.place c.in-Ok.ensures.found)
+    (call_found c.args.project.now role.Target (name_at c.args.target) c.in-Ok.place c.in-Ok.ensures.found)
 
 pub returns-in-Ok : goal.returns-in-Ok
 returns-in-Ok c =
@@ -32,4 +33,4 @@ returns-in-Ok c =
     let notes = c.in_ok-notes-in-Ok.ensures
     ∙ ap₂ (λ p xs. filter_map (argument_unknown p place.file key) (args_view source xs)) same c.after_first-args.ensures in
     c.truncate.ensures.items ∙ ap (take 3) notes
-    ∙ unknown_found l c.args.target.now key place called c.get.result.now c.in-Ok.ensures.found at c.get.ensures
+    ∙ unknown_found l (name_at c.args.target) key place called c.get.result.now c.in-Ok.ensures.found at c.get.ensures

@@ -22,3 +22,11 @@ returns-clause-summing c = (refl, refl, refl)
 pub returns-clause-folders : goal.returns-clause-folders
 unfolding encode_utf8 chars is_utf8
 returns-clause-folders c = (refl, refl, refl)
+
+pub returns-clause-once : goal.returns-clause-once
+unfolding encode_utf8 chars is_utf8
+returns-clause-once c = (refl, refl)
+
+pub returns-clause-beginning : goal.returns-clause-beginning
+unfolding encode_utf8 chars is_utf8
+returns-clause-beginning c = (refl, refl, refl)

@@ -8,9 +8,10 @@ use Rattle.meson_plan.proofs.PlacesFound.{call_found}
 use Rattle.meson_inventory.specs.Info.{call_span, keyword_place, not_found, placed_kwargs_data, places_data, places_of_call, twice, with_members, with_position}
 use Rattle.meson_inventory.proofs.CallSpans.{call_read}
 use Rattle.meson_inventory.proofs.info.placed_info_kwargs.Goals as goal
+use Rattle.meson_calls.specs.Searching.{name_at}
 
 pub head-requires : goal.head-requires
-head-requires c = call_found c.args.project.now c.args.role c.args.id.now c.in_ok-place.place c.in_ok-place.ensures.found
+head-requires c = call_found c.args.project.now c.args.role (name_at c.args.name) c.in_ok-place.place c.in_ok-place.ensures.found
 
 pub returns-in_err-place-clause-refused : goal.returns-in_err-place-clause-refused
 returns-in_err-place-clause-refused c =

@@ -18,3 +18,9 @@ unfolding kwargs_entry
 returns-in_err-members-clause-refused c =
     let p = err_from_is_err_and c.from_residual-in_err-members.result c.from_residual-in_err-members.ensures.1 in
     rw (p.1, p.2) (λ n. let refused = c.in_err-members.ensures.refused n in search rules)
+
+pub returns-in_err-folder-clause-refused : goal.returns-in_err-folder-clause-refused
+unfolding kwargs_entry
+returns-in_err-folder-clause-refused c =
+    let p = err_from_is_err_and c.from_residual-in_err-folder.result c.from_residual-in_err-folder.ensures.1 in
+    rw (p.1, p.2) (λ n. let refused = c.in_err-folder.ensures.refused n in search rules)

@@ -11,11 +11,11 @@ use Rattle.meson_json.proofs.laws.script_rows.Goals as goal
 
 pub returns-clause-targets : goal.returns-clause-targets
 unfolding serde_json_on_literals digits each_of each_member names_of_members target_members target_entry kwargs_command kwargs_entry options_command options_entry entry_of entry_by entries_of script_of
-returns-clause-targets c = (refl, refl, refl, refl, refl, refl, refl, refl)
+returns-clause-targets c = (refl, refl, refl, refl, refl, refl, refl, refl, refl, refl, refl)
 
 pub returns-clause-arguments : goal.returns-clause-arguments
 unfolding serde_json_on_literals digits each_of each_member names_of_members target_members target_entry kwargs_command kwargs_entry options_command options_entry entry_of entry_by entries_of script_of
-returns-clause-arguments c = (refl, refl, refl, refl, refl, refl, refl, refl)
+returns-clause-arguments c = (refl, refl, refl, refl, refl, refl, refl, refl, refl)
 
 pub returns-clause-values : goal.returns-clause-values
 unfolding serde_json_on_literals digits each_of each_member names_of_members count_of value_name argument_entry entry_of entry_by entries_of script_of
@@ -47,4 +47,4 @@ returns-clause-faults c = (
 
 pub returns-clause-known : goal.returns-clause-known
 unfolding serde_json_on_literals digits each_of each_member names_of_members target_members target_entry kwargs_command kwargs_entry options_command options_entry entry_of entry_by entries_of script_of
-returns-clause-known c = (refl, refl, refl, refl, refl, refl, refl, refl, refl, refl, refl)
+returns-clause-known c = (refl, refl, refl, refl, refl, refl, refl, refl, refl, refl, refl, refl)

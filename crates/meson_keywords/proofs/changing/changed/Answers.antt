@@ -1,8 +1,10 @@
 -- What a request means is done on its call, task by task, or it is refused as is meant.
 use Rattle.meson_keywords.proofs.Words.{◌<◌, ◌≡◌, length, sym, ap, ◌∙◌, subst, arith, OnOk, err_from_is_err_and, bytes_at, value_with_name, IsProject}
-use Rattle.meson_keywords.proofs.Words.{named_trees, project, views, not_hidden, kept_args, kwargs_key, IfRefused, as_many, place_is, IsDone, MayNotBeDone}
+use Rattle.meson_keywords.proofs.Words.{project, not_hidden, kept_args, kwargs_key, IfRefused, as_many, IsDone, MayNotBeDone}
 use Rattle.meson_keywords.proofs.Words.{unmeant, plain_trees, so_far, CallStands, request_steps, tasks_steps, asked}
 use Rattle.meson_calls.proofs.CallLists.{inside}
+use Rattle.meson_calls.proofs.NotedCalls.{place_of_name}
+use Rattle.meson_calls.specs.Searching.{name_at}
 use Rattle.meson_keywords.proofs.Requests.{none_named, in_trees, stands, no_words, hides, task_by_task, parsed_as, of_trees}
 use Rattle.meson_keywords.proofs.changing.changed.Goals as goal
 
@@ -16,10 +18,10 @@ returns-in_err-call-clause-refused c =
     let files = c.args.work.now.files in
     let trees = c.as_slice-trees.result.now in
     let r = c.args.request.role in
-    let id = c.args.request.id.now in
+    let id = name_at c.args.request.name in
     let words = asked c.args.request.words in
     let e = c.in_err-call.field-0.0 in
-    let why = sym (place_is r id (named_trees files (views files trees))) ∙ c.in_err-call.ensures.refused other in
+    let why = sym (place_of_name r id files trees (parsed_as files c.as_slice-trees.ensures.value c.requires.project)) ∙ c.in_err-call.ensures.refused other in
     of_trees (λ l. MayNotBeDone l (request_steps (project l) (r, id, words)) e) files c.as_slice-trees.ensures.value (unmeant e (none_named files trees r id words e why)))
 
 pub returns-in_err-tasks-clause-refused : goal.returns-in_err-tasks-clause-refused
@@ -29,10 +31,10 @@ returns-in_err-tasks-clause-refused c =
     let files = c.args.work.now.files in
     let trees = c.as_slice-trees.result.now in
     let r = c.args.request.role in
-    let id = c.args.request.id.now in
+    let id = name_at c.args.request.name in
     let words = asked c.args.request.words in
     let e = c.in_err-tasks.field-0.0 in
-    let found = sym (place_is r id (named_trees files (views files trees))) ∙ c.in_ok-call.ensures.found in
+    let found = sym (place_of_name r id files trees (parsed_as files c.as_slice-trees.ensures.value c.requires.project)) ∙ c.in_ok-call.ensures.found in
     of_trees (λ l. MayNotBeDone l (request_steps (project l) (r, id, words)) e) files c.as_slice-trees.ensures.value
     (unmeant e (no_words files trees r id words c.in_ok-call.call found e (c.in_err-tasks.ensures.refused other))))
 
@@ -41,8 +43,8 @@ list_of_call-requires c =
     let files = c.args.work.now.files in
     let trees = c.as_slice-trees.result.now in
     let r = c.args.request.role in
-    let id = c.args.request.id.now in
-    let found = sym (place_is r id (named_trees files (views files trees))) ∙ c.in_ok-call.ensures.found in
+    let id = name_at c.args.request.name in
+    let found = sym (place_of_name r id files trees (parsed_as files c.as_slice-trees.ensures.value c.requires.project)) ∙ c.in_ok-call.ensures.found in
     in_trees files trees r id (asked c.args.request.words) c.in_ok-call.call found (parsed_as files c.as_slice-trees.ensures.value c.requires.project)
 
 pub bytes-requires : goal.bytes-requires
@@ -50,9 +52,9 @@ bytes-requires c =
     let files = c.args.work.now.files in
     let trees = c.as_slice-trees.result.now in
     let r = c.args.request.role in
-    let id = c.args.request.id.now in
+    let id = name_at c.args.request.name in
     let are = parsed_as files c.as_slice-trees.ensures.value c.requires.project in
-    let found = sym (place_is r id (named_trees files (views files trees))) ∙ c.in_ok-call.ensures.found in
+    let found = sym (place_of_name r id files trees (parsed_as files c.as_slice-trees.ensures.value c.requires.project)) ∙ c.in_ok-call.ensures.found in
     let within : c.in_ok-call.call.file < length trees = inside trees c.in_ok-call.call (in_trees files trees r id (asked c.args.request.words) c.in_ok-call.call found are) in
     let many = as_many files trees are in
     omega (arith, within, many)
@@ -64,10 +66,10 @@ returns-in_err-not_hidden-clause-refused c =
     let files = c.args.work.now.files in
     let trees = c.as_slice-trees.result.now in
     let r = c.args.request.role in
-    let id = c.args.request.id.now in
+    let id = name_at c.args.request.name in
     let words = asked c.args.request.words in
     let place = c.in_ok-call.call in
-    let found = sym (place_is r id (named_trees files (views files trees))) ∙ c.in_ok-call.ensures.found in
+    let found = sym (place_of_name r id files trees (parsed_as files c.as_slice-trees.ensures.value c.requires.project)) ∙ c.in_ok-call.ensures.found in
     let t = c.in_ok-tasks.ensures.made in
     let bytes = bytes_at place.file files in
     let list = c.list_of_call.result.now in
@@ -83,9 +85,9 @@ tasks_done-requires-clause-stands c =
     let files = c.args.work.now.files in
     let trees = c.as_slice-trees.result.now in
     let r = c.args.request.role in
-    let id = c.args.request.id.now in
+    let id = name_at c.args.request.name in
     let place = c.in_ok-call.call in
-    let found = sym (place_is r id (named_trees files (views files trees))) ∙ c.in_ok-call.ensures.found in
+    let found = sym (place_of_name r id files trees (parsed_as files c.as_slice-trees.ensures.value c.requires.project)) ∙ c.in_ok-call.ensures.found in
     let is = c.as_slice-trees.ensures.value in
     of_trees (λ l. CallStands place (plain_trees l)) files is (stands files trees r id (asked c.args.request.words) place found (subst (λ ts. IsProject (record { files = files; parsed = ts })) (sym is) c.requires.project))
 
@@ -94,10 +96,10 @@ returns-clause-done c =
     let files = c.args.work.now.files in
     let trees = c.as_slice-trees.result.now in
     let r = c.args.request.role in
-    let id = c.args.request.id.now in
+    let id = name_at c.args.request.name in
     let words = asked c.args.request.words in
     let place = c.in_ok-call.call in
-    let found = sym (place_is r id (named_trees files (views files trees))) ∙ c.in_ok-call.ensures.found in
+    let found = sym (place_of_name r id files trees (parsed_as files c.as_slice-trees.ensures.value c.requires.project)) ∙ c.in_ok-call.ensures.found in
     let t = c.in_ok-tasks.ensures.made in
     let bytes = bytes_at place.file files in
     let list = c.list_of_call.result.now in
@@ -114,10 +116,10 @@ returns-clause-refused c =
     let files = c.args.work.now.files in
     let trees = c.as_slice-trees.result.now in
     let r = c.args.request.role in
-    let id = c.args.request.id.now in
+    let id = name_at c.args.request.name in
     let words = asked c.args.request.words in
     let place = c.in_ok-call.call in
-    let found = sym (place_is r id (named_trees files (views files trees))) ∙ c.in_ok-call.ensures.found in
+    let found = sym (place_of_name r id files trees (parsed_as files c.as_slice-trees.ensures.value c.requires.project)) ∙ c.in_ok-call.ensures.found in
     let t = c.in_ok-tasks.ensures.made in
     let bytes = bytes_at place.file files in
     let list = c.list_of_call.result.now in

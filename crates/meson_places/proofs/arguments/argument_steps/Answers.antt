@@ -4,10 +4,11 @@ use Rattle.std.specs.Str.{IsUtf8}
 use Rattle.std.proofs.lemmas.Result.{IfOk-weaker}
 use Rattle.meson_splice.specs.Patch.{then_ok}
 use Rattle.meson_calls.specs.Loading.{project}
-use Rattle.meson_places.specs.Arguments.{argument_steps, last_key, named_steps, slot_steps}
+use Rattle.meson_places.specs.Arguments.{argument_steps, changed_steps, last_key, named_steps}
 use Rattle.meson_places.specs.Names.{loaded_in}
 use Rattle.meson_places.specs.Slots.{the_slot}
 use Rattle.meson_places.proofs.ArgumentsDoable.{argument_steps_are_doable}
+use Rattle.meson_places.proofs.Refused.{refused_as}
 use Rattle.meson_places.proofs.arguments.argument_steps.Goals as goal
 
 pub returns-clause-plan : goal.returns-clause-plan
@@ -17,15 +18,29 @@ returns-clause-plan c = λ may.
     let ch = c.args.change.now in
     let s = c.in_ok-slot.slot in
     let found = ap (the_slot (project l) c.in_ok-place.place) (sym c.get-keys.ensures) ∙ c.in_ok-slot.ensures.found in
-    let same : argument_steps l n ch may ≡ slot_steps l c.in_ok-key.key ch may s =
-    ap (λ r. then_ok r (λ p. then_ok (the_slot (project l) p n.keys) (λ t. named_steps l (last_key n.keys) ch may t))) c.in_ok-place.ensures.found
-    ∙ ap (λ r. then_ok r (λ t. named_steps l (last_key n.keys) ch may t)) found
-    ∙ ap (λ k. named_steps l k ch may s) (ap last_key (sym c.get-keys.ensures) ∙ sym c.in_ok-key.ensures.last)
-    ∙ ap (λ r. then_ok r (λ _. slot_steps l c.in_ok-key.key ch may s)) c.in_ok-checked_name.ensures.checked in
+    let same : argument_steps l n ch may ≡ changed_steps l n c.in_ok-key.key ch may s =
+    ap (λ r. then_ok r (λ p. then_ok (the_slot (project l) p n.keys) (λ t. named_steps l n (last_key n.keys) ch may t))) c.in_ok-place.ensures.found
+    ∙ ap (λ r. then_ok r (λ t. named_steps l n (last_key n.keys) ch may t)) found
+    ∙ ap (λ k. named_steps l n k ch may s) (ap last_key (sym c.get-keys.ensures) ∙ sym c.in_ok-key.ensures.last)
+    ∙ ap (λ r. then_ok r (λ _. changed_steps l n c.in_ok-key.key ch may s)) c.in_ok-checked_name.ensures.checked in
     let texts : All IsUtf8 n.keys = subst (All IsUtf8) c.get-keys.ensures c.in_ok-key.ensures.texts in
-    IfOk-weaker c.slot_steps.result _ _
+    IfOk-weaker c.changed_steps.result _ _
     (λ code m. record {
       steps = m.steps;
       are_planned = same ∙ m.is;
       are_doable = record { bare = m.bare; doable = argument_steps_are_doable l c.requires n texts ch may m.steps (same ∙ m.is) };
-    }) (c.slot_steps.ensures.meant may)
+    }) (c.changed_steps.ensures.meant may)
+
+pub returns-clause-refused : goal.returns-clause-refused
+returns-clause-refused c = λ may.
+    let l = loaded_in c.args.sources in
+    let n = c.args.name.now in
+    let ch = c.args.change.now in
+    let s = c.in_ok-slot.slot in
+    let found = ap (the_slot (project l) c.in_ok-place.place) (sym c.get-keys.ensures) ∙ c.in_ok-slot.ensures.found in
+    let same : argument_steps l n ch may ≡ changed_steps l n c.in_ok-key.key ch may s =
+    ap (λ r. then_ok r (λ p. then_ok (the_slot (project l) p n.keys) (λ t. named_steps l n (last_key n.keys) ch may t))) c.in_ok-place.ensures.found
+    ∙ ap (λ r. then_ok r (λ t. named_steps l n (last_key n.keys) ch may t)) found
+    ∙ ap (λ k. named_steps l n k ch may s) (ap last_key (sym c.get-keys.ensures) ∙ sym c.in_ok-key.ensures.last)
+    ∙ ap (λ r. then_ok r (λ _. changed_steps l n c.in_ok-key.key ch may s)) c.in_ok-checked_name.ensures.checked in
+    refused_as c.changed_steps.result (argument_steps l n ch may) (changed_steps l n c.in_ok-key.key ch may s) same (c.changed_steps.ensures.refused may)

@@ -5,7 +5,7 @@ use Rattle.meson_calls.specs.Loading.{project}
 use Rattle.meson_calls.specs.Project.{expression_at}
 use Rattle.meson_steps.specs.Meanings.{AreMeant}
 use Rattle.meson_places.specs.Colons.{ends_in_file}
-use Rattle.meson_places.specs.Changes.{added_to, set_steps, set_there}
+use Rattle.meson_places.specs.Changes.{added_to, set_steps, set_there, set_whole}
 use Rattle.meson_places.specs.Names.{loaded_in}
 use Rattle.meson_places.specs.Values.{written_given}
 use Rattle.meson_places.specs.inside.Wanted.{child_view}
@@ -53,3 +53,16 @@ returns-in_ok-value-in-Absent-clause-refused c = λ w.
     let list = c.in-Absent.list in
     refused_as c.added_to.result (set_steps l c.args.given.now w c.args.key.now c.args.slot.now) (added_to (bytes_at list.file l.files) (ends_in_file l list.file) w c.in-Absent.key list (expression_at (project l) list))
     (ap (set_steps l c.args.given.now w c.args.key.now) c.in-Absent.is) (c.added_to.ensures.refused w)
+
+pub returns-in-Whole-clause-meant : goal.returns-in-Whole-clause-meant
+returns-in-Whole-clause-meant c = λ may.
+    let same = ap (set_steps (loaded_in c.args.sources) c.args.given.now (written_given c.args.given.now may) c.args.key.now) c.in-Whole.is in
+    IfOk-weaker c.set_whole.result _ _ (λ steps m. subst (λ x. AreMeant x steps.items) (sym same) m) (c.set_whole.ensures.meant may)
+
+pub returns-in-Whole-clause-refused : goal.returns-in-Whole-clause-refused
+returns-in-Whole-clause-refused c = λ w.
+    let l = loaded_in c.args.sources in
+    let g = c.args.given.now in
+    let key = c.args.key.now in
+    refused_as c.set_whole.result (set_steps l g w key c.args.slot.now) (set_whole l g w key c.in-Whole.place (expression_at (project l) c.in-Whole.place))
+    (ap (set_steps l g w key) c.in-Whole.is) (c.set_whole.ensures.refused w)

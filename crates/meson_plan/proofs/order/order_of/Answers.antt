@@ -8,5 +8,5 @@ use Rattle.meson_plan.proofs.order.order_of.Goals as goal
 
 pub returns-in-TargetRemove : goal.returns-in-TargetRemove
 returns-in-TargetRemove c = λ l.
-    subst (λ k. Means l k (plan_steps (project l) (plan.RemoveTarget c.get-in-TargetRemove.result)))
-    (sym (c.in-TargetRemove.is ∙ ap command.TargetRemove (sym c.get-in-TargetRemove.ensures))) refl
+    subst (λ k. Means l k (plan_steps (project l) (plan.RemoveTarget c.as_name.result)))
+    (sym (c.in-TargetRemove.is ∙ ap command.TargetRemove (sym c.as_name.ensures))) refl

@@ -1,6 +1,7 @@
 -- What each plan means.
 use Rattle.std.proofs.Common.{ap}
 use Rattle.meson_calls.specs.NotedProjects.{loaded_in, project_in}
+use Rattle.meson_calls.specs.Searching.{name_at}
 use Rattle.meson_plan.specs.inside.Orders.{plan_steps}
 use Rattle.meson_targets.proofs.TargetsDoable.{addition_means, removal_means}
 use Rattle.meson_plan.proofs.planning.steps_of.Goals as goal
@@ -15,5 +16,5 @@ returns-in-AddTarget-clause-plan c =
 pub returns-in-RemoveTarget-clause-plan : goal.returns-in-RemoveTarget-clause-plan
 returns-in-RemoveTarget-clause-plan c =
     let n = c.args.noted.now in
-    removal_means (loaded_in n) c.requires.whole (λ v. v.items) (plan_steps (project_in n) c.args.plan) c.in-RemoveTarget.target.now
+    removal_means (loaded_in n) c.requires.whole (λ v. v.items) (plan_steps (project_in n) c.args.plan) (name_at c.in-RemoveTarget.target)
     (ap (plan_steps (project_in n)) c.in-RemoveTarget.is) c.target_removed.result c.target_removed.ensures.meant

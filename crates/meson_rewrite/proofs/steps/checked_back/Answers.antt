@@ -19,4 +19,7 @@ returns-clause-does c =
 pub returns-clause-refused : goal.returns-clause-refused
 returns-clause-refused c =
     let has : HasSums c.args.session.now c.args.kept.now = has-sums c.args.kept.now c.args.session.now c.files.result.now c.get.result.now c.files.ensures c.get.ensures (sym c.in_ok-same.ensures ∙ c.if-not-same.false) in
-    IfErr-weaker c.back_to.result _ _ (λ why stops. inr (inr (has, stops))) c.back_to.ensures.refused
+    IfErr-weaker c.back_to.result _ _ (λ why may. elim may [
+      | inl wants ↦ inl wants
+      | inr stops ↦ inr (inr (has, stops))
+    ]) c.back_to.ensures.refused

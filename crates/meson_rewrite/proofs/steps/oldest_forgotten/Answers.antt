@@ -1,4 +1,4 @@
-use Rattle.std.proofs.Common.{ap, refl}
+use Rattle.std.proofs.Common.{None, ap, refl, ◌∙◌}
 use Rattle.meson_script.proofs.TextFacts.{forgets-text}
 use Rattle.meson_rewrite.specs.declared.advice.Advice.TheVariants.{Nothing}
 use Rattle.meson_rewrite.specs.declared.stop.Stop.TheVariants.{Splice}
@@ -11,4 +11,4 @@ pub returns-in-Ok-clause-text : goal.returns-in-Ok-clause-text
 returns-in-Ok-clause-text c = forgets-text c.args.count c.args.session.now.history c.forget_oldest.new.self c.in-Ok.ensures.done
 
 pub returns-in-Err-clause-refused : goal.returns-in-Err-clause-refused
-returns-in-Err-clause-refused c = (c.in-Err.ensures.refused.1, ap (λ f. Splice f Nothing) c.in-Err.ensures.refused.0)
+returns-in-Err-clause-refused c = (c.in-Err.ensures.refused.1, c.from.ensures ∙ ap (λ f. Splice f None Nothing) c.in-Err.ensures.refused.0)

@@ -12,15 +12,16 @@ use Rattle.meson_script.proofs.ByTrees.{call_of, target_of}
 use Rattle.meson_script.proofs.OnTexts.{on_texts}
 use Rattle.meson_script.proofs.ReadTexts.{by-tree}
 use Rattle.meson_script.proofs.laws.rows.Goals as goal
+use Rattle.meson_calls.specs.Searching.{anywhere}
 
 abbrev text_of : Result Data Refusal → Result (List ℕ) Refusal
 text_of listing = then_ok listing (λ d. Ok (compact_text d))
 
 abbrev target_text : List ℕ → List File → Project Span → Result (List ℕ) Refusal
-target_text id files p = text_of (target_of files p id)
+target_text id files p = text_of (target_of files p (anywhere id))
 
 abbrev call_text : Role → List ℕ → List File → Project Span → Result (List ℕ) Refusal
-call_text r id files p = text_of (call_of files p r id)
+call_text r id files p = text_of (call_of files p r (anywhere id))
 
 pub returns-clause-target : goal.returns-clause-target
 unfolding on_texts

@@ -7,3 +7,11 @@ returns-in-Some c = λ source of. ap (option_map (layout.RemoveStatement)) (c.in
 
 pub returns-in-RemoveStatement : goal.returns-in-RemoveStatement
 returns-in-RemoveStatement c = λ source of. ap (option_map (layout.RemoveStatement)) (c.in-None.ensures source) ∙ ap (placed_edit (view source c.args.tree.now) c.args.path.now.steps) (sym c.in-RemoveStatement.is)
+
+pub returns-in-Some-assigned_span : goal.returns-in-Some-assigned_span
+returns-in-Some-assigned_span c = λ source of.
+    ap (option_map (λ s. layout.Replace s c.in-Assign.new)) (c.in-Some-assigned_span.ensures source) ∙ ap (placed_edit (view source c.args.tree.now) c.args.path.now.steps) (sym c.in-Assign.is)
+
+pub returns-in-Assign : goal.returns-in-Assign
+returns-in-Assign c = λ source of.
+    ap (option_map (λ s. layout.Replace s c.in-Assign.new)) (c.in-None-assigned_span.ensures source) ∙ ap (placed_edit (view source c.args.tree.now) c.args.path.now.steps) (sym c.in-Assign.is)

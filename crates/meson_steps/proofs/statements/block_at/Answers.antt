@@ -1,33 +1,13 @@
-use Rattle.meson_steps.proofs.Words.{◌∙◌, ◌+◌, ap, sym, drop, get_or, option_and_then, at_drop_more, at_drop_all, Span, a_block, block_view, view, node_at}
-use Rattle.meson_steps.proofs.Words.{block_any, layer_view}
-use Rattle.meson_steps.proofs.BlockNodes.{block_reached, next_below}
+use Rattle.meson_steps.proofs.Words.{◌∙◌, ap, sym, option_and_then, Span, a_block, block_view, view, node_at, block_any}
+use Rattle.meson_steps.proofs.BlockNodes.{block_layer, block_reached}
 use Rattle.meson_steps.proofs.statements.block_at.Goals as goal
 
-pub loop-i-preserved : goal.loop-i-preserved
-loop-i-preserved c = λ source.
-    let steps = c.get-steps.result.now in
-    let left = drop (c.loop-i.i + 1) steps in
-    ap (λ o. option_and_then block_any (option_and_then (λ y. node_at y left) o)) (c.in-Some.ensures source)
-    ∙ sym (next_below (layer_view source c.loop-i.layer) (get_or steps c.loop-i.i 0) left)
-    ∙ sym (at_drop_more (λ p. option_and_then block_any (node_at (layer_view source c.loop-i.layer) p)) steps c.loop-i.i 0 c.loop-i-test.true)
-    ∙ c.loop-i.invariant source
+pub returns-in-Some : goal.returns-in-Some
+returns-in-Some c = λ source.
+    c.block.ensures source ∙ ap (option_and_then block_any) (c.in-Some.ensures source)
+    ∙ sym (block_reached Span (view source c.args.tree.now) c.args.path.now.steps ∙ block_layer (node_at (a_block (block_view source c.args.tree.now.block)) c.args.path.now.steps))
 
 pub returns-in-None : goal.returns-in-None
 returns-in-None c = λ source.
-    let steps = c.get-steps.result.now in
-    let left = drop (c.loop-i.i + 1) steps in
-    ap (λ o. option_and_then block_any (option_and_then (λ y. node_at y left) o)) (c.in-None.ensures source)
-    ∙ sym (next_below (layer_view source c.loop-i.layer) (get_or steps c.loop-i.i 0) left)
-    ∙ sym (at_drop_more (λ p. option_and_then block_any (node_at (layer_view source c.loop-i.layer) p)) steps c.loop-i.i 0 c.loop-i-test.true)
-    ∙ c.loop-i.invariant source
-    ∙ ap (λ p. option_and_then block_any (node_at (a_block (block_view source c.args.tree.now.block)) p)) c.get-steps.ensures
-    ∙ sym (block_reached Span (view source c.args.tree.now) c.args.path.now.steps)
-
-pub returns : goal.returns
-returns c = λ source.
-    let steps = c.get-steps.result.now in
-    c.block.ensures source
-    ∙ sym (at_drop_all (λ p. option_and_then block_any (node_at (layer_view source c.loop-i.layer) p)) steps c.loop-i.i c.loop-i-test.false)
-    ∙ c.loop-i.invariant source
-    ∙ ap (λ p. option_and_then block_any (node_at (a_block (block_view source c.args.tree.now.block)) p)) c.get-steps.ensures
-    ∙ sym (block_reached Span (view source c.args.tree.now) c.args.path.now.steps)
+    ap (option_and_then block_any) (c.in-None.ensures source)
+    ∙ sym (block_reached Span (view source c.args.tree.now) c.args.path.now.steps ∙ block_layer (node_at (a_block (block_view source c.args.tree.now.block)) c.args.path.now.steps))

@@ -13,10 +13,10 @@ returns-in-KwargsSet c =
     let role = c.in-KwargsSet.role in
     IfOk-weaker c.warn_of_set.result _ _
     (λ notes is. is
-    ∙ ap₂ (λ id ps. flat_map (λ p. lost_value l role id p.0) ps ++ unset_names l role id ps) c.get.ensures c.get-in-KwargsSet.ensures
+    ∙ ap₂ (λ n ps. flat_map (λ p. lost_value l role n p.0) ps ++ unset_names l role n.id ps) c.as_name.ensures c.get.ensures
     ∙ sym (ap (warnings l) c.in-KwargsSet.is)) c.warn_of_set.ensures
 
 pub returns-in-TargetRemove : goal.returns-in-TargetRemove
 returns-in-TargetRemove c =
     let l = c.args.project.now in
-    IfOk-weaker c.left_variables.result _ _ (λ notes is. is ∙ ap (left_variables l) c.get-in-TargetRemove.ensures ∙ sym (ap (warnings l) c.in-TargetRemove.is)) c.left_variables.ensures
+    IfOk-weaker c.left_variables.result _ _ (λ notes is. is ∙ ap (left_variables l) c.as_name-in-TargetRemove.ensures ∙ sym (ap (warnings l) c.in-TargetRemove.is)) c.left_variables.ensures

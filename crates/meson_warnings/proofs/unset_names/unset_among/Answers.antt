@@ -11,7 +11,7 @@ pub returns : goal.returns
 returns c =
     let l = c.args.project.now in
     let role = c.args.subject.role in
-    let id = c.args.subject.id.now in
+    let id = c.args.subject.name.id.now in
     let xs = c.args.names.now in
     let some : map (λ x. x.now) c.as_slice.result.now ≡ take 100 (distinct xs) =
     ap (map (λ x. x.now)) (c.as_slice.ensures.value ∙ c.truncate.ensures.items) ∙ sym (take-map (λ x. x.now) 100 c.in_ok-names.names.items) ∙ ap (take 100) c.in_ok-names.ensures in

@@ -7,19 +7,20 @@ use Rattle.meson_plan.proofs.Agreeing.{calls_listed, targets_listed, values_list
 use Rattle.meson_plan.proofs.Answered.{call-refused, target-refused, target-told, value-refused}
 use Rattle.meson_plan.proofs.SplicesDone.{performs-keep}
 use Rattle.meson_plan.proofs.project.Project.answer.Goals as goal
+use Rattle.meson_calls.specs.Searching.{name_at}
 
 pub returns-in_err-listing-in-TargetInfo-clause-refused : goal.returns-in_err-listing-in-TargetInfo-clause-refused
 returns-in_err-listing-in-TargetInfo-clause-refused c =
     let l = c.args.self.now in
     let p = err_from_is_err_and c.from_residual-in_err-listing-in-TargetInfo.result c.from_residual-in_err-listing-in-TargetInfo.ensures.1 in
-    let same = ap (target_listing l) (sym c.get.ensures) ∙ ap (λ k. target_listing k c.get.result.now) (sym c.keep.ensures) in
+    let same = ap (target_listing l) (sym c.as_name.ensures) ∙ ap (λ k. target_listing k (name_at c.as_name.result)) (sym c.keep.ensures) in
     rw (p.1, p.2) (λ other. rw c.in-TargetInfo.is (target-refused l _ _ (same ∙ c.in_err-listing-in-TargetInfo.ensures.refused other)))
 
 pub returns-in_err-listing-in-KwargsInfo-clause-refused : goal.returns-in_err-listing-in-KwargsInfo-clause-refused
 returns-in_err-listing-in-KwargsInfo-clause-refused c =
     let l = c.args.self.now in
     let p = err_from_is_err_and c.from_residual-in_err-listing-in-KwargsInfo.result c.from_residual-in_err-listing-in-KwargsInfo.ensures.1 in
-    rw (p.1, p.2) (λ other. rw c.in-KwargsInfo.is (call-refused l _ _ _ (ap (kwargs_listing l _) (sym c.get-in-KwargsInfo.ensures) ∙ c.in_err-listing-in-KwargsInfo.ensures.refused other)))
+    rw (p.1, p.2) (λ other. rw c.in-KwargsInfo.is (call-refused l _ _ _ (ap (kwargs_listing l _) (sym c.as_name-in-KwargsInfo.ensures) ∙ c.in_err-listing-in-KwargsInfo.ensures.refused other)))
 
 pub returns-in_err-listing-in-ArgumentInfo-clause-refused : goal.returns-in_err-listing-in-ArgumentInfo-clause-refused
 returns-in_err-listing-in-ArgumentInfo-clause-refused c =
@@ -31,20 +32,20 @@ pub returns-in_ok-answer-in-TargetInfo-clause-done : goal.returns-in_ok-answer-i
 returns-in_ok-answer-in-TargetInfo-clause-done c =
     let l = c.args.self.now in
     let done = c.in_ok-answer-in-TargetInfo.answer.done in
-    let is = ap (target_listing l) (sym c.get.ensures) ∙ ap (λ k. target_listing k c.get.result.now) (sym c.keep.ensures) ∙ c.in_ok-listing-in-TargetInfo.ensures.listed in
+    let is = ap (target_listing l) (sym c.as_name.ensures) ∙ ap (λ k. target_listing k (name_at c.as_name.result)) (sym c.keep.ensures) ∙ c.in_ok-listing-in-TargetInfo.ensures.listed in
     subst (Performs l c.args.command.now done) (sym c.keep.ensures)
     (rw c.in-TargetInfo.is ((targets_listed l _).done (view c.in_ok-listing-in-TargetInfo.listing) done is c.reads.ensures c.in_ok-answer-in-TargetInfo.ensures.0))
 
 pub returns-in_ok-answer-in-TargetInfo-clause-told : goal.returns-in_ok-answer-in-TargetInfo-clause-told
 returns-in_ok-answer-in-TargetInfo-clause-told c =
     let l = c.args.self.now in
-    let is = ap (target_listing l) (sym c.get.ensures) ∙ ap (λ k. target_listing k c.get.result.now) (sym c.keep.ensures) ∙ c.in_ok-listing-in-TargetInfo.ensures.listed in
+    let is = ap (target_listing l) (sym c.as_name.ensures) ∙ ap (λ k. target_listing k (name_at c.as_name.result)) (sym c.keep.ensures) ∙ c.in_ok-listing-in-TargetInfo.ensures.listed in
     rw c.in-TargetInfo.is (target-told l _ (view c.in_ok-listing-in-TargetInfo.listing) is ∙ ap Ok (sym c.in_ok-answer-in-TargetInfo.ensures.1))
 
 pub returns-in_ok-answer-in-KwargsInfo-clause-done : goal.returns-in_ok-answer-in-KwargsInfo-clause-done
 returns-in_ok-answer-in-KwargsInfo-clause-done c =
     let l = c.args.self.now in
-    let is = ap (kwargs_listing l _) (sym c.get-in-KwargsInfo.ensures) ∙ c.in_ok-listing-in-KwargsInfo.ensures.listed in
+    let is = ap (kwargs_listing l _) (sym c.as_name-in-KwargsInfo.ensures) ∙ c.in_ok-listing-in-KwargsInfo.ensures.listed in
     rw c.in-KwargsInfo.is ((calls_listed l _ _).done (view c.in_ok-listing-in-KwargsInfo.listing) c.in_ok-answer-in-KwargsInfo.answer.done is c.reads.ensures c.in_ok-answer-in-KwargsInfo.ensures.0)
 
 pub returns-in_ok-answer-in-ArgumentInfo-clause-done : goal.returns-in_ok-answer-in-ArgumentInfo-clause-done

@@ -1,4 +1,4 @@
-use Rattle.std.proofs.Common.{◌∙◌, ap, sym, subst}
+use Rattle.std.proofs.Common.{None, ◌∙◌, ap, sym, subst}
 use Rattle.meson_calls.specs.Loading.{project}
 use Rattle.meson_calls.specs.NotedProjects.{project_in}
 use Rattle.meson_calls.specs.Naming.{found}
@@ -23,5 +23,5 @@ returns-clause-all c =
     let is =
     (c.noted-noted.ensures.noted role id
     (subst (AreNotesWith (sought_words role id) 0 c.args.self.now.files c.args.self.now.parsed) (sym (ap note_views c.as_slice.ensures.value ∙ c.in_ok-notes.ensures)) c.in_ok-taken.ensures)) in
-    c.in_ok-calls.ensures ∙ same_found role id n.files.now n.trees.now (note_views n.notes.now) is.whole.parsed is.taken ∙ found_notes role id (project_in n)
+    c.in_ok-calls.ensures ∙ same_found None role id n.files.now n.trees.now (note_views n.notes.now) is.whole.parsed is.taken ∙ found_notes None role id (project_in n)
     ∙ ap (λ l. places (found (project l) role id)) c.noted-noted.ensures.same
