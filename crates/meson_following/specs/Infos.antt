@@ -1,10 +1,10 @@
 -- What the targets of some build files are made of.
-use Rattle.std.specs.Prelude.{◌≡◌, ℕ, suc, Bool, true, false, List, [], ◌∷◌, codes, Option, Some, None, option_map}
+use Rattle.std.specs.Prelude.{◌≡◌, ℕ, suc, Bool, true, false, List, [], ◌∷◌, ◌++◌, codes, Option, Some, None, option_map}
 use Rattle.meson_syntax.specs.Tree.{Nowhere, conditional}
 use Rattle.meson_calls.specs.CallPlaces.{call_at}
 use Rattle.meson_calls.specs.Project.{Project, place}
 use Rattle.meson_following.specs.Following.{Mark, known, opaque, empty, follow_marks}
-use Rattle.meson_following.specs.Samples.{E, S, adds, alone, beside_s, calling, does, each, either_way, enters, enters_if_found, holding, sets, sets_to, src, sum_of, target, text, variable, where_x}
+use Rattle.meson_following.specs.Samples.{E, S, adds, alone, beside_s, calling, chain, does, each, either_way, enters, enters_if_found, holding, long_name, sets, sets_to, src, sum_of, target, target_with, text, variable, where_x}
 
 -- the texts of what is met, each with whether it is there in each evaluation
 abbrev pub Texts : Type 0
@@ -117,3 +117,18 @@ Beginning =
     IsFrom (beside_s (enters (codes "s") ∷ target ∷ []) (sets_to (files_of (codes "b.c")) ∷ [])) (at_ 1) (Some 1 ∷ [])
     × IsFrom (alone (sets (codes "a.c") ∷ target ∷ [])) (at_ 1) (None ∷ [])
     × IsFrom (alone (sets (codes "a.c") ∷ made (calling (codes "files") (variable src ∷ []) ∷ []) ∷ [])) (at_ 1) (Some 0 ∷ [])
+
+-- ---- keywords, and how far variables are followed
+
+-- `sources:` has sources, `kwargs:` may have some, another keyword argument has none
+abbrev pub Naming : Type 0
+Naming =
+    IsOf (alone (sets (codes "a.c") ∷ target_with (codes "sources") (variable src) ∷ [])) (at_ 1) (sure_of (codes "m.c") ∷ sure_of (codes "a.c") ∷ []) 0
+    × IsOf (alone (target_with (codes "kwargs") (variable (codes "k")) ∷ [])) (at_ 0) (sure_of (codes "m.c") ∷ []) 1
+    × IsOf (alone (sets (codes "a.c") ∷ target_with (codes "c_args") (variable src) ∷ [])) (at_ 1) (sure_of (codes "m.c") ∷ []) 0
+
+-- 64 variables one after another are followed, and no more
+abbrev pub Limit : Type 0
+Limit =
+    IsOf (alone (chain 63 ++ made (variable (long_name 63) ∷ []) ∷ [])) (at_ 64) (sure_of (codes "a.c") ∷ []) 0
+    × IsOf (alone (chain 64 ++ made (variable (long_name 64) ∷ []) ∷ [])) (at_ 65) [] 1

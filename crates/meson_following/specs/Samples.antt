@@ -1,5 +1,5 @@
 -- Build files of samples, as trees.
-use Rattle.std.specs.Prelude.{ℕ, false, List, [], ◌∷◌, map, codes}
+use Rattle.std.specs.Prelude.{ℕ, zero, suc, false, List, [], ◌∷◌, ◌++◌, map, codes}
 use Rattle.meson_lex.specs.Literals.{literal}
 use Rattle.meson_syntax.specs.declared.operator.Assignment.TheVariants as assigns
 use Rattle.meson_syntax.specs.declared.operator.Operator.TheVariants as op
@@ -48,6 +48,22 @@ sets_to e = assign tt (bare_name src) assigns.Set e
 -- `executable('e', src)`
 abbrev pub target : S
 target = does (codes "executable") (text (codes "e") ∷ variable src ∷ [])
+
+-- `executable('e', 'm.c', KEY: VALUE)`
+abbrev pub target_with : (key : List ℕ) → E → S
+target_with key e =
+    evaluate (call tt (bare_name (codes "executable"))
+    (listing tt false (arguments_of (plain (text (codes "e")) ∷ plain (text (codes "m.c")) ∷ named tt (bare_name key) e ∷ []))))
+
+-- `x`, `xx`, and so on
+abbrev pub long_name : ℕ → List ℕ
+long_name zero = codes "x"
+long_name (suc n) = 120 ∷ long_name n
+
+-- the first of these is set to the list of `a.c`, this many others each to the one before it
+abbrev pub chain : ℕ → List S
+chain zero = assign tt (bare_name (long_name zero)) assigns.Set (holding (codes "a.c")) ∷ []
+chain (suc n) = chain n ++ assign tt (bare_name (long_name (suc n))) assigns.Set (variable (long_name n)) ∷ []
 
 abbrev pub body : List S → Block Nowhere
 body ss = block tt (statements_of ss)

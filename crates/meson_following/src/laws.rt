@@ -1,6 +1,6 @@
 //! Laws of what is known of variables. The functions do nothing: what they ensure is the law.
 
-ghost use Rattle.meson_following.specs.Infos.{Beginning, Either, Folders, Once, OneAfterAnother, Summing, Turning};
+ghost use Rattle.meson_following.specs.Infos.{Beginning, Either, Folders, Limit, Naming, Once, OneAfterAnother, Summing, Turning};
 ghost use Rattle.meson_following.specs.Rows.{Branching, Entering, InTurn, Looping, Setting};
 
 /// What is known of a variable in some build files.
@@ -21,4 +21,6 @@ pub fn infos()
     ensures folders { Folders }
     ensures once { Once }
     ensures beginning { Beginning }
+    ensures naming { Naming }
+    ensures limit { Limit }
 {}

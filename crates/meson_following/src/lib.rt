@@ -11,6 +11,7 @@ pub mod makers;
 pub mod marks;
 pub mod names;
 pub mod site;
+mod sources;
 pub mod walk;
 mod walk_statements;
 

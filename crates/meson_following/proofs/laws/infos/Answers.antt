@@ -30,3 +30,11 @@ returns-clause-once c = (refl, refl)
 pub returns-clause-beginning : goal.returns-clause-beginning
 unfolding encode_utf8 chars is_utf8
 returns-clause-beginning c = (refl, refl, refl)
+
+pub returns-clause-naming : goal.returns-clause-naming
+unfolding encode_utf8 chars is_utf8
+returns-clause-naming c = (refl, refl, refl)
+
+pub returns-clause-limit : goal.returns-clause-limit
+unfolding encode_utf8 chars is_utf8
+returns-clause-limit c = (refl, refl)
