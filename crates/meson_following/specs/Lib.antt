@@ -16,3 +16,5 @@ pub mod CodeArguments
 pub mod Samples
 pub mod Rows
 pub mod Infos
+pub mod Sharing
+pub mod SharedLists

@@ -2,6 +2,7 @@
 
 ghost use Rattle.meson_following.specs.Infos.{Beginning, Either, Folders, Limit, Naming, Once, OneAfterAnother, Summing, Turning};
 ghost use Rattle.meson_following.specs.Rows.{Branching, Entering, InTurn, Looping, Setting};
+ghost use Rattle.meson_following.specs.SharedLists.{Alone, OtherNames, OtherReads, OtherTargets, Sharers, Through, Uses};
 
 /// What is known of a variable in some build files.
 pub fn rows()
@@ -23,4 +24,15 @@ pub fn infos()
     ensures beginning { Beginning }
     ensures naming { Naming }
     ensures limit { Limit }
+{}
+
+/// Which lists of some build files are read for one target alone.
+pub fn shared_lists()
+    ensures alone { Alone }
+    ensures through { Through }
+    ensures other_targets { OtherTargets }
+    ensures other_reads { OtherReads }
+    ensures other_names { OtherNames }
+    ensures uses { Uses }
+    ensures sharers { Sharers }
 {}
