@@ -15,3 +15,4 @@ pub mod Asking
 pub mod Followed
 pub mod MetArguments
 pub mod Entering
+pub mod Sharing

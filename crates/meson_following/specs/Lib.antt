@@ -18,3 +18,4 @@ pub mod Rows
 pub mod Infos
 pub mod Sharing
 pub mod SharedLists
+pub mod Laws

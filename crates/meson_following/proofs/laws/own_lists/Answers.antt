@@ -1,0 +1,11 @@
+use Rattle.meson_following.proofs.Sharing.{own_is_unshared, own_spreads, unshared_spreads}
+use Rattle.meson_following.proofs.laws.own_lists.Goals as goal
+
+pub returns-clause-own_are_read_for_one : goal.returns-clause-own_are_read_for_one
+returns-clause-own_are_read_for_one c = own_spreads
+
+pub returns-clause-unshared_are_read_for_one : goal.returns-clause-unshared_are_read_for_one
+returns-clause-unshared_are_read_for_one c = unshared_spreads
+
+pub returns-clause-own_are_unshared : goal.returns-clause-own_are_unshared
+returns-clause-own_are_unshared c = own_is_unshared

@@ -1,0 +1,51 @@
+-- What it means that a list is read for one target alone.
+use Rattle.std.specs.Prelude.{◌≡◌, ◌⊎◌, ℕ, true, List, [], ◌∷◌}
+use Rattle.std.specs.List.{All, Contains}
+use Rattle.meson_lex.specs.declared.kinds.Span.{Span}
+use Rattle.meson_calls.specs.declared.call.CallRef.{CallRef}
+use Rattle.meson_calls.specs.Calls.{Call}
+use Rattle.meson_calls.specs.Project.{Project, Placed}
+use Rattle.meson_following.specs.Following.{follow_call}
+use Rattle.meson_following.specs.Makers.{Known}
+use Rattle.meson_following.specs.Reads.{reads}
+use Rattle.meson_following.specs.Sharing.{is_own, is_unshared, sees, sights, uses, ways_at, ways_of_call}
+
+-- what is read at a place may be the value of a maker
+pub record MaySee (p : Project Span) (q m : CallRef) : Type 0 where
+  pub variable : List ℕ
+  pub read : Placed (Known Span)
+  pub is_read : Contains (reads p variable) read
+  pub is_there : read.place ≡ q
+  pub is_seen : sees (m ∷ []) read ≡ true
+
+-- A value that the call follows is made of the value of a maker: it is that value, or one of its ways may see a value that is made of it.
+pub data MadeOf (p : Project Span) (followed : List CallRef) (m : CallRef) : CallRef → Type 0 where
+  itself : MadeOf p followed m m
+  further : (u v q : CallRef) → MadeOf p followed m u → Contains followed v → Contains (ways_at p v) q → MaySee p q u → MadeOf p followed m v
+
+-- the place is a way of the sources of the call, or of one of these values
+pub data ReadFor (p : Project Span) (c : Placed (Call Span)) (made : List CallRef) (q : CallRef) : Type 0 where
+  by_the_call : Contains (ways_of_call c) q → ReadFor p c made q
+  by_one : (v : CallRef) → Contains made v → Contains (ways_at p v) q → ReadFor p c made q
+
+abbrev pub ReadOrUsed : Project Span → Placed (Call Span) → List CallRef → CallRef → Type 0
+ReadOrUsed p c made q = ReadFor p c made q ⊎ Contains (uses p) q
+
+-- There are values that are made of the value of a maker, it among them, and Q holds of each place at which one of them may be read.
+pub record Spreads (p : Project Span) (c : Placed (Call Span)) (m : CallRef) (Q : List CallRef → CallRef → Type 0) : Type 0 where
+  pub made : List CallRef
+  pub has_it : Contains made m
+  pub are_made : All (MadeOf p (follow_call p c).followed m) made
+  pub are_read : All (λ v. All (Q made) (sights p (v ∷ []))) made
+
+-- the law: what is in an own list is read nowhere but for the sources of the call
+abbrev pub OwnAreReadForOne : Type 0
+OwnAreReadForOne = (p : Project Span) (c : Placed (Call Span)) (m : CallRef) → is_own p c m ≡ true → Spreads p c m (ReadFor p c)
+
+-- the law: what is in an unshared list is read for the sources of the call, or used
+abbrev pub UnsharedAreReadForOne : Type 0
+UnsharedAreReadForOne = (p : Project Span) (c : Placed (Call Span)) (m : CallRef) → is_unshared p c m ≡ true → Spreads p c m (ReadOrUsed p c)
+
+-- the law
+abbrev pub OwnAreUnshared : Type 0
+OwnAreUnshared = (p : Project Span) (c : Placed (Call Span)) (m : CallRef) → is_own p c m ≡ true → is_unshared p c m ≡ true
