@@ -2,8 +2,9 @@
 use Rattle.std.specs.Prelude.{◌≡◌, ℕ, Bool, true, false, List, [], ◌∷◌, codes, Option, Some, None, option_map}
 use Rattle.meson_lex.specs.Literals.{literal}
 use Rattle.meson_syntax.specs.declared.operator.Assignment.TheVariants as assigns
+use Rattle.meson_syntax.specs.declared.operator.Operator.TheVariants as op
 use Rattle.meson_syntax.specs.declared.operator.StringKind.TheVariants as quotes
-use Rattle.meson_syntax.specs.Tree.{Nowhere, bare_name, conditional, paren, string, call, dictionary, postfix, tail, no_tails, method, index, listing, plain, named, pair, arguments_of, assign, evaluate, selection, iteration, no_branches, branch, nothing_else}
+use Rattle.meson_syntax.specs.Tree.{Nowhere, bare_name, conditional, paren, string, array, call, row, no_operands, operand, dictionary, postfix, tail, no_tails, method, index, listing, plain, named, pair, arguments_of, assign, evaluate, selection, iteration, no_branches, branch, nothing_else}
 use Rattle.meson_calls.specs.declared.call.CallRef.{CallRef}
 use Rattle.meson_calls.specs.CallPlaces.{call_at}
 use Rattle.meson_calls.specs.Calls.{Call}
@@ -72,6 +73,7 @@ Alone =
     IsOwn (alone (sets (codes "a.c") ∷ target ∷ [])) 1 (value_of 0)
     -- in `sources:`, in an array, in `files`, in brackets, as the answer of a conditional, as an operand
     × IsOwn (alone (sets (codes "a.c") ∷ target_with (codes "sources") (variable src) ∷ [])) 1 (value_of 0)
+    × IsOwn (made_of (array (elements (text (codes "b.c") ∷ variable src ∷ [])))) 1 (value_of 0)
     × IsOwn (made_of (calling (codes "files") (variable src ∷ []))) 1 (value_of 0)
     × IsOwn (made_of (paren tt (variable src))) 1 (value_of 0)
     × IsOwn (made_of (conditional tt (variable (codes "x")) (variable src) (holding (codes "b.c")))) 1 (value_of 0)
@@ -92,6 +94,9 @@ Through =
     -- by two variables, both of which the target reads
     × IsOwn (alone (sets (codes "a.c") ∷ names_it (codes "x") (variable src) ∷ names_it (codes "y") (variable src)
     ∷ made_as (codes "e") (variable (codes "x") ∷ variable (codes "y") ∷ []) ∷ [])) 3 (value_of 0)
+    -- by three, one after another
+    × IsOwn (alone (sets (codes "a.c") ∷ names_it (codes "x") (variable src) ∷ names_it (codes "y") (variable (codes "x"))
+    ∷ names_it (codes "z") (variable (codes "y")) ∷ made_as (codes "e") (variable (codes "z") ∷ []) ∷ [])) 4 (value_of 0)
     -- by two variables, of which another target reads one
     × IsShared (alone (sets (codes "a.c") ∷ names_it (codes "x") (variable src) ∷ names_it (codes "y") (variable src)
     ∷ made_as (codes "e") (variable (codes "x") ∷ []) ∷ made_as (codes "f") (variable (codes "y") ∷ []) ∷ [])) 3 (value_of 0)
@@ -120,8 +125,8 @@ OtherTargets =
     -- a dependency, and a variable that a function sets
     × IsShared (with_target (with_keyword (codes "declare_dependency") (codes "sources"))) 2 (value_of 0)
     × IsShared (with_target (does (codes "set_variable") (text (codes "x") ∷ variable src ∷ []))) 2 (value_of 0)
-    -- what a function or a dictionary has, in another target
-    × IsShared (with_target (made_as (codes "f") (dictionary (elements []) ∷ variable src ∷ []))) 2 (value_of 0)
+    -- a variable to which `files` gives it, and which is not read
+    × IsShared (with_target (names_it (codes "x") (calling (codes "files") (variable src ∷ [])))) 2 (value_of 0)
 
 -- read otherwise than by a way
 abbrev pub OtherReads : Type 0
@@ -138,6 +143,10 @@ OtherReads =
     × IsShared (with_target (names_it (codes "x") (dictionary (listing tt false (arguments_of (pair tt (text (codes "k")) (variable src) ∷ [])))))) 2 (value_of 0)
     -- the condition of a conditional, in the target itself
     × IsShared (made_of (conditional tt (variable src) (variable src) (holding (codes "b.c")))) 1 (value_of 0)
+    -- `message(src != x)`
+    × IsShared (with_target (does (codes "message") (row tt (variable src) (operand op.NotEqual (variable (codes "x")) no_operands) ∷ []))) 2 (value_of 0)
+    -- the name of a target
+    × IsShared (alone (sets (codes "a.c") ∷ does (codes "executable") (variable src ∷ text (codes "m.c") ∷ []) ∷ [])) 1 (value_of 0)
     -- a keyword argument of the target that is not `sources:`
     × IsShared (alone (sets (codes "a.c") ∷ target_with (codes "c_args") (variable src) ∷ target ∷ [])) 2 (value_of 0)
 
@@ -148,6 +157,7 @@ OtherNames =
     IsShared (with_target (does (codes "message") (string tt quotes.Format (literal (codes "@src@")) ∷ []))) 2 (value_of 0)
     -- `get_variable('src')`, of a name that is computed, and of one that it cannot be
     × IsShared (with_target (names_it (codes "x") (calling (codes "get_variable") (text src ∷ [])))) 2 (value_of 0)
+    × IsShared (with_target (does (codes "message") (calling (codes "get_variable") (text src ∷ []) ∷ []))) 2 (value_of 0)
     × IsShared (with_target (names_it (codes "x") (calling (codes "get_variable") (variable (codes "k") ∷ [])))) 2 (value_of 0)
     × IsOwn (with_target (names_it (codes "x") (calling (codes "get_variable") (sum_of (text (codes "have_")) (variable (codes "k")) ∷ [])))) 2 (value_of 0)
 
@@ -162,6 +172,12 @@ Uses =
     -- `gnome.mkenums(src)`
     × IsUnshared (with_target (evaluate (postfix tt (variable (codes "gnome"))
     (tail (method tt (bare_name (codes "mkenums")) (elements (variable src ∷ []))) no_tails)))) 2 (value_of 0)
+    -- `gnome.find(x).mkenums(src)`
+    × IsUnshared (with_target (evaluate (postfix tt (variable (codes "gnome"))
+    (tail (method tt (bare_name (codes "find")) (elements (variable (codes "x") ∷ [])))
+    (tail (method tt (bare_name (codes "mkenums")) (elements (variable src ∷ []))) no_tails))))) 2 (value_of 0)
+    -- what a function makes of it, in the sources of the target
+    × IsUnshared (made_of (calling (codes "f") (variable src ∷ []))) 1 (value_of 0)
     -- in a list that is an argument
     × IsUnshared (with_target (does (codes "message") (sum_of (holding (codes "b.c")) (variable src) ∷ []))) 2 (value_of 0)
     -- a use, and another target
