@@ -56,8 +56,9 @@ module _ {S : Type 0} (test : CallRef → Bool) (ms : List CallRef) (v : CallRef
   maker_of_those [] is = is
   maker_of_those (m ∷ more) is =
       elim (or_cases (one_of_places (v ∷ []) m.value.place) (list_any (λ n. one_of_places (v ∷ []) n.value.place) more) is) [
-        inl first ↦ or_left (one_of_places ms m.value.place) (list_any (λ n. one_of_places ms n.value.place) more) (of_those ms v m.value.place has first)
-      | inr later ↦ or_right (one_of_places ms m.value.place) (list_any (λ n. one_of_places ms n.value.place) more) (maker_of_those more later) ]
+        | inl first ↦ or_left (one_of_places ms m.value.place) (list_any (λ n. one_of_places ms n.value.place) more) (of_those ms v m.value.place has first)
+        | inr later ↦ or_right (one_of_places ms m.value.place) (list_any (λ n. one_of_places ms n.value.place) more) (maker_of_those more later)
+      ]
 
   known_of_those : (place : CallRef) (k : Known S) → sees (v ∷ []) (record { place = place; it = k }) ≡ true → sees ms (record { place = place; it = k }) ≡ true
   known_of_those place None is = is
@@ -185,7 +186,7 @@ module _ (p : Project Span) (all : List CallRef) (m : CallRef) where
       let in_all : All (Contains all) (filter test all) = All-filter test (Contains all) all (All-contains_itself all) in
       let passing : All (λ v. test v ≡ true) (filter test all) = filter_passes test all in
       let made_one : (v : CallRef) → Contains all v → test v ≡ true → MadeOf p all m v =
-          λ v has is. taker_made ms made v has (and_parts (not (one_of_places ms v)) (takes_at p (sights p ms) v) is).1 in
+      λ v has is. taker_made ms made v has (and_parts (not (one_of_places ms v)) (takes_at p (sights p ms) v) is).1 in
       All-append (MadeOf p all m) ms (filter test all) made
       (λ k d within. made_one (slice_index_or (filter test all) k d) (in_all k d within) (passing k d within))
 
@@ -213,8 +214,9 @@ module _ (p : Project Span) (c : Placed (Call Span)) where
   way : (ms : List CallRef) (q : CallRef) → is_way p c ms q ≡ true → ReadFor p c ms q
   way ms q is =
       elim (or_cases (one_of_places (ways_of_call c) q) (is_way_of_makers p ms q) is) [
-        inl here ↦ by_the_call (one_of (ways_of_call c) q here)
-      | inr there ↦ way_of_makers ms q there ]
+        | inl here ↦ by_the_call (one_of (ways_of_call c) q here)
+        | inr there ↦ way_of_makers ms q there
+      ]
 
   own_way : (ms : List CallRef) (q : CallRef) → is_way p c ms q || (false && is_use p q) ≡ true → ReadFor p c ms q
   own_way ms q is = elim (or_cases (is_way p c ms q) (false && is_use p q) is) [ inl a_way ↦ way ms q a_way | inr never ↦ absurd (false≢true never) ]
@@ -256,8 +258,9 @@ module _ (p : Project Span) (c : Placed (Call Span)) where
       let loose : CallRef → Bool = λ r. is_way p c ms r || (true && is_use p r) in
       let both = and_parts (strict q) (list_all strict qs) all in
       let first : loose q ≡ true = elim (or_cases (is_way p c ms q) (false && is_use p q) both.0) [
-          inl a_way ↦ or_left (is_way p c ms q) (true && is_use p q) a_way
-        | inr never ↦ absurd (false≢true never) ] in
+        | inl a_way ↦ or_left (is_way p c ms q) (true && is_use p q) a_way
+        | inr never ↦ absurd (false≢true never)
+      ] in
       and_from (loose q) (list_all loose qs) first (closed_with_uses ms qs both.1)
 
   pub own_is_unshared : (m : CallRef) → is_own p c m ≡ true → is_unshared p c m ≡ true

@@ -172,9 +172,9 @@ Uses =
     -- `gnome.mkenums(src)`
     × IsUnshared (with_target (evaluate (postfix tt (variable (codes "gnome"))
     (tail (method tt (bare_name (codes "mkenums")) (elements (variable src ∷ []))) no_tails)))) 2 (value_of 0)
-    -- `gnome.find(x).mkenums(src)`
+    -- `gnome.find(x, y).mkenums(src)`
     × IsUnshared (with_target (evaluate (postfix tt (variable (codes "gnome"))
-    (tail (method tt (bare_name (codes "find")) (elements (variable (codes "x") ∷ [])))
+    (tail (method tt (bare_name (codes "find")) (elements (variable (codes "x") ∷ variable (codes "y") ∷ [])))
     (tail (method tt (bare_name (codes "mkenums")) (elements (variable src ∷ []))) no_tails))))) 2 (value_of 0)
     -- what a function makes of it, in the sources of the target
     × IsUnshared (made_of (calling (codes "f") (variable src ∷ []))) 1 (value_of 0)

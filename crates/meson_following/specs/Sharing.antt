@@ -1,6 +1,6 @@
--- Where else a list of sources of a target may be read. Meson manual, Syntax: variables are global, and an assignment copies no name, but a value. So what is
--- in the value of an assignment may be read wherever a variable may still hold that value, or one that was made of it.
--- A maker is meant by the place of its value, here and in `Following`.
+-- Which lists of sources are read for one target alone. Meson manual, Syntax, "Variables": an assignment copies the value, and a value never changes. So what an
+-- assignment's value holds is read wherever a variable may hold that value, or a value that is made of it.
+-- As in `Following`, a maker is named by the place of its value.
 use Rattle.std.specs.Prelude.{ℕ, zero, suc, ◌+◌, Bool, true, false, not, ◌&&◌, ◌||◌, List, [], ◌∷◌, ◌++◌, filter, flat_map, length, codes, if◌then◌else◌, Option, Some, None}
 use Rattle.std.specs.List.{filter_map, list_all, list_any}
 use Rattle.meson_syntax.specs.Tree.{Expression, identifier, paren, array, call, row, postfix, conditional, Operands, no_operands, operand, Tail, method, index, Tails, no_tails, tail, Listing, listing, Argument, plain, named, pair, Arguments, no_arguments, argument, Statement, assign}
@@ -17,8 +17,8 @@ use Rattle.meson_following.specs.Following.{Mark, known, opaque, empty, follow_c
 use Rattle.meson_following.specs.Makers.{Known, is_same_place}
 use Rattle.meson_following.specs.Reads.{reads}
 
--- ---- the ways of an expression: the places of the variables whose elements become elements of its value. Meson manual, Syntax, "Arrays" and "Ternary
--- operator", and Reference manual, `files`: lists within lists are flattened by a function that takes sources, and `+` adds elements.
+-- ---- the ways of an expression: the places of the variables in it whose elements are elements of its value. Meson manual, Syntax, "Arrays": `+` adds elements
+-- to a list. Reference manual, `files` and `build_target`: lists within lists are laid flat.
 
 abbrev mutual
   pub ways : {S : Type 0} → CallRef → Expression S → List CallRef
@@ -64,7 +64,7 @@ ways_of_values q n values = flat_map (λ v. ways (child q (n + v.number)) v.valu
 abbrev pub ways_of_call : {S : Type 0} → Placed (Call S) → List CallRef
 ways_of_call c = ways_of_values c.place 0 (rest (positional c.it) ++ keyword sources_key c.it)
 
--- ---- uses: the ways of the arguments of calls and methods that hand no sources on
+-- ---- uses: the ways of the arguments of all other calls, and of methods
 
 -- the value of an argument, with a name or without one
 abbrev pub value_of_argument : {S : Type 0} → Argument S → Option (Expression S)
@@ -75,9 +75,9 @@ value_of_argument (pair s e f) = None
 abbrev pub values_given : {S : Type 0} → Listing S → List (Numbered (Expression S))
 values_given l = filter_map (kept_number value_of_argument) (numbered_arguments l)
 
--- Whether a function makes a target, or hands on what it gets: to the targets that have the dependency, to a variable, or as its own result.
-abbrev pub hands_on : List ℕ → Bool
-hands_on f = one_of target_functions f || one_of (codes "declare_dependency" ∷ codes "set_variable" ∷ codes "files" ∷ []) f
+-- Whether a function makes a target, or gives its arguments to others: to the targets that have the dependency, to a variable, or as its result.
+abbrev pub passes_on : List ℕ → Bool
+passes_on f = one_of target_functions f || one_of (codes "declare_dependency" ∷ codes "set_variable" ∷ codes "files" ∷ []) f
 
 abbrev pub uses_of_tail : {S : Type 0} → CallRef → ℕ → Tail S → List CallRef
 uses_of_tail q n (method s f l) = ways_of_values q n (values_given l)
@@ -90,7 +90,7 @@ uses_of_tails q n (tail t more) = uses_of_tail q n t ++ uses_of_tails q (n + tai
 
 -- of the calls that an expression makes itself, not of those within it
 abbrev pub uses_of_expression : {S : Type 0} → CallRef → Expression S → List CallRef
-uses_of_expression q (call s f l) = if hands_on f.text then [] else ways_of_values q 0 (values_given l)
+uses_of_expression q (call s f l) = if passes_on f.text then [] else ways_of_values q 0 (values_given l)
 uses_of_expression q (postfix s e ts) = uses_of_tails q 1 ts
 uses_of_expression q _ = []
 
@@ -143,8 +143,8 @@ is_way_of_makers p ms q = list_any (λ m. one_of_places (ways_at p m) q) ms
 abbrev pub is_way : {S : Type 0} → Project S → Placed (Call S) → List CallRef → CallRef → Bool
 is_way p c ms q = one_of_places (ways_of_call c) q || is_way_of_makers p ms q
 
--- Each read that may see one of these makers is a way of the call, or of the value of one of them, or a use if uses do not count. An f-string, `get_variable`,
--- a condition, an index and a loop are no ways.
+-- Each read that may see one of these makers is a way of the call or of the value of one of them; or a use, if uses are allowed. An f-string, `get_variable`, a
+-- condition, an index and a loop are no ways.
 abbrev pub is_closed : {S : Type 0} → Project S → Placed (Call S) → Bool → List CallRef → Bool
 is_closed p c with_uses ms = list_all (λ q. is_way p c ms q || (with_uses && is_use p q)) (sights p ms)
 
@@ -189,11 +189,12 @@ abbrev pub sharer : {S : Type 0} → Project S → Placed (Call S) → CallRef �
 sharer p c m other =
     if not (is_same_place other.place c.place) && list_any (is_item_in m) (follow_marks p other) then first_literal other.it else None
 
--- with no other target, it is the target's own, or it is read for something that is no target
+-- where there is no other target, the list is the target's own, or it is read for something that is not a target
 abbrev pub or_none : Bool → List (List ℕ) → Option (List (List ℕ))
 or_none own [] = if own then Some [] else None
 or_none own (x ∷ xs) = Some (x ∷ xs)
 
--- The names of the other targets that get what is in the value of a maker; none where it is not the target's own, and no other target has it that has a name.
+-- The names of the other targets that get what is in the value of a maker, of those whose name is a literal. `None` where it is not the target's own, and there
+-- is no such target.
 abbrev pub sharers : {S : Type 0} → Project S → Placed (Call S) → CallRef → Option (List (List ℕ))
 sharers p c m = or_none (is_own p c m) (filter_map (sharer p c m) (role_calls p role.Target))
