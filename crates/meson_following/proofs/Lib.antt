@@ -16,3 +16,4 @@ pub mod Followed
 pub mod MetArguments
 pub mod Entering
 pub mod Sharing
+pub mod ApartReads

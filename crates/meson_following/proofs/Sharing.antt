@@ -250,6 +250,11 @@ module _ (p : Project Span) (c : Placed (Call Span)) where
   unshared_spreads m unshared =
       spreads m (ReadOrUsed p c) (λ q. is_way p c (from_maker p c m) q || (true && is_use p q)) (unshared_way (from_maker p c m)) unshared
 
+  pub own_reads : (m : CallRef) → is_own p c m ≡ true → All (λ v. All (ReadFor p c (from_maker p c m)) (sights p (v ∷ []))) (from_maker p c m)
+  own_reads m own =
+      each_read (ReadFor p c (from_maker p c m)) (λ q. is_way p c (from_maker p c m) q || (false && is_use p q)) (from_maker p c m)
+      (own_way (from_maker p c m)) own
+
   closed_with_uses : (ms qs : List CallRef) → list_all (λ q. is_way p c ms q || (false && is_use p q)) qs ≡ true
       → list_all (λ q. is_way p c ms q || (true && is_use p q)) qs ≡ true
   closed_with_uses ms [] all = all

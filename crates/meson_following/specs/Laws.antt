@@ -1,14 +1,15 @@
 -- What it means that a list is read for one target alone.
-use Rattle.std.specs.Prelude.{◌≡◌, ◌⊎◌, ℕ, true, List, [], ◌∷◌}
+use Rattle.std.specs.Prelude.{◌≡◌, ◌⊎◌, ℕ, true, false, List, [], ◌∷◌}
 use Rattle.std.specs.List.{All, Contains}
 use Rattle.meson_lex.specs.declared.kinds.Span.{Span}
 use Rattle.meson_calls.specs.declared.call.CallRef.{CallRef}
 use Rattle.meson_calls.specs.Calls.{Call}
-use Rattle.meson_calls.specs.Project.{Project, Placed}
+use Rattle.meson_calls.specs.Project.{Project, Placed, placed}
+use Rattle.meson_following.specs.Flows.{is_in}
 use Rattle.meson_following.specs.Following.{follow_call}
 use Rattle.meson_following.specs.Makers.{Known}
 use Rattle.meson_following.specs.Reads.{reads}
-use Rattle.meson_following.specs.Sharing.{is_own, is_unshared, sees, sights, uses, ways_at, ways_of_call}
+use Rattle.meson_following.specs.Sharing.{from_maker, is_own, is_unshared, sees, sights, uses, ways_at, ways_of_call}
 
 -- what is read at a place may be the value of a maker
 pub record MaySee (p : Project Span) (q m : CallRef) : Type 0 where
@@ -49,3 +50,22 @@ UnsharedAreReadForOne = (p : Project Span) (c : Placed (Call Span)) (m : CallRef
 -- the law
 abbrev pub OwnAreUnshared : Type 0
 OwnAreUnshared = (p : Project Span) (c : Placed (Call Span)) (m : CallRef) → is_own p c m ≡ true → is_unshared p c m ≡ true
+
+-- ---- other calls and other values
+
+-- neither place is in what is at the other
+abbrev pub AreApart : CallRef → CallRef → Type 0
+AreApart c d = (is_in c d ≡ false) × (is_in d c ≡ false)
+
+-- it is apart from the call, and from what is made of the value of a maker
+abbrev pub IsElsewhere : Project Span → Placed (Call Span) → CallRef → CallRef → Type 0
+IsElsewhere p c m e = AreApart e c.place × All (AreApart e) (from_maker p c m)
+
+-- at none of these places can be read what is made of the value of a maker
+abbrev pub ReadNothingOf : Project Span → Placed (Call Span) → CallRef → List CallRef → Type 0
+ReadNothingOf p c m qs = All (λ v. (q : CallRef) → Contains qs q → Contains (sights p (v ∷ [])) q → ⊥) (from_maker p c m)
+
+-- the law: no other call has what is in an own list among its sources, and no other value is made of it
+abbrev pub OthersReadNothing : Type 0
+OthersReadNothing = (p : Project Span) (c : Placed (Call Span)) (m e : CallRef) → is_own p c m ≡ true → IsElsewhere p c m e
+    → ((d : Call Span) → ReadNothingOf p c m (ways_of_call (placed e d))) × ReadNothingOf p c m (ways_at p e)

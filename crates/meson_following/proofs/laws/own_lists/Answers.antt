@@ -1,3 +1,4 @@
+use Rattle.meson_following.proofs.ApartReads.{others_read_nothing}
 use Rattle.meson_following.proofs.Sharing.{own_is_unshared, own_spreads, unshared_spreads}
 use Rattle.meson_following.proofs.laws.own_lists.Goals as goal
 
@@ -9,3 +10,6 @@ returns-clause-unshared_are_read_for_one c = unshared_spreads
 
 pub returns-clause-own_are_unshared : goal.returns-clause-own_are_unshared
 returns-clause-own_are_unshared c = own_is_unshared
+
+pub returns-clause-others_read_nothing : goal.returns-clause-others_read_nothing
+returns-clause-others_read_nothing c = others_read_nothing
