@@ -1,7 +1,7 @@
 -- Ways are within their expression. So what is read by one call alone is read by no call beside it.
-use Rattle.std.proofs.Common.{◌≡◌, ◌⊎◌, inl, inr, ℕ, ◌+◌, ◌<◌, ◌≤◌, List, [], ◌∷◌, ◌++◌, length, take, refl, sym, ap, ◌∙◌, arith}
-use Rattle.std.specs.Prelude.{◌==◌, nat_eq, Bool, true, false, ◌&&◌, ◌||◌, if◌then◌else◌, flat_map, Option, Some, None}
-use Rattle.std.specs.List.{All, Contains, list_all, starts_with}
+use Rattle.std.proofs.Common.{◌≡◌, inl, inr, ℕ, ◌+◌, ◌≤◌, List, [], ◌∷◌, ◌++◌, length, take, refl, sym, ap, ◌∙◌, arith}
+use Rattle.std.specs.Prelude.{◌==◌, nat_eq, Bool, true, false, if◌then◌else◌, Option, Some, None}
+use Rattle.std.specs.List.{All, Contains, starts_with}
 use Rattle.std.proofs.Math.Seq.{take-append_seam}
 use Rattle.std.proofs.lemmas.Bool.{and_from, cases_lt, eq-eqb, false≢true}
 use Rattle.std.proofs.lemmas.List.{append_assoc, append-nil, take-append-le}
@@ -49,8 +49,9 @@ is_inside c d q v w short =
 apart : (c d q : CallRef) → AreApart c d → IsWithin c q → IsWithin d q → ⊥
 apart c d q are v w =
     elim (cases_lt (length c.path.steps) (length d.path.steps)) [
-      inl shorter ↦ false≢true (sym are.1 ∙ is_inside d c q w v (omega (arith, shorter)))
-    | inr longer ↦ false≢true (sym are.0 ∙ is_inside c d q v w (omega (arith, longer))) ]
+      | inl shorter ↦ false≢true (sym are.1 ∙ is_inside d c q w v (omega (arith, shorter)))
+      | inr longer ↦ false≢true (sym are.0 ∙ is_inside c d q v w (omega (arith, longer)))
+    ]
 
 -- ---- ways are within
 

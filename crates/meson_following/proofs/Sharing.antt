@@ -1,9 +1,9 @@
 -- What follows from a list being read for one target alone.
-use Rattle.std.proofs.Common.{◌≡◌, ◌⊎◌, inl, inr, ℕ, ◌<◌, List, [], ◌∷◌, ◌++◌, length, map, refl, sym, ap, subst, ◌∙◌, arith}
+use Rattle.std.proofs.Common.{◌≡◌, inl, inr, ℕ, List, [], ◌∷◌, length, refl, sym, ap, subst, ◌∙◌, arith}
 use Rattle.std.specs.Prelude.{slice_index_or, ◌==◌, Bool, true, false, not, ◌&&◌, ◌||◌, zero, suc, filter, flat_map, bytes_eq, if◌then◌else◌, Option, Some, None}
 use Rattle.std.specs.List.{All, Any, Contains, cons_option, filter_map, list_all, list_any}
-use Rattle.std.proofs.lemmas.Bool.{and_from, and_parts, cases_Bool, eq-eqb, eqb-true, false≢true, or_cases, or_left, or_right}
-use Rattle.std.proofs.lemmas.List.Elements.{All-append, All-contains, All-contains_itself, All-filter, All-map, All-nil, All-weaker, All-cons, Contains-append_left, Contains-append_right, filter_passes}
+use Rattle.std.proofs.lemmas.Bool.{and_from, and_parts, eq-eqb, eqb-true, false≢true, or_cases, or_left, or_right}
+use Rattle.std.proofs.lemmas.List.Elements.{All-append, All-contains, All-contains_itself, All-filter, All-map, All-nil, All-weaker, All-cons, Contains-append_left, filter_passes}
 use Rattle.std.proofs.lemmas.List.Folds.{Any-from_list_any, list_all-append, list_any-from_Any}
 use Rattle.std.proofs.lemmas.List.Sums.{AllPass-from_list_all}
 use Rattle.std.proofs.lemmas.Slice.Eq.{bytes_eq-Decides}
@@ -19,7 +19,7 @@ use Rattle.meson_following.specs.Following.{follow_call, one_of_places}
 use Rattle.meson_following.specs.Laws.{MadeOf, itself, further, MaySee, ReadFor, by_the_call, by_one, ReadOrUsed, Spreads}
 use Rattle.meson_following.specs.Makers.{Known, Maker, is_same_place}
 use Rattle.meson_following.specs.Reads.{reads}
-use Rattle.meson_following.specs.Sharing.{from_maker, is_closed, is_own, is_unshared, is_use, is_way, is_way_of_makers, name_of_part, name_of_statement, names_of, sees, sights, sights_of, takes_at, uses, ways_at, ways_of_call, with_takers, with_takers_of_takers}
+use Rattle.meson_following.specs.Sharing.{from_maker, is_own, is_unshared, is_use, is_way, is_way_of_makers, name_of_part, name_of_statement, names_of, sees, sights, sights_of, takes_at, uses, ways_at, ways_of_call, with_takers, with_takers_of_takers}
 
 -- ---- places
 
@@ -29,7 +29,8 @@ same_place c d same =
     ap (λ n. place n c.path.steps) (eqb-true c.file d.file both.0) ∙ ap (place d.file) ((bytes_eq-Decides c.path.steps d.path.steps).0 both.1)
 
 itself_same : (c : CallRef) → is_same_place c c ≡ true
-itself_same c = and_from (c.file == c.file) (bytes_eq c.path.steps c.path.steps) (eq-eqb c.file c.file refl) ((bytes_eq-Decides c.path.steps c.path.steps).1 refl)
+itself_same c =
+    and_from (c.file == c.file) (bytes_eq c.path.steps c.path.steps) (eq-eqb c.file c.file refl) ((bytes_eq-Decides c.path.steps c.path.steps).1 refl)
 
 pub one_of : (qs : List CallRef) (q : CallRef) → one_of_places qs q ≡ true → Contains qs q
 one_of qs q is =
@@ -52,7 +53,8 @@ of_those ms v q has is = is_one ms q (subst (Contains ms) (same_place v q (one (
 
 module _ {S : Type 0} (test : CallRef → Bool) (ms : List CallRef) (v : CallRef) (has : Contains ms v) where
   -- a maker of what is known
-  maker_of_those : (makers : List (Maker S)) → list_any (λ m. one_of_places (v ∷ []) m.value.place) makers ≡ true → list_any (λ m. one_of_places ms m.value.place) makers ≡ true
+  maker_of_those : (makers : List (Maker S)) → list_any (λ m. one_of_places (v ∷ []) m.value.place) makers ≡ true
+      → list_any (λ m. one_of_places ms m.value.place) makers ≡ true
   maker_of_those [] is = is
   maker_of_those (m ∷ more) is =
       elim (or_cases (one_of_places (v ∷ []) m.value.place) (list_any (λ n. one_of_places (v ∷ []) n.value.place) more) is) [
@@ -64,7 +66,8 @@ module _ {S : Type 0} (test : CallRef → Bool) (ms : List CallRef) (v : CallRef
   known_of_those place None is = is
   known_of_those place (Some k) is = maker_of_those k.makers is
 
-  reads_of_those : (rs : List (Placed (Known S))) → list_all test (places (filter (sees ms) rs)) ≡ true → list_all test (places (filter (sees (v ∷ [])) rs)) ≡ true
+  reads_of_those : (rs : List (Placed (Known S))) → list_all test (places (filter (sees ms) rs)) ≡ true
+      → list_all test (places (filter (sees (v ∷ [])) rs)) ≡ true
   reads_of_those [] all = all
   reads_of_those (r ∷ rs) all = go (sees (v ∷ []) r) (sees ms r) (known_of_those r.place r.it) (reads_of_those rs) all
     where
@@ -127,8 +130,8 @@ module _ {S : Type 0} (test : CallRef → Bool) (p : Project S) (ms : List CallR
           ∙ and_from (list_all test (sights_of p (v ∷ []) x)) (list_all test (flat_map (sights_of p (v ∷ [])) names))
           (reads_of_those test ms v has (reads p x) of_x) (later both.1)
 
-pub sights_of_those : {S : Type 0} (test : CallRef → Bool) (p : Project S) (ms : List CallRef) (v : CallRef) → Contains ms v → list_all test (sights p ms) ≡ true
-    → list_all test (sights p (v ∷ [])) ≡ true
+pub sights_of_those : {S : Type 0} (test : CallRef → Bool) (p : Project S) (ms : List CallRef) (v : CallRef) → Contains ms v
+    → list_all test (sights p ms) ≡ true → list_all test (sights p (v ∷ [])) ≡ true
 sights_of_those test p ms v has all = names_of_those test p ms v has (parts p) all
 
 -- ---- what may be seen at a place
@@ -161,7 +164,8 @@ module _ (p : Project Span) (ms : List CallRef) where
       let rs = reads p x in
       let in_them : All (Contains rs) (filter (sees ms) rs) = All-filter (sees ms) (Contains rs) rs (All-contains_itself rs) in
       let passing : All (λ r. sees ms r ≡ true) (filter (sees ms) rs) = filter_passes (sees ms) rs in
-      All-map (SeesOne p ms) (λ r. r.place) (filter (sees ms) rs) (λ k d within. read_sees x (slice_index_or (filter (sees ms) rs) k d) (in_them k d within) (passing k d within))
+      All-map (SeesOne p ms) (λ r. r.place) (filter (sees ms) rs)
+      (λ k d within. read_sees x (slice_index_or (filter (sees ms) rs) k d) (in_them k d within) (passing k d within))
 
   names_see : (xs : List (List ℕ)) → All (SeesOne p ms) (flat_map (sights_of p ms) xs)
   names_see [] = All-nil (SeesOne p ms)

@@ -4,12 +4,12 @@ use Rattle.meson_lex.specs.Literals.{literal}
 use Rattle.meson_syntax.specs.declared.operator.Assignment.TheVariants as assigns
 use Rattle.meson_syntax.specs.declared.operator.Operator.TheVariants as op
 use Rattle.meson_syntax.specs.declared.operator.StringKind.TheVariants as quotes
-use Rattle.meson_syntax.specs.Tree.{Nowhere, bare_name, conditional, paren, string, array, call, row, no_operands, operand, dictionary, postfix, tail, no_tails, method, index, listing, plain, named, pair, arguments_of, assign, evaluate, selection, iteration, no_branches, branch, nothing_else}
+use Rattle.meson_syntax.specs.Tree.{Nowhere, bare_name, conditional, paren, string, array, call, row, no_operands, operand, dictionary, postfix, tail, no_tails, method, index, listing, named, pair, arguments_of, assign, evaluate, selection, iteration, no_branches, branch, nothing_else}
 use Rattle.meson_calls.specs.declared.call.CallRef.{CallRef}
 use Rattle.meson_calls.specs.CallPlaces.{call_at}
 use Rattle.meson_calls.specs.Calls.{Call}
 use Rattle.meson_calls.specs.Project.{Project, Placed, place}
-use Rattle.meson_following.specs.Samples.{E, S, adds, alone, beside_s, body, calling, does, elements, enters, holding, sets, sets_to, src, sum_of, target, target_with, text, variable, where_x}
+use Rattle.meson_following.specs.Samples.{E, S, adds, alone, beside_s, body, calling, does, elements, enters, holding, sets, src, sum_of, target, target_with, text, variable, where_x}
 use Rattle.meson_following.specs.Sharing.{is_own, is_unshared, sharers}
 
 -- ---- what is said of a list
@@ -89,8 +89,8 @@ Alone =
 abbrev pub Through : Type 0
 Through =
     -- `all = src + ['b.c']`
-    IsOwn (alone (sets (codes "a.c") ∷ names_it all_of_it (sum_of (variable src) (holding (codes "b.c"))) ∷ made_as (codes "e") (variable all_of_it ∷ []) ∷ [])) 2
-    (value_of 0)
+    IsOwn (alone (sets (codes "a.c") ∷ names_it all_of_it (sum_of (variable src) (holding (codes "b.c")))
+    ∷ made_as (codes "e") (variable all_of_it ∷ []) ∷ [])) 2 (value_of 0)
     -- by two variables, both of which the target reads
     × IsOwn (alone (sets (codes "a.c") ∷ names_it (codes "x") (variable src) ∷ names_it (codes "y") (variable src)
     ∷ made_as (codes "e") (variable (codes "x") ∷ variable (codes "y") ∷ []) ∷ [])) 3 (value_of 0)
@@ -140,7 +140,8 @@ OtherReads =
     -- `src.length()`
     × IsShared (with_target (evaluate (postfix tt (variable src) (tail (method tt (bare_name (codes "length")) (elements [])) no_tails)))) 2 (value_of 0)
     -- `x = {'k': src}`
-    × IsShared (with_target (names_it (codes "x") (dictionary (listing tt false (arguments_of (pair tt (text (codes "k")) (variable src) ∷ [])))))) 2 (value_of 0)
+    × IsShared (with_target (names_it (codes "x") (dictionary (listing tt false (arguments_of (pair tt (text (codes "k")) (variable src) ∷ [])))))) 2
+    (value_of 0)
     -- the condition of a conditional, in the target itself
     × IsShared (made_of (conditional tt (variable src) (variable src) (holding (codes "b.c")))) 1 (value_of 0)
     -- `message(src != x)`

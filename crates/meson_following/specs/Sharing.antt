@@ -1,5 +1,5 @@
--- Which lists of sources are read for one target alone. Meson manual, Syntax, "Variables": an assignment copies the value, and a value never changes. So what an
--- assignment's value holds is read wherever a variable may hold that value, or a value that is made of it.
+-- Which lists of sources are read for one target alone. Meson manual, Syntax, "Variables": an assignment copies the value, and a value never changes. So what
+-- is in the value of an assignment is read wherever a variable may hold that value, or a value that is made of it.
 -- As in `Following`, a maker is named by the place of its value.
 use Rattle.std.specs.Prelude.{ℕ, zero, suc, ◌+◌, Bool, true, false, not, ◌&&◌, ◌||◌, List, [], ◌∷◌, ◌++◌, filter, flat_map, length, codes, if◌then◌else◌, Option, Some, None}
 use Rattle.std.specs.List.{filter_map, list_all, list_any}
