@@ -1,11 +1,11 @@
 -- Ways are within their expression. So what is read by one call alone is read by no call beside it.
-use Rattle.std.proofs.Common.{◌≡◌, inl, inr, ℕ, ◌+◌, ◌≤◌, List, [], ◌∷◌, ◌++◌, length, take, refl, sym, ap, ◌∙◌, arith}
+use Rattle.std.proofs.Common.{◌≡◌, ◌⊎◌, inl, inr, ℕ, ◌+◌, ◌≤◌, List, [], ◌∷◌, ◌++◌, length, take, refl, sym, ap, ◌∙◌, arith}
 use Rattle.std.specs.Prelude.{◌==◌, nat_eq, Bool, true, false, if◌then◌else◌, Option, Some, None}
 use Rattle.std.specs.List.{All, Contains, starts_with}
 use Rattle.std.proofs.Math.Seq.{take-append_seam}
 use Rattle.std.proofs.lemmas.Bool.{and_from, cases_lt, eq-eqb, false≢true}
 use Rattle.std.proofs.lemmas.List.{append_assoc, append-nil, take-append-le}
-use Rattle.std.proofs.lemmas.List.Elements.{All-append, All-cons, All-contains, All-nil, All-weaker}
+use Rattle.std.proofs.lemmas.List.Elements.{All-append, All-cons, All-contains, All-contains_itself, All-nil, All-weaker}
 use Rattle.std.proofs.lemmas.Slice.Eq.{bytes_eq-Decides}
 use Rattle.meson_lex.specs.declared.kinds.Span.{Span}
 use Rattle.meson_syntax.specs.Tree.{Expression, identifier, paren, array, call, row, conditional, Operands, no_operands, operand, Listing, listing, Argument, plain, named, pair, Arguments, no_arguments, argument}
@@ -16,7 +16,7 @@ use Rattle.meson_calls.specs.Parts.{argument_child_count}
 use Rattle.meson_calls.specs.Project.{Project, Placed, placed, child, expression_at}
 use Rattle.meson_variables.specs.Expansion.{are_plus, is_files}
 use Rattle.meson_following.specs.Flows.{is_in}
-use Rattle.meson_following.specs.Laws.{AreApart, IsElsewhere, ReadFor, by_the_call, by_one, ReadNothingOf}
+use Rattle.meson_following.specs.Laws.{AreApart, IsElsewhere, IsReadBy, at_once, through, ReadFor, by_the_call, by_one, ReadNothingOf}
 use Rattle.meson_following.specs.Sharing.{from_maker, is_own, sights, ways, ways_at, ways_of_call, ways_of_element, ways_of_elements, ways_of_listing, ways_of_operands, ways_of_values, ways_there}
 use Rattle.meson_following.proofs.Sharing.{own_reads}
 
@@ -134,3 +134,23 @@ module _ (p : Project Span) (c : Placed (Call Span)) (m e : CallRef) (own : is_o
 
   pub others_read_nothing : ((d : Call Span) → ReadNothingOf p c m (ways_of_call (placed e d))) × ReadNothingOf p c m (ways_at p e)
   others_read_nothing = (λ d. nothing_read (ways_of_call (placed e d)) (call_within (placed e d)), nothing_read (ways_at p e) (at_within p e))
+
+-- ---- through other values
+
+module _ (p : Project Span) (c : Placed (Call Span)) (m : CallRef) (d : Placed (Call Span)) (own : is_own p c m ≡ true) (beside : IsElsewhere p c m d.place)
+    (others : (u : CallRef) → IsReadBy p d u → Contains (from_maker p c m) u ⊎ IsElsewhere p c m u) where
+  abbrev None_of : List CallRef → CallRef → Type 0
+  None_of qs v = (q : CallRef) → Contains qs q → Contains (sights p (v ∷ [])) q → ⊥
+
+  unread : (v : CallRef) → IsReadBy p d v → Contains (from_maker p c m) v → ⊥
+  unread _ (at_once v q way seen) made =
+      All-contains (None_of (ways_of_call d)) (from_maker p c m) v ((others_read_nothing p c m d.place own beside).0 d.it) made q way seen
+  unread _ (through u v q first way seen) made =
+      elim (others u first) [
+        inl one ↦ unread u first one
+      | inr else_where ↦ All-contains (None_of (ways_at p u)) (from_maker p c m) v (others_read_nothing p c m u own else_where).1 made q way seen ]
+
+  pub reach_no_other : All (λ v. IsReadBy p d v → ⊥) (from_maker p c m)
+  reach_no_other =
+      All-weaker (Contains (from_maker p c m)) (λ v. IsReadBy p d v → ⊥) (λ v made is_read. unread v is_read made) (from_maker p c m)
+      (All-contains_itself (from_maker p c m))

@@ -69,3 +69,14 @@ ReadNothingOf p c m qs = All (λ v. (q : CallRef) → Contains qs q → Contains
 abbrev pub OthersReadNothing : Type 0
 OthersReadNothing = (p : Project Span) (c : Placed (Call Span)) (m e : CallRef) → is_own p c m ≡ true → IsElsewhere p c m e
     → ((d : Call Span) → ReadNothingOf p c m (ways_of_call (placed e d))) × ReadNothingOf p c m (ways_at p e)
+
+-- a value is read by the sources of a call, or by a value that is
+pub data IsReadBy (p : Project Span) (d : Placed (Call Span)) : CallRef → Type 0 where
+  at_once : (v q : CallRef) → Contains (ways_of_call d) q → Contains (sights p (v ∷ [])) q → IsReadBy p d v
+  through : (u v q : CallRef) → IsReadBy p d u → Contains (ways_at p u) q → Contains (sights p (v ∷ [])) q → IsReadBy p d v
+
+-- the law: no other call reads what is in an own list, through however many variables
+abbrev pub OwnReachNoOther : Type 0
+OwnReachNoOther = (p : Project Span) (c : Placed (Call Span)) (m : CallRef) (d : Placed (Call Span)) → is_own p c m ≡ true → IsElsewhere p c m d.place
+    → ((u : CallRef) → IsReadBy p d u → Contains (from_maker p c m) u ⊎ IsElsewhere p c m u)
+    → All (λ v. IsReadBy p d v → ⊥) (from_maker p c m)

@@ -1,7 +1,7 @@
 //! Laws of what is known of variables. The functions do nothing: what they ensure is the law.
 
 ghost use Rattle.meson_following.specs.Infos.{Beginning, Either, Folders, Limit, Naming, Once, OneAfterAnother, Summing, Turning};
-ghost use Rattle.meson_following.specs.Laws.{OthersReadNothing, OwnAreReadForOne, OwnAreUnshared, UnsharedAreReadForOne};
+ghost use Rattle.meson_following.specs.Laws.{OthersReadNothing, OwnAreReadForOne, OwnAreUnshared, OwnReachNoOther, UnsharedAreReadForOne};
 ghost use Rattle.meson_following.specs.Rows.{Branching, Entering, InTurn, Looping, Setting};
 ghost use Rattle.meson_following.specs.SharedLists.{Alone, OtherNames, OtherReads, OtherTargets, Sharers, Through, Uses};
 
@@ -44,4 +44,5 @@ pub fn own_lists()
     ensures unshared_are_read_for_one { UnsharedAreReadForOne }
     ensures own_are_unshared { OwnAreUnshared }
     ensures others_read_nothing { OthersReadNothing }
+    ensures own_reach_no_other { OwnReachNoOther }
 {}

@@ -1,4 +1,4 @@
-use Rattle.meson_following.proofs.ApartReads.{others_read_nothing}
+use Rattle.meson_following.proofs.ApartReads.{others_read_nothing, reach_no_other}
 use Rattle.meson_following.proofs.Sharing.{own_is_unshared, own_spreads, unshared_spreads}
 use Rattle.meson_following.proofs.laws.own_lists.Goals as goal
 
@@ -13,3 +13,6 @@ returns-clause-own_are_unshared c = own_is_unshared
 
 pub returns-clause-others_read_nothing : goal.returns-clause-others_read_nothing
 returns-clause-others_read_nothing c = others_read_nothing
+
+pub returns-clause-own_reach_no_other : goal.returns-clause-own_reach_no_other
+returns-clause-own_reach_no_other c = reach_no_other
