@@ -17,7 +17,7 @@ use Rattle.meson_calls.specs.Project.{Project, Placed, placed, child, expression
 use Rattle.meson_variables.specs.Expansion.{are_plus, is_files}
 use Rattle.meson_following.specs.Flows.{is_in}
 use Rattle.meson_following.specs.Laws.{AreApart, IsElsewhere, IsReadBy, at_once, through, ReadFor, by_the_call, by_one, ReadNothingOf}
-use Rattle.meson_following.specs.Sharing.{from_maker, is_own, sights, ways, ways_at, ways_of_call, ways_of_element, ways_of_elements, ways_of_listing, ways_of_operands, ways_of_values, ways_there}
+use Rattle.meson_following.specs.Sharing.{from_maker, is_own, reads_of, ways, ways_at, ways_of_call, ways_of_element, ways_of_elements, ways_of_listing, ways_of_operands, ways_of_values, ways_there}
 use Rattle.meson_following.proofs.Sharing.{own_reads}
 
 -- ---- one place within another
@@ -126,10 +126,10 @@ module _ (p : Project Span) (c : Placed (Call Span)) (m e : CallRef) (own : is_o
 
   nothing_read : (qs : List CallRef) → All (IsWithin e) qs → ReadNothingOf p c m qs
   nothing_read qs within =
-      All-weaker (λ v. All (ReadFor p c (from_maker p c m)) (sights p (v ∷ [])))
-      (λ v. (q : CallRef) → Contains qs q → Contains (sights p (v ∷ [])) q → ⊥)
-      (λ v reads_of q has seen. not_read q (All-contains (IsWithin e) qs q within has)
-      (All-contains (ReadFor p c (from_maker p c m)) (sights p (v ∷ [])) q reads_of seen))
+      All-weaker (λ v. All (ReadFor p c (from_maker p c m)) (reads_of p (v ∷ [])))
+      (λ v. (q : CallRef) → Contains qs q → Contains (reads_of p (v ∷ [])) q → ⊥)
+      (λ v all_read q has seen. not_read q (All-contains (IsWithin e) qs q within has)
+      (All-contains (ReadFor p c (from_maker p c m)) (reads_of p (v ∷ [])) q all_read seen))
       (from_maker p c m) (own_reads p c m own)
 
   pub others_read_nothing : ((d : Call Span) → ReadNothingOf p c m (ways_of_call (placed e d))) × ReadNothingOf p c m (ways_at p e)
@@ -140,15 +140,16 @@ module _ (p : Project Span) (c : Placed (Call Span)) (m e : CallRef) (own : is_o
 module _ (p : Project Span) (c : Placed (Call Span)) (m : CallRef) (d : Placed (Call Span)) (own : is_own p c m ≡ true) (beside : IsElsewhere p c m d.place)
     (others : (u : CallRef) → IsReadBy p d u → Contains (from_maker p c m) u ⊎ IsElsewhere p c m u) where
   abbrev None_of : List CallRef → CallRef → Type 0
-  None_of qs v = (q : CallRef) → Contains qs q → Contains (sights p (v ∷ [])) q → ⊥
+  None_of qs v = (q : CallRef) → Contains qs q → Contains (reads_of p (v ∷ [])) q → ⊥
 
   unread : (v : CallRef) → IsReadBy p d v → Contains (from_maker p c m) v → ⊥
   unread _ (at_once v q way seen) made =
       All-contains (None_of (ways_of_call d)) (from_maker p c m) v ((others_read_nothing p c m d.place own beside).0 d.it) made q way seen
   unread _ (through u v q first way seen) made =
       elim (others u first) [
-        inl one ↦ unread u first one
-      | inr else_where ↦ All-contains (None_of (ways_at p u)) (from_maker p c m) v (others_read_nothing p c m u own else_where).1 made q way seen ]
+        | inl one ↦ unread u first one
+        | inr else_where ↦ All-contains (None_of (ways_at p u)) (from_maker p c m) v (others_read_nothing p c m u own else_where).1 made q way seen
+      ]
 
   pub reach_no_other : All (λ v. IsReadBy p d v → ⊥) (from_maker p c m)
   reach_no_other =

@@ -19,7 +19,7 @@ use Rattle.meson_following.specs.Following.{follow_call, one_of_places}
 use Rattle.meson_following.specs.Laws.{MadeOf, itself, further, MaySee, ReadFor, by_the_call, by_one, ReadOrUsed, Spreads}
 use Rattle.meson_following.specs.Makers.{Known, Maker, is_same_place}
 use Rattle.meson_following.specs.Reads.{reads}
-use Rattle.meson_following.specs.Sharing.{from_maker, is_own, is_unshared, is_use, is_way, is_way_of_makers, name_of_part, name_of_statement, names_of, sees, sights, sights_of, takes_at, uses, ways_at, ways_of_call, with_takers, with_takers_of_takers}
+use Rattle.meson_following.specs.Sharing.{from_maker, is_own, is_unshared, is_use, is_way, is_way_of_makers, name_of_part, name_of_statement, names_of, sees, reads_of, reads_of_variable, takes_at, uses, ways_at, ways_of_call, with_takers, with_takers_of_takers}
 
 -- ---- places
 
@@ -103,36 +103,37 @@ module _ {S : Type 0} (test : CallRef → Bool) (ms : List CallRef) (v : CallRef
 
 module _ {S : Type 0} (test : CallRef → Bool) (p : Project S) (ms : List CallRef) (v : CallRef) (has : Contains ms v) where
   -- of a first variable and of others
-  parts_of_all : (x : List ℕ) (names : List (List ℕ)) → list_all test (flat_map (sights_of p ms) (x ∷ names)) ≡ true
-      → (list_all test (sights_of p ms x) ≡ true) × (list_all test (flat_map (sights_of p ms) names) ≡ true)
+  parts_of_all : (x : List ℕ) (names : List (List ℕ)) → list_all test (flat_map (reads_of_variable p ms) (x ∷ names)) ≡ true
+      → (list_all test (reads_of_variable p ms x) ≡ true) × (list_all test (flat_map (reads_of_variable p ms) names) ≡ true)
   parts_of_all x names all =
-      and_parts (list_all test (sights_of p ms x)) (list_all test (flat_map (sights_of p ms) names))
-      (sym (list_all-append test (sights_of p ms x) (flat_map (sights_of p ms) names)) ∙ all)
+      and_parts (list_all test (reads_of_variable p ms x)) (list_all test (flat_map (reads_of_variable p ms) names))
+      (sym (list_all-append test (reads_of_variable p ms x) (flat_map (reads_of_variable p ms) names)) ∙ all)
 
-  names_of_those : (qs : List (Placed (Part S))) → list_all test (flat_map (sights_of p ms) (filter_map (name_of_part ms) qs)) ≡ true
-      → list_all test (flat_map (sights_of p (v ∷ [])) (filter_map (name_of_part (v ∷ [])) qs)) ≡ true
+  names_of_those : (qs : List (Placed (Part S))) → list_all test (flat_map (reads_of_variable p ms) (filter_map (name_of_part ms) qs)) ≡ true
+      → list_all test (flat_map (reads_of_variable p (v ∷ [])) (filter_map (name_of_part (v ∷ [])) qs)) ≡ true
   names_of_those [] all = all
   names_of_those (q ∷ qs) all = go (name_of_part (v ∷ []) q) (name_of_part ms q) (part_of_those test ms v has q.place q.it) (names_of_those qs) all
     where
       go : (o w : Option (List ℕ)) → ((x : List ℕ) → o ≡ Some x → w ≡ Some x)
-          → (list_all test (flat_map (sights_of p ms) (filter_map (name_of_part ms) qs)) ≡ true
-          → list_all test (flat_map (sights_of p (v ∷ [])) (filter_map (name_of_part (v ∷ [])) qs)) ≡ true)
-          → list_all test (flat_map (sights_of p ms) (cons_option w (filter_map (name_of_part ms) qs))) ≡ true
-          → list_all test (flat_map (sights_of p (v ∷ [])) (cons_option o (filter_map (name_of_part (v ∷ [])) qs))) ≡ true
+          → (list_all test (flat_map (reads_of_variable p ms) (filter_map (name_of_part ms) qs)) ≡ true
+          → list_all test (flat_map (reads_of_variable p (v ∷ [])) (filter_map (name_of_part (v ∷ [])) qs)) ≡ true)
+          → list_all test (flat_map (reads_of_variable p ms) (cons_option w (filter_map (name_of_part ms) qs))) ≡ true
+          → list_all test (flat_map (reads_of_variable p (v ∷ [])) (cons_option o (filter_map (name_of_part (v ∷ [])) qs))) ≡ true
       go None None more later all = later all
       go None (Some y) more later all = later (parts_of_all y (filter_map (name_of_part ms) qs) all).1
       go (Some x) None more later all = absurd (let is : None ≡ Some x = more x refl in let no : ⊥ = cc in no)
       go (Some x) (Some y) more later all =
           let both = parts_of_all y (filter_map (name_of_part ms) qs) all in
-          let of_x : list_all test (sights_of p ms x) ≡ true = subst (λ z. list_all test (sights_of p ms z) ≡ true) (some-injective y x (more x refl)) both.0 in
+          let of_x : list_all test (reads_of_variable p ms x) ≡ true =
+          subst (λ z. list_all test (reads_of_variable p ms z) ≡ true) (some-injective y x (more x refl)) both.0 in
           let names = filter_map (name_of_part (v ∷ [])) qs in
-          list_all-append test (sights_of p (v ∷ []) x) (flat_map (sights_of p (v ∷ [])) names)
-          ∙ and_from (list_all test (sights_of p (v ∷ []) x)) (list_all test (flat_map (sights_of p (v ∷ [])) names))
+          list_all-append test (reads_of_variable p (v ∷ []) x) (flat_map (reads_of_variable p (v ∷ [])) names)
+          ∙ and_from (list_all test (reads_of_variable p (v ∷ []) x)) (list_all test (flat_map (reads_of_variable p (v ∷ [])) names))
           (reads_of_those test ms v has (reads p x) of_x) (later both.1)
 
-pub sights_of_those : {S : Type 0} (test : CallRef → Bool) (p : Project S) (ms : List CallRef) (v : CallRef) → Contains ms v
-    → list_all test (sights p ms) ≡ true → list_all test (sights p (v ∷ [])) ≡ true
-sights_of_those test p ms v has all = names_of_those test p ms v has (parts p) all
+pub reads_of_fewer : {S : Type 0} (test : CallRef → Bool) (p : Project S) (ms : List CallRef) (v : CallRef) → Contains ms v
+    → list_all test (reads_of p ms) ≡ true → list_all test (reads_of p (v ∷ [])) ≡ true
+reads_of_fewer test p ms v has all = names_of_those test p ms v has (parts p) all
 
 -- ---- what may be seen at a place
 
@@ -159,7 +160,7 @@ module _ (p : Project Span) (ms : List CallRef) where
       let one = known_seen r.place r.it is in
       (one.0, one.1, record { variable = x; read = r; is_read = has; is_there = refl; is_seen = one.2 })
 
-  reads_see : (x : List ℕ) → All (SeesOne p ms) (sights_of p ms x)
+  reads_see : (x : List ℕ) → All (SeesOne p ms) (reads_of_variable p ms x)
   reads_see x =
       let rs = reads p x in
       let in_them : All (Contains rs) (filter (sees ms) rs) = All-filter (sees ms) (Contains rs) rs (All-contains_itself rs) in
@@ -167,41 +168,41 @@ module _ (p : Project Span) (ms : List CallRef) where
       All-map (SeesOne p ms) (λ r. r.place) (filter (sees ms) rs)
       (λ k d within. read_sees x (slice_index_or (filter (sees ms) rs) k d) (in_them k d within) (passing k d within))
 
-  names_see : (xs : List (List ℕ)) → All (SeesOne p ms) (flat_map (sights_of p ms) xs)
+  names_see : (xs : List (List ℕ)) → All (SeesOne p ms) (flat_map (reads_of_variable p ms) xs)
   names_see [] = All-nil (SeesOne p ms)
-  names_see (x ∷ xs) = All-append (SeesOne p ms) (sights_of p ms x) (flat_map (sights_of p ms) xs) (reads_see x) (names_see xs)
+  names_see (x ∷ xs) = All-append (SeesOne p ms) (reads_of_variable p ms x) (flat_map (reads_of_variable p ms) xs) (reads_see x) (names_see xs)
 
-  sights_see : All (SeesOne p ms) (sights p ms)
-  sights_see = names_see (names_of p ms)
+  all_see : All (SeesOne p ms) (reads_of p ms)
+  all_see = names_see (names_of p ms)
 
 -- ---- what is made of a value
 
 module _ (p : Project Span) (all : List CallRef) (m : CallRef) where
-  taker_made : (ms : List CallRef) → All (MadeOf p all m) ms → (v : CallRef) → Contains all v → takes_at p (sights p ms) v ≡ true → MadeOf p all m v
+  taker_made : (ms : List CallRef) → All (MadeOf p all m) ms → (v : CallRef) → Contains all v → takes_at p (reads_of p ms) v ≡ true → MadeOf p all m v
   taker_made ms made v has takes =
-      let found : Any (λ q. one_of_places (ways_at p v) q ≡ true) (sights p ms) = Any-from_list_any (one_of_places (ways_at p v)) (sights p ms) takes in
+      let found : Any (λ q. one_of_places (ways_at p v) q ≡ true) (reads_of p ms) = Any-from_list_any (one_of_places (ways_at p v)) (reads_of p ms) takes in
       let q : CallRef = found.1 in
-      let seen : SeesOne p ms q = All-contains (SeesOne p ms) (sights p ms) q (sights_see p ms) (found.0, found.2, found.3) in
+      let seen : SeesOne p ms q = All-contains (SeesOne p ms) (reads_of p ms) q (all_see p ms) (found.0, found.2, found.3) in
       further seen.0 v q (All-contains (MadeOf p all m) ms seen.0 made seen.1) has (one_of (ways_at p v) q found.4) seen.2
 
-  takers_made : (ms : List CallRef) → All (MadeOf p all m) ms → All (MadeOf p all m) (with_takers p all ms (sights p ms))
+  takers_made : (ms : List CallRef) → All (MadeOf p all m) ms → All (MadeOf p all m) (with_takers p all ms (reads_of p ms))
   takers_made ms made =
-      let test : CallRef → Bool = λ v. not (one_of_places ms v) && takes_at p (sights p ms) v in
+      let test : CallRef → Bool = λ v. not (one_of_places ms v) && takes_at p (reads_of p ms) v in
       let in_all : All (Contains all) (filter test all) = All-filter test (Contains all) all (All-contains_itself all) in
       let passing : All (λ v. test v ≡ true) (filter test all) = filter_passes test all in
       let made_one : (v : CallRef) → Contains all v → test v ≡ true → MadeOf p all m v =
-      λ v has is. taker_made ms made v has (and_parts (not (one_of_places ms v)) (takes_at p (sights p ms) v) is).1 in
+      λ v has is. taker_made ms made v has (and_parts (not (one_of_places ms v)) (takes_at p (reads_of p ms) v) is).1 in
       All-append (MadeOf p all m) ms (filter test all) made
       (λ k d within. made_one (slice_index_or (filter test all) k d) (in_all k d within) (passing k d within))
 
   all_made : (times : ℕ) (ms : List CallRef) → All (MadeOf p all m) ms → All (MadeOf p all m) (with_takers_of_takers p all times ms)
   all_made zero ms made = made
-  all_made (suc times) ms made = all_made times (with_takers p all ms (sights p ms)) (takers_made ms made)
+  all_made (suc times) ms made = all_made times (with_takers p all ms (reads_of p ms)) (takers_made ms made)
 
   keeps : (times : ℕ) (ms : List CallRef) → Contains ms m → Contains (with_takers_of_takers p all times ms) m
   keeps zero ms has = has
   keeps (suc times) ms has =
-      let seen = sights p ms in
+      let seen = reads_of p ms in
       keeps times (with_takers p all ms seen) (Contains-append_left ms (filter (λ v. not (one_of_places ms v) && takes_at p seen v) all) m has)
 
   only_it : All (MadeOf p all m) (m ∷ [])
@@ -228,16 +229,16 @@ module _ (p : Project Span) (c : Placed (Call Span)) where
   unshared_way : (ms : List CallRef) (q : CallRef) → is_way p c ms q || (true && is_use p q) ≡ true → ReadOrUsed p c ms q
   unshared_way ms q is = elim (or_cases (is_way p c ms q) (is_use p q) is) [ inl a_way ↦ inl (way ms q a_way) | inr used ↦ inr (one_of (uses p) q used) ]
 
-  each_read : (Q : CallRef → Type 0) (test : CallRef → Bool) (ms : List CallRef) → ((q : CallRef) → test q ≡ true → Q q) → list_all test (sights p ms) ≡ true
-      → All (λ v. All Q (sights p (v ∷ []))) ms
-  each_read Q test ms means all = All-weaker (Contains ms) (λ v. All Q (sights p (v ∷ []))) of_one ms (All-contains_itself ms)
+  each_read : (Q : CallRef → Type 0) (test : CallRef → Bool) (ms : List CallRef) → ((q : CallRef) → test q ≡ true → Q q) → list_all test (reads_of p ms) ≡ true
+      → All (λ v. All Q (reads_of p (v ∷ []))) ms
+  each_read Q test ms means all = All-weaker (Contains ms) (λ v. All Q (reads_of p (v ∷ []))) of_one ms (All-contains_itself ms)
     where
-      of_one : (v : CallRef) → Contains ms v → All Q (sights p (v ∷ []))
+      of_one : (v : CallRef) → Contains ms v → All Q (reads_of p (v ∷ []))
       of_one v has =
-          All-weaker (λ q. test q ≡ true) Q means (sights p (v ∷ [])) (AllPass-from_list_all test (sights p (v ∷ [])) (sights_of_those test p ms v has all))
+          All-weaker (λ q. test q ≡ true) Q means (reads_of p (v ∷ [])) (AllPass-from_list_all test (reads_of p (v ∷ [])) (reads_of_fewer test p ms v has all))
 
   spreads : (m : CallRef) (Q : List CallRef → CallRef → Type 0) (test : CallRef → Bool) → ((q : CallRef) → test q ≡ true → Q (from_maker p c m) q)
-      → list_all test (sights p (from_maker p c m)) ≡ true → Spreads p c m Q
+      → list_all test (reads_of p (from_maker p c m)) ≡ true → Spreads p c m Q
   spreads m Q test means all =
       let followed = (follow_call p c).followed in
       record {
@@ -254,7 +255,7 @@ module _ (p : Project Span) (c : Placed (Call Span)) where
   unshared_spreads m unshared =
       spreads m (ReadOrUsed p c) (λ q. is_way p c (from_maker p c m) q || (true && is_use p q)) (unshared_way (from_maker p c m)) unshared
 
-  pub own_reads : (m : CallRef) → is_own p c m ≡ true → All (λ v. All (ReadFor p c (from_maker p c m)) (sights p (v ∷ []))) (from_maker p c m)
+  pub own_reads : (m : CallRef) → is_own p c m ≡ true → All (λ v. All (ReadFor p c (from_maker p c m)) (reads_of p (v ∷ []))) (from_maker p c m)
   own_reads m own =
       each_read (ReadFor p c (from_maker p c m)) (λ q. is_way p c (from_maker p c m) q || (false && is_use p q)) (from_maker p c m)
       (own_way (from_maker p c m)) own
@@ -273,4 +274,4 @@ module _ (p : Project Span) (c : Placed (Call Span)) where
       and_from (loose q) (list_all loose qs) first (closed_with_uses ms qs both.1)
 
   pub own_is_unshared : (m : CallRef) → is_own p c m ≡ true → is_unshared p c m ≡ true
-  own_is_unshared m own = closed_with_uses (from_maker p c m) (sights p (from_maker p c m)) own
+  own_is_unshared m own = closed_with_uses (from_maker p c m) (reads_of p (from_maker p c m)) own

@@ -9,7 +9,7 @@ use Rattle.meson_following.specs.Flows.{is_in}
 use Rattle.meson_following.specs.Following.{follow_call}
 use Rattle.meson_following.specs.Makers.{Known}
 use Rattle.meson_following.specs.Reads.{reads}
-use Rattle.meson_following.specs.Sharing.{from_maker, is_own, is_unshared, sees, sights, uses, ways_at, ways_of_call}
+use Rattle.meson_following.specs.Sharing.{from_maker, is_own, is_unshared, sees, reads_of, uses, ways_at, ways_of_call}
 
 -- what is read at a place may be the value of a maker
 pub record MaySee (p : Project Span) (q m : CallRef) : Type 0 where
@@ -37,7 +37,7 @@ pub record Spreads (p : Project Span) (c : Placed (Call Span)) (m : CallRef) (Q 
   pub made : List CallRef
   pub has_it : Contains made m
   pub are_made : All (MadeOf p (follow_call p c).followed m) made
-  pub are_read : All (λ v. All (Q made) (sights p (v ∷ []))) made
+  pub are_read : All (λ v. All (Q made) (reads_of p (v ∷ []))) made
 
 -- the law: what is in an own list is read nowhere but for the sources of the call
 abbrev pub OwnAreReadForOne : Type 0
@@ -63,7 +63,7 @@ IsElsewhere p c m e = AreApart e c.place × All (AreApart e) (from_maker p c m)
 
 -- at none of these places can be read what is made of the value of a maker
 abbrev pub ReadNothingOf : Project Span → Placed (Call Span) → CallRef → List CallRef → Type 0
-ReadNothingOf p c m qs = All (λ v. (q : CallRef) → Contains qs q → Contains (sights p (v ∷ [])) q → ⊥) (from_maker p c m)
+ReadNothingOf p c m qs = All (λ v. (q : CallRef) → Contains qs q → Contains (reads_of p (v ∷ [])) q → ⊥) (from_maker p c m)
 
 -- the law: no other call has what is in an own list among its sources, and no other value is made of it
 abbrev pub OthersReadNothing : Type 0
@@ -72,8 +72,8 @@ OthersReadNothing = (p : Project Span) (c : Placed (Call Span)) (m e : CallRef) 
 
 -- a value is read by the sources of a call, or by a value that is
 pub data IsReadBy (p : Project Span) (d : Placed (Call Span)) : CallRef → Type 0 where
-  at_once : (v q : CallRef) → Contains (ways_of_call d) q → Contains (sights p (v ∷ [])) q → IsReadBy p d v
-  through : (u v q : CallRef) → IsReadBy p d u → Contains (ways_at p u) q → Contains (sights p (v ∷ [])) q → IsReadBy p d v
+  at_once : (v q : CallRef) → Contains (ways_of_call d) q → Contains (reads_of p (v ∷ [])) q → IsReadBy p d v
+  through : (u v q : CallRef) → IsReadBy p d u → Contains (ways_at p u) q → Contains (reads_of p (v ∷ [])) q → IsReadBy p d v
 
 -- the law: no other call reads what is in an own list, through however many variables
 abbrev pub OwnReachNoOther : Type 0

@@ -48,8 +48,9 @@ made_as name es = does (codes "executable") (text name ∷ es)
 abbrev other_target : S
 other_target = made_as (codes "f") (variable src ∷ [])
 
-abbrev names_it : List ℕ → E → S
-names_it x e = assign tt (bare_name x) assigns.Set e
+-- `x = e`
+abbrev sets_other : (x : List ℕ) → E → S
+sets_other x e = assign tt (bare_name x) assigns.Set e
 
 -- `f(KEY: src)`
 abbrev with_keyword : (f : List ℕ) → (key : List ℕ) → S
@@ -63,8 +64,8 @@ with_target s = alone (sets (codes "a.c") ∷ s ∷ target ∷ [])
 abbrev made_of : E → Project Nowhere
 made_of e = alone (sets (codes "a.c") ∷ made_as (codes "e") (e ∷ []) ∷ [])
 
-abbrev all_of_it : List ℕ
-all_of_it = codes "all"
+abbrev everything : List ℕ
+everything = codes "all"
 
 -- ---- own lists
 
@@ -85,26 +86,27 @@ Alone =
     -- another target reads the variable before it is set to this list
     × IsOwn (alone (sets (codes "b.c") ∷ other_target ∷ sets (codes "a.c") ∷ target ∷ [])) 3 (value_of 2)
 
+-- `src = ['a.c']`, `all = src + ['b.c']`, `executable('e', all)`, and these
+abbrev through_all : List S → Project Nowhere
+through_all more =
+    alone (sets (codes "a.c") ∷ sets_other everything (sum_of (variable src) (holding (codes "b.c"))) ∷ made_as (codes "e") (variable everything ∷ []) ∷ more)
+
 -- by other variables that the target alone reads
 abbrev pub Through : Type 0
 Through =
-    -- `all = src + ['b.c']`
-    IsOwn (alone (sets (codes "a.c") ∷ names_it all_of_it (sum_of (variable src) (holding (codes "b.c")))
-    ∷ made_as (codes "e") (variable all_of_it ∷ []) ∷ [])) 2 (value_of 0)
+    IsOwn (through_all []) 2 (value_of 0)
     -- by two variables, both of which the target reads
-    × IsOwn (alone (sets (codes "a.c") ∷ names_it (codes "x") (variable src) ∷ names_it (codes "y") (variable src)
+    × IsOwn (alone (sets (codes "a.c") ∷ sets_other (codes "x") (variable src) ∷ sets_other (codes "y") (variable src)
     ∷ made_as (codes "e") (variable (codes "x") ∷ variable (codes "y") ∷ []) ∷ [])) 3 (value_of 0)
     -- by three, one after another
-    × IsOwn (alone (sets (codes "a.c") ∷ names_it (codes "x") (variable src) ∷ names_it (codes "y") (variable (codes "x"))
-    ∷ names_it (codes "z") (variable (codes "y")) ∷ made_as (codes "e") (variable (codes "z") ∷ []) ∷ [])) 4 (value_of 0)
+    × IsOwn (alone (sets (codes "a.c") ∷ sets_other (codes "x") (variable src) ∷ sets_other (codes "y") (variable (codes "x"))
+    ∷ sets_other (codes "z") (variable (codes "y")) ∷ made_as (codes "e") (variable (codes "z") ∷ []) ∷ [])) 4 (value_of 0)
     -- by two variables, of which another target reads one
-    × IsShared (alone (sets (codes "a.c") ∷ names_it (codes "x") (variable src) ∷ names_it (codes "y") (variable src)
+    × IsShared (alone (sets (codes "a.c") ∷ sets_other (codes "x") (variable src) ∷ sets_other (codes "y") (variable src)
     ∷ made_as (codes "e") (variable (codes "x") ∷ []) ∷ made_as (codes "f") (variable (codes "y") ∷ []) ∷ [])) 3 (value_of 0)
-    -- a list made of a shared one: `all` is read here alone, `src` by another target too
-    × IsOwn (alone (sets (codes "a.c") ∷ names_it all_of_it (sum_of (variable src) (holding (codes "b.c"))) ∷ made_as (codes "e") (variable all_of_it ∷ [])
-    ∷ other_target ∷ [])) 2 (value_of 1)
-    × IsShared (alone (sets (codes "a.c") ∷ names_it all_of_it (sum_of (variable src) (holding (codes "b.c"))) ∷ made_as (codes "e") (variable all_of_it ∷ [])
-    ∷ other_target ∷ [])) 2 (value_of 0)
+    -- where another target reads `src`, but not `all`
+    × IsOwn (through_all (other_target ∷ [])) 2 (value_of 1)
+    × IsShared (through_all (other_target ∷ [])) 2 (value_of 0)
 
 -- ---- shared lists
 
@@ -126,7 +128,7 @@ OtherTargets =
     × IsShared (with_target (with_keyword (codes "declare_dependency") (codes "sources"))) 2 (value_of 0)
     × IsShared (with_target (does (codes "set_variable") (text (codes "x") ∷ variable src ∷ []))) 2 (value_of 0)
     -- a variable to which `files` gives it, and which is not read
-    × IsShared (with_target (names_it (codes "x") (calling (codes "files") (variable src ∷ [])))) 2 (value_of 0)
+    × IsShared (with_target (sets_other (codes "x") (calling (codes "files") (variable src ∷ [])))) 2 (value_of 0)
 
 -- read otherwise than by a way
 abbrev pub OtherReads : Type 0
@@ -140,7 +142,7 @@ OtherReads =
     -- `src.length()`
     × IsShared (with_target (evaluate (postfix tt (variable src) (tail (method tt (bare_name (codes "length")) (elements [])) no_tails)))) 2 (value_of 0)
     -- `x = {'k': src}`
-    × IsShared (with_target (names_it (codes "x") (dictionary (listing tt false (arguments_of (pair tt (text (codes "k")) (variable src) ∷ [])))))) 2
+    × IsShared (with_target (sets_other (codes "x") (dictionary (listing tt false (arguments_of (pair tt (text (codes "k")) (variable src) ∷ [])))))) 2
     (value_of 0)
     -- the condition of a conditional, in the target itself
     × IsShared (made_of (conditional tt (variable src) (variable src) (holding (codes "b.c")))) 1 (value_of 0)
@@ -157,10 +159,10 @@ OtherNames =
     -- `message(f'@src@')`
     IsShared (with_target (does (codes "message") (string tt quotes.Format (literal (codes "@src@")) ∷ []))) 2 (value_of 0)
     -- `get_variable('src')`, of a name that is computed, and of one that it cannot be
-    × IsShared (with_target (names_it (codes "x") (calling (codes "get_variable") (text src ∷ [])))) 2 (value_of 0)
+    × IsShared (with_target (sets_other (codes "x") (calling (codes "get_variable") (text src ∷ [])))) 2 (value_of 0)
     × IsShared (with_target (does (codes "message") (calling (codes "get_variable") (text src ∷ []) ∷ []))) 2 (value_of 0)
-    × IsShared (with_target (names_it (codes "x") (calling (codes "get_variable") (variable (codes "k") ∷ [])))) 2 (value_of 0)
-    × IsOwn (with_target (names_it (codes "x") (calling (codes "get_variable") (sum_of (text (codes "have_")) (variable (codes "k")) ∷ [])))) 2 (value_of 0)
+    × IsShared (with_target (sets_other (codes "x") (calling (codes "get_variable") (variable (codes "k") ∷ [])))) 2 (value_of 0)
+    × IsOwn (with_target (sets_other (codes "x") (calling (codes "get_variable") (sum_of (text (codes "have_")) (variable (codes "k")) ∷ [])))) 2 (value_of 0)
 
 -- ---- uses
 

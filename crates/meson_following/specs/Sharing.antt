@@ -126,13 +126,13 @@ name_of_part ms q = elim q.it [ an_expression e ↦ None | a_statement s ↦ nam
 abbrev pub names_of : {S : Type 0} → Project S → List CallRef → List (List ℕ)
 names_of p ms = filter_map (name_of_part ms) (parts p)
 
--- the places at which a variable is read and one of these may be seen
-abbrev pub sights_of : {S : Type 0} → Project S → List CallRef → List ℕ → List CallRef
-sights_of p ms x = places (filter (sees ms) (reads p x))
+-- the places at which a variable is read that may hold the value of one of these there
+abbrev pub reads_of_variable : {S : Type 0} → Project S → List CallRef → List ℕ → List CallRef
+reads_of_variable p ms x = places (filter (sees ms) (reads p x))
 
--- the places at which one of these may be seen
-abbrev pub sights : {S : Type 0} → Project S → List CallRef → List CallRef
-sights p ms = flat_map (sights_of p ms) (names_of p ms)
+-- the places at which the value of one of these may be read
+abbrev pub reads_of : {S : Type 0} → Project S → List CallRef → List CallRef
+reads_of p ms = flat_map (reads_of_variable p ms) (names_of p ms)
 
 -- ---- whether a list is read for one target alone
 
@@ -146,20 +146,20 @@ is_way p c ms q = one_of_places (ways_of_call c) q || is_way_of_makers p ms q
 -- Each read that may see one of these makers is a way of the call or of the value of one of them; or a use, if uses are allowed. An f-string, `get_variable`, a
 -- condition, an index and a loop are no ways.
 abbrev pub is_closed : {S : Type 0} → Project S → Placed (Call S) → Bool → List CallRef → Bool
-is_closed p c with_uses ms = list_all (λ q. is_way p c ms q || (with_uses && is_use p q)) (sights p ms)
+is_closed p c with_uses ms = list_all (λ q. is_way p c ms q || (with_uses && is_use p q)) (reads_of p ms)
 
 -- whether a way of the value of a maker is at one of these places
 abbrev pub takes_at : {S : Type 0} → Project S → List CallRef → CallRef → Bool
 takes_at p seen v = list_any (one_of_places (ways_at p v)) seen
 
--- with those of the makers `all` that take the value of one of them; it may be seen at the places `seen`
+-- with those of the makers `all` that take the value of one of them, which may be read at the places `seen`
 abbrev pub with_takers : {S : Type 0} → Project S → List CallRef → List CallRef → List CallRef → List CallRef
 with_takers p all ms seen = ms ++ filter (λ v. not (one_of_places ms v) && takes_at p seen v) all
 
--- and with those that take the value of one of these, and so on, this many times
+-- with these, then with those that take the value of one of these, and so on, this many times
 abbrev pub with_takers_of_takers : {S : Type 0} → Project S → List CallRef → ℕ → List CallRef → List CallRef
 with_takers_of_takers p all zero ms = ms
-with_takers_of_takers p all (suc times) ms = with_takers_of_takers p all times (with_takers p all ms (sights p ms))
+with_takers_of_takers p all (suc times) ms = with_takers_of_takers p all times (with_takers p all ms (reads_of p ms))
 
 -- A maker, and those that the call follows whose values are made of its value. Each time there is one more of them, or no more is found: so as many times as
 -- there are makers are enough.
