@@ -79,6 +79,7 @@ Alone =
     × IsOwn (made_of (paren tt (variable src))) 1 (value_of 0)
     × IsOwn (made_of (conditional tt (variable (codes "x")) (variable src) (holding (codes "b.c")))) 1 (value_of 0)
     × IsOwn (made_of (sum_of (holding (codes "b.c")) (variable src))) 1 (value_of 0)
+    × IsOwn (made_of (row tt (holding (codes "b.c")) (operand op.Plus (holding (codes "c.c")) (operand op.Plus (variable src) no_operands)))) 1 (value_of 0)
     -- set in another folder
     × IsOwn (beside_s (enters (codes "s") ∷ target ∷ []) (sets (codes "a.c") ∷ [])) 1 (place 1 (0 ∷ 0 ∷ []))
     -- added in a branch

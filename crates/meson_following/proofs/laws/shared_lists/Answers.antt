@@ -5,7 +5,7 @@ use Rattle.meson_following.proofs.laws.shared_lists.Goals as goal
 
 pub returns-clause-alone : goal.returns-clause-alone
 unfolding encode_utf8 chars is_utf8
-returns-clause-alone c = (refl, refl, refl, refl, refl, refl, refl, refl, refl, refl)
+returns-clause-alone c = (refl, refl, refl, refl, refl, refl, refl, refl, refl, refl, refl)
 
 pub returns-clause-through : goal.returns-clause-through
 unfolding encode_utf8 chars is_utf8
