@@ -105,7 +105,7 @@ fn calls_there(
     ensures { IfOk result (λ e. e ≡ calls_there project.now command.now telling.entry.most telling.entry.more.now telling.entry.others.now help.now) }
 {
     let subject = subject_of(command);
-    let calls = calls_named(alloc, project, subject.role, subject.name.id)?;
+    let calls = calls_named(alloc, project, subject.role, subject.name)?;
     let mut notes = Vec::new(alloc);
     add_few(alloc, &mut notes, telling, calls.get())?;
     with_help(alloc, notes, help)
@@ -208,7 +208,7 @@ pub(crate) fn in_use(
 {
     match command {
         Command::TargetRemove { target } => {
-            let notes = used_notes(alloc, project, target.id.get(), name)?;
+            let notes = used_notes(alloc, project, target.as_name(), name)?;
             with_help(
                 alloc,
                 notes,

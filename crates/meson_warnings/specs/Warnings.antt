@@ -11,8 +11,8 @@ use Rattle.meson_warnings.specs.SharedLists.{shared_by_adding, shared_by_removin
 use Rattle.meson_warnings.specs.UnsetNames.{unset_names}
 
 abbrev pub warnings : Loaded → Command → List Note
-warnings l (command.KwargsSet r name pairs) = flat_map (λ p. lost_value l r name p.0) pairs ++ unset_names l r name.id pairs
-warnings l (command.KwargsAdd r name pairs) = unset_names l r name.id pairs
+warnings l (command.KwargsSet r name pairs) = flat_map (λ p. lost_value l r name p.0) pairs ++ unset_names l r name pairs
+warnings l (command.KwargsAdd r name pairs) = unset_names l r name pairs
 warnings l (command.SourcesAdd target names) = into_call l target names ++ shared_by_adding l target names
 warnings l (command.SourcesRemove target names) = shared_by_removing l target names
 warnings l (command.TargetRemove target) = left_variables l target

@@ -29,7 +29,7 @@ fn warn_of_set(
     pairs: &[(Text, Setting)],
 ) -> Result<Vec<Note>, AllocError>
     ensures { let role = subject.entry.role in let name = name_at subject.entry.name in
-        IfOk result (λ notes. notes.items ≡ flat_map (λ p. lost_value project.now role name p.0) pairs.now ++ unset_names project.now role name.id pairs.now) }
+        IfOk result (λ notes. notes.items ≡ flat_map (λ p. lost_value project.now role name p.0) pairs.now ++ unset_names project.now role name pairs.now) }
 {
     let mut notes = lost_values(alloc, project, subject, pairs)?;
     let mut more = unset_names(alloc, project, subject, pairs)?;

@@ -13,7 +13,7 @@ returns-in-KwargsSet c =
     let role = c.in-KwargsSet.role in
     IfOk-weaker c.warn_of_set.result _ _
     (λ notes is. is
-    ∙ ap₂ (λ n ps. flat_map (λ p. lost_value l role n p.0) ps ++ unset_names l role n.id ps) c.as_name.ensures c.get.ensures
+    ∙ ap₂ (λ n ps. flat_map (λ p. lost_value l role n p.0) ps ++ unset_names l role n ps) c.as_name.ensures c.get.ensures
     ∙ sym (ap (warnings l) c.in-KwargsSet.is)) c.warn_of_set.ensures
 
 pub returns-in-TargetRemove : goal.returns-in-TargetRemove
