@@ -33,11 +33,15 @@ within_called l w r id =
     let cs = found_among (within w (parts (project l))) r id in
     all_places (project l) cs (every_called (project l) cs (found_stand (project l) w r id))
 
-pub named_called : (l : Loaded) (r : Role) (name : CallName) (cs : List CallRef) → places_named (project l) r name ≡ Ok cs → All (IsCall l) cs
-named_called l r name cs is = go (searched_file (project_names (project l)) name.folder) is
-  where
-    go : (o : Result (Option ℕ) Refusal) → then_ok o (λ w. Ok {E = Refusal} (places (found_among (within w (parts (project l))) r name.id))) ≡ Ok cs → All (IsCall l) cs
-    go (Err e) no = absurd (let never : ⊥ = cc in never)
-    go (Ok w) same =
-        let are : places (found_among (within w (parts (project l))) r name.id) ≡ cs = cc in
-        subst (All (IsCall l)) are (within_called l w r name.id)
+module _ (l : Loaded) (r : Role) (name : CallName) where
+  abbrev named_in : Option ℕ → Result (List CallRef) Refusal
+  named_in w = Ok (places (found_among (within w (parts (project l))) r name.id))
+
+  pub named_called : (cs : List CallRef) → places_named (project l) r name ≡ Ok cs → All (IsCall l) cs
+  named_called cs is = go (searched_file (project_names (project l)) name.folder) is
+    where
+      go : (o : Result (Option ℕ) Refusal) → then_ok o named_in ≡ Ok cs → All (IsCall l) cs
+      go (Err e) same = absurd (let never : ⊥ = cc in never)
+      go (Ok w) same =
+          let are : places (found_among (within w (parts (project l))) r name.id) ≡ cs = cc in
+          subst (All (IsCall l)) are (within_called l w r name.id)

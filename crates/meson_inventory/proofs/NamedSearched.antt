@@ -43,15 +43,19 @@ one_found w p role.Project id c is = go (role_calls p role.Project) is
   where
     go : (projects : List (Placed (Call Span))) → then_ok (any_project projects) (λ _. only_one (found_among (within w (parts p)) role.Project id)) ≡ Ok c
         → found_among (within w (parts p)) role.Project id ≡ c ∷ []
-    go [] no = absurd (let never : ⊥ = cc in never)
+    go [] same = absurd (let never : ⊥ = cc in never)
     go (q ∷ projects) same = only (found_among (within w (parts p)) role.Project id) c same
+
+-- those that are named in the files that are searched
+abbrev named_within : Loaded → Role → CallName → Option ℕ → Result (List CallRef) Refusal
+named_within l r name w = Ok (places (found_among (within w (parts (project l))) r name.id))
 
 pub one_is_named : OneIsNamed
 one_is_named l r name c is = go (searched_file (project_names (project l)) name.folder) is
   where
     go : (o : Result (Option ℕ) Refusal) → then_ok o (λ w. call_within w (project l) r name.id) ≡ Ok c
-        → held_named l (then_ok o (λ w. Ok (places (found_among (within w (parts (project l))) r name.id)))) ≡ held_calls l (c.place ∷ [])
-    go (Err e) no = absurd (let never : ⊥ = cc in never)
+        → held_named l (then_ok o (named_within l r name)) ≡ held_calls l (c.place ∷ [])
+    go (Err e) same = absurd (let never : ⊥ = cc in never)
     go (Ok w) same = ap (λ cs. held_calls l (places cs)) (one_found w (project l) r name.id c same)
 
 -- ---- those of one file
@@ -96,7 +100,7 @@ held_in : (l : Loaded) (n : ℕ) (c : CallRef) (h : HeldCall) → c.file ≡ n �
 held_in l n c h at is = go (head (project l) c) is
   where
     go : (o : Option Head) → option_map (λ k. record { file = c.file; head = k; variable = variable_of (project l) c; end = call_end (expression_at (project l) c) }) o ≡ Some h → h.file ≡ n
-    go None no = absurd (let never : ⊥ = cc in never)
+    go None same = absurd (let never : ⊥ = cc in never)
     go (Some k) same = ap (λ (x : HeldCall). x.file) (sym (some-injective _ h same)) ∙ at
 
 all_held : (l : Loaded) (n : ℕ) (cs : List (Placed (Call Span))) → Every (IsIn n) cs → All (λ (h : HeldCall). h.file ≡ n) (held_calls l (places cs))
@@ -110,5 +114,5 @@ all_held l n (c ∷ cs) every = go (held_call l c.place) refl (all_held l n cs e
 
 pub named_are_searched : NamedAreSearched
 named_are_searched l r name n is =
-    subst (λ o. All (λ (h : HeldCall). h.file ≡ n) (held_named l (then_ok o (λ w. Ok {E = Refusal} (places (found_among (within w (parts (project l))) r name.id)))))) (sym is)
+    subst (λ o. All (λ (h : HeldCall). h.file ≡ n) (held_named l (then_ok o (named_within l r name)))) (sym is)
     (all_held l n (found_among (within (Some n) (parts (project l))) r name.id) (found_in n (within (Some n) (parts (project l))) (all_in_file n (parts (project l))) r name.id))
