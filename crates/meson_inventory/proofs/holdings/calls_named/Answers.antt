@@ -10,7 +10,7 @@ use Rattle.meson_inventory.proofs.holdings.calls_named.Goals as goal
 pub held_calls-requires : goal.held_calls-requires
 held_calls-requires c =
     let l = c.args.project.now in
-    subst (All (IsCall l)) (sym c.as_slice.ensures.value) (named_called l c.args.role (name_at c.args.name) c.in-Ok.field-0.items c.in-Ok.ensures.all)
+    subst (All (IsCall l)) (sym c.as_slice.ensures.value) (named_called l c.args.role (name_at c.args.name) c.in-Ok.places.items c.in-Ok.ensures.all)
 
 pub returns-in-Ok : goal.returns-in-Ok
 returns-in-Ok c =
