@@ -103,8 +103,8 @@ fn any_key_line(
     key: &str,
     words: (&'static str, &'static str, &'static str),
 ) -> Result<Text, AllocError>
-    ensures { let words = (words.entry.0.now, words.entry.1.now, words.entry.2.now) in
-        IfOk result (λ line. line ≡ any_key_line subject.entry.role (name_at subject.entry.name) key.now words) }
+    ensures { let words = words.entry in IfOk result
+        (λ line. line ≡ any_key_line subject.entry.role (name_at subject.entry.name) key.now (words.0.now, words.1.now, words.2.now)) }
 {
     let program = program_words(alloc, subject.name.folder)?;
     let place = key_words(alloc, subject.role, subject.name.id, key)?;
