@@ -1,2 +1,3 @@
 mod SomeNames
 mod Told
+mod SaidOf
