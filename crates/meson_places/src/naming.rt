@@ -1,6 +1,6 @@
 //! Whether what is noted of a file is what a name finds.
 
-ghost use Rattle.std.specs.Prelude.{◌≡◌, IfOk};
+ghost use Rattle.std.specs.Prelude.{◌≡◌, IfOk, not};
 ghost use Rattle.meson_syntax.specs.View.{expr_view, list_view, text_at};
 ghost use Rattle.meson_syntax.specs.Grammar.{expression_words, listing_words};
 ghost use Rattle.meson_calls.specs.Calls.{call_of, first_literal, is};
@@ -49,6 +49,19 @@ fn has_text(alloc: Global, source: &[u8], arguments: &List, text: &Text) -> Resu
     }
 }
 
+/// Whether the first argument without a name is not a literal of this text.
+fn has_other_text(
+    alloc: Global,
+    source: &[u8],
+    arguments: &List,
+    text: &Text,
+) -> Result<bool, AllocError>
+    requires { AreGood (listing_words (list_view source.now arguments.now) Bracket.Round) }
+    ensures { (function : Source) → IfOk result (λ b. b ≡ not (is text.now (first_literal (call_with function (list_view source.now arguments.now))))) }
+{
+    Ok(!has_text(alloc, source, arguments, text)?)
+}
+
 /// Whether an expression is a call of the function whose first argument without a name is not a literal of this text.
 fn calls_other(
     alloc: Global,
@@ -67,8 +80,8 @@ fn calls_other(
             ..
         } => {
             if calls_callee(source, callee, *name, arguments) {
-                let named = has_text(alloc, source, arguments, id)?;
-                Ok(!named)
+                let other = has_other_text(alloc, source, arguments, id)?;
+                Ok(other)
             } else {
                 Ok(false)
             }

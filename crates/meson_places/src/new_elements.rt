@@ -30,7 +30,7 @@ use crate::lone_values::add_to_lone;
 use crate::name::Sources;
 use crate::several::{Held, add_array, has_room_for_all, put_at};
 use crate::slots::Slot;
-use crate::value_lists::{FoundList, lists_of};
+use crate::value_lists::{FoundList, last_list, lists_of};
 use crate::values::given_bytes;
 use meson_calls::place::child_place;
 use meson_calls::{CallRef, Refusal};
@@ -113,9 +113,8 @@ fn add_to_value(
 {
     let lists = lists_of(alloc, source, place, value)?;
     let all = lists.as_slice();
-    match all {
-        [] => Ok(None),
-        [.., list] => {
+    match last_list(all) {
+        Some(list) => {
             let known = Known::Lists(all);
             let to = Receiver {
                 source,
@@ -125,6 +124,7 @@ fn add_to_value(
             let steps = add_to_list(alloc, sources, to, values)?;
             Ok(Some(steps))
         }
+        None => Ok(None),
     }
 }
 
