@@ -31,6 +31,7 @@ mod Numbers
 pub mod OneMeaning
 mod OnLines
 mod OwnAssigned
+mod OwnOperands
 mod OwnValues
 mod Pushed
 mod Refused

@@ -12,6 +12,7 @@ pub mod Expressions
 pub mod NamedValues
 pub mod Names
 pub mod NewElements
+pub mod Operands
 pub mod Removals
 pub mod Replacements
 pub mod Room
