@@ -15,7 +15,11 @@ use meson_steps::given::Given;
 use std::alloc::{AllocError, Global};
 
 /// Whether the value at a place has a list.
-pub(crate) fn has_lists(alloc: Global, sources: Sources<'_>, place: &CallRef) -> Result<bool, AllocError>
+pub(crate) fn has_lists(
+    alloc: Global,
+    sources: Sources<'_>,
+    place: &CallRef,
+) -> Result<bool, AllocError>
     requires { AreParsed sources.files.now sources.trees.now }
     ensures { IfOk result (λ b. b ≡ has_lists (project (loaded_in sources.entry)) place.now) }
 {

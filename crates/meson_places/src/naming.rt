@@ -49,17 +49,11 @@ fn has_text(alloc: Global, source: &[u8], arguments: &List, text: &Text) -> Resu
     }
 }
 
-/// Whether the first argument without a name is not a literal of this text.
-fn has_other_text(
-    alloc: Global,
-    source: &[u8],
-    arguments: &List,
-    text: &Text,
-) -> Result<bool, AllocError>
-    requires { AreGood (listing_words (list_view source.now arguments.now) Bracket.Round) }
-    ensures { (function : Source) → IfOk result (λ b. b ≡ not (is text.now (first_literal (call_with function (list_view source.now arguments.now))))) }
+/// Whether a call is another one than that of a name, where it may have that name.
+fn is_other(named: bool) -> bool
+    ensures { result ≡ not named }
 {
-    Ok(!has_text(alloc, source, arguments, text)?)
+    !named
 }
 
 /// Whether an expression is a call of the function whose first argument without a name is not a literal of this text.
@@ -80,8 +74,8 @@ fn calls_other(
             ..
         } => {
             if calls_callee(source, callee, *name, arguments) {
-                let other = has_other_text(alloc, source, arguments, id)?;
-                Ok(other)
+                let named = has_text(alloc, source, arguments, id)?;
+                Ok(is_other(named))
             } else {
                 Ok(false)
             }

@@ -9,7 +9,7 @@ ghost use Rattle.meson_calls.specs.Loading.{AreParsed, IsProject, project};
 ghost use Rattle.meson_calls.specs.Refusals.{RefusedAs};
 ghost use Rattle.meson_places.specs.Behind.{first_that};
 ghost use Rattle.meson_places.specs.Names.{loaded_in};
-ghost use Rattle.meson_places.specs.Operands.{behind_at, children_from, followed_slot, gaining_among, gaining_at, losing_at, operand_count, operand_value, operands_at, own_value, owned_value, says_behind};
+ghost use Rattle.meson_places.specs.Operands.{behind_at, children_from, followed_slot, gaining_among, gaining_at, losing_at, operand_count, operand_value, operand_value_at, operands_at, own_value, owned_value, says_behind};
 ghost use Rattle.meson_places.specs.inside.Behind.{behind_view};
 
 use crate::list_search::{first_with_all, has_lists};
@@ -18,7 +18,9 @@ use crate::named_values::slot_place;
 use crate::slots::Slot;
 use crate::uses::is_read_once;
 use crate::value_lists::are_plus;
-use crate::variables::{Variable, behind_value, find_value, has_own_lists, says_one_at, slot_behind};
+use crate::variables::{
+    Variable, behind_value, find_value, has_own_lists, says_one_at, slot_behind,
+};
 use meson_calls::place::{child_place, copy_place};
 use meson_calls::roles::identifier_text;
 use meson_calls::{CallRef, Refusal};
@@ -43,16 +45,13 @@ fn operand_count(value: &Expr) -> usize
 }
 
 /// The places of the first children of what is at a place.
-fn first_children(
-    alloc: Global,
-    place: &CallRef,
-    many: usize,
-) -> Result<Vec<CallRef>, AllocError>
+fn first_children(alloc: Global, place: &CallRef, many: usize) -> Result<Vec<CallRef>, AllocError>
     ensures { IfOk result (λ found. found.items ≡ children_from place.now 0 many) }
 {
     let mut places = Vec::new(alloc);
     for i in 0..many {
-        places.push(child_place(alloc, place.as_place(), i)?)?;
+        let child = child_place(alloc, place.as_place(), i)?;
+        places.push(child)?;
     }
     Ok(places)
 }
@@ -205,14 +204,14 @@ fn owned_value(
     alloc: Global,
     sources: Sources<'_>,
     variable: Variable<'_>,
-) -> Result<CallRef, Refusal>
+) -> Result<Option<CallRef>, Refusal>
     requires parsed { AreParsed sources.files.now sources.trees.now }
     requires named { IsIdentifier variable.name.now }
-    ensures found { let b = Some (behind_view variable.entry) in IfOk result (λ c. owned_value sources.entry.files.now (project (loaded_in sources.entry)) b ≡ Ok (Some c)) }
+    ensures found { let b = Some (behind_view variable.entry) in IfOk result (λ o. owned_value sources.entry.files.now (project (loaded_in sources.entry)) b ≡ Ok o) }
     ensures refused { let b = Some (behind_view variable.entry) in RefusedAs result (owned_value sources.entry.files.now (project (loaded_in sources.entry)) b) }
 {
     if is_read_once(alloc, sources, variable.name, &variable.read_at)? {
-        return Ok(variable.value_at);
+        return Ok(Some(variable.value_at));
     }
     let name = String::from_str(alloc, identifier_text(variable.name))?;
     Err(Refusal::Shared(Text::of(name)))
@@ -238,12 +237,36 @@ fn losing_at(
     }
     let operands = operands_at(alloc, sources, place)?;
     match first_behind(alloc, sources, values, operands.as_slice())? {
-        Some(variable) => Ok(Some(owned_value(alloc, sources, variable)?)),
+        Some(variable) => owned_value(alloc, sources, variable),
         None => Ok(None),
     }
 }
 
-/// The place of the value that a change of a slot is made to, if that is the value of an operand.
+/// The place of the value that a change of the sum at a place is made to, if that is the value of an operand.
+///
+/// # Errors
+/// The faults of `losing_at`.
+fn operand_value_at(
+    alloc: Global,
+    sources: Sources<'_>,
+    change: &ValueChange,
+    place: &CallRef,
+) -> Result<Option<CallRef>, Refusal>
+    requires { IsProject (loaded_in sources) }
+    ensures found { IfOk result (λ o. operand_value_at sources.entry.files.now (project (loaded_in sources.entry)) change.now place.now ≡ Ok o) }
+    ensures refused { RefusedAs result (operand_value_at sources.entry.files.now (project (loaded_in sources.entry)) change.now place.now) }
+{
+    match change {
+        ValueChange::Add(values) => Ok(gaining_at(alloc, sources, values.get(), place)?),
+        ValueChange::Remove(values) => losing_at(alloc, sources, values.get(), place),
+        ValueChange::Replace { old, .. } => {
+            losing_at(alloc, sources, slice::from_ref(old), place)
+        }
+        _ => Ok(None),
+    }
+}
+
+/// The same of a slot.
 ///
 /// # Errors
 /// The faults of `losing_at`.
@@ -257,16 +280,9 @@ fn operand_value(
     ensures found { IfOk result (λ o. operand_value sources.entry.files.now (project (loaded_in sources.entry)) change.now slot.now ≡ Ok o) }
     ensures refused { RefusedAs result (operand_value sources.entry.files.now (project (loaded_in sources.entry)) change.now slot.now) }
 {
-    let Some(place) = slot_place(alloc, sources, slot)? else {
-        return Ok(None);
-    };
-    match change {
-        ValueChange::Add(values) => Ok(gaining_at(alloc, sources, values.get(), &place)?),
-        ValueChange::Remove(values) => losing_at(alloc, sources, values.get(), &place),
-        ValueChange::Replace { old, .. } => {
-            losing_at(alloc, sources, slice::from_ref(old), &place)
-        }
-        _ => Ok(None),
+    match slot_place(alloc, sources, slot)? {
+        Some(place) => operand_value_at(alloc, sources, change, &place),
+        None => Ok(None),
     }
 }
 

@@ -49,8 +49,8 @@ returns-in-Some c = record {
       subst (λ m. AreMeant m c.in_ok-steps-in-Some.steps.items) (sym same) (c.in_ok-steps-in-Some.ensures.made may);
 }
 
-pub returns-in-None : goal.returns-in-None
-returns-in-None c = record {
+pub returns : goal.returns
+returns c = record {
   made = λ may otherwise.
       let l = loaded_in c.args.sources in
       let source = c.args.source.now in

@@ -18,7 +18,7 @@ returns-then-are_plus c = λ source.
     let more = operands_of (operands_view source rest) in
     let view = row_is source c.args.value.now c.in-Row.span c.in-Row.first c.in-Row.first c.in-Row.rest rest c.in-Row.is refl c.get-rest.ensures in
     let plus : are_plus more ≡ true = sym (c.are_plus.ensures source) ∙ c.if-are_plus.true in
-    ap (λ n. n + 1) (c.len.ensures ∙ sym (counted source rest)) ∙ add-one (count_operands more)
+    ap (λ n. n + 1) (sym (counted source rest)) ∙ add-one (count_operands more)
     ∙ ap (λ b. if b then suc (count_operands more) else 0) (sym plus) ∙ sym (ap operand_count view)
 
 pub returns-else-are_plus : goal.returns-else-are_plus
