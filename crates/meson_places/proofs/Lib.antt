@@ -4,6 +4,7 @@ mod Around
 mod AssignedDepth
 mod AssignedDoable
 mod AssignedLeft
+mod AssignedLone
 mod AssignedRoom
 mod AssignedPlaces
 mod ArrayLeft

@@ -35,6 +35,7 @@ use Rattle.meson_steps.proofs.Bracketed.{complete}
 use Rattle.meson_places.specs.declared.slots.Slot.{Slot}
 use Rattle.meson_places.specs.declared.slots.Slot.TheVariants as slot
 use Rattle.meson_places.specs.Arguments.{MayBeMade, argument_steps, changed_steps, last_key, named_steps, set_within, slot_steps}
+use Rattle.meson_places.specs.AssignedArrays.{LoneValue, added_by, added_steps, array_assigned, array_beside, assigned_lone, assigned_text, lone_written, set_all_by, set_all_steps}
 use Rattle.meson_places.specs.Assignments.{changed_slot}
 use Rattle.meson_places.specs.TargetNames.{checked_name}
 use Rattle.meson_places.specs.Colons.{ends_among, ends_in_file}
@@ -145,10 +146,24 @@ module _ (l : Loaded) (gs : List Given) (m k : AllMayBeGiven gs) (key : List ℕ
   add_one (slot.Absent list absent) = added_one l gs m k absent list
   add_one (slot.Whole c) = add_whole_one c (expression_at (project l) c)
 
+set_all_steps_one : (l : Loaded) (gs : List Given) (m k : AllMayBeGiven gs) (key : List ℕ) (s : Slot) → set_all_steps l gs m key s ≡ set_all_steps l gs k key s
+set_all_steps_one l gs m k key s = go (assigned_text (project l) s)
+  where
+    go : (o : Option CallRef) → set_all_by l gs m key s o ≡ set_all_by l gs k key s o
+    go None = set_all_one l gs m k key s
+    go (Some c) = ap (λ (ws : Values). array_assigned key c (record { bytes = array_bytes gs; node = array_node ws })) (all_one gs m k)
+
+added_steps_one : (l : Loaded) (gs : List Given) (m k : AllMayBeGiven gs) (key : List ℕ) (s : Slot) → added_steps l gs m key s ≡ added_steps l gs k key s
+added_steps_one l gs m k key s = go (assigned_lone (project l) s)
+  where
+    go : (o : Option LoneValue) → added_by l gs m key s o ≡ added_by l gs k key s o
+    go None = add_one l gs m k key s
+    go (Some v) = ap (array_beside key v.place (lone_written v)) (fresh_one (λ g. says (bytes_at v.place.file l.files) g v.value) [] gs m k)
+
 steps_one : (l : Loaded) (key : List ℕ) (c : ValueChange) (m k : MayBeMade c) (s : Slot) → slot_steps l key c m s ≡ slot_steps l key c k s
 steps_one l key (change.Set g) m k s = ap (λ w. set_within l g w key s) (one_written g m k)
-steps_one l key (change.SetAll gs) m k s = set_all_one l gs m k key s
-steps_one l key (change.Add gs) m k s = add_one l gs m k key s
+steps_one l key (change.SetAll gs) m k s = set_all_steps_one l gs m k key s
+steps_one l key (change.Add gs) m k s = added_steps_one l gs m k key s
 steps_one l key (change.Remove gs) m k s = refl
 steps_one l key (change.Replace old new) m k s = ap (λ w. exchange_steps l (record { old = old; new = new; written = w }) key s) (one_written new m k)
 steps_one l key change.Delete m k s = refl
@@ -258,6 +273,20 @@ module _ (p q : Loaded) (same_files : p.files ≡ q.files) (same_trees : trees p
   add_same gs may key (slot.Whole c) =
       ap (add_to_whole p gs may key c) (alike (λ fs ts. expression_at (named_trees fs ts) c)) ∙ add_whole_same gs may key c (expression_at (project q) c)
 
+  set_all_steps_same : (gs : List Given) (may : AllMayBeGiven gs) (key : List ℕ) (s : Slot) → set_all_steps p gs may key s ≡ set_all_steps q gs may key s
+  set_all_steps_same gs may key s = ap (set_all_by p gs may key s) (alike (λ fs ts. assigned_text (named_trees fs ts) s)) ∙ go (assigned_text (project q) s)
+    where
+      go : (o : Option CallRef) → set_all_by p gs may key s o ≡ set_all_by q gs may key s o
+      go None = all_same gs may key s
+      go (Some c) = refl
+
+  added_steps_same : (gs : List Given) (may : AllMayBeGiven gs) (key : List ℕ) (s : Slot) → added_steps p gs may key s ≡ added_steps q gs may key s
+  added_steps_same gs may key s = ap (added_by p gs may key s) (alike (λ fs ts. assigned_lone (named_trees fs ts) s)) ∙ go (assigned_lone (project q) s)
+    where
+      go : (o : Option LoneValue) → added_by p gs may key s o ≡ added_by q gs may key s o
+      go None = add_same gs may key s
+      go (Some v) = ap (λ fs. array_beside key v.place (lone_written v) (fresh_written (λ g. says (bytes_at v.place.file fs) g v.value) [] gs may)) same_files
+
   from_same : (gs : List Given) (key : List ℕ) (gone : Result (List Step) Refusal) (c : CallRef) (e : Expression Span) → remove_from p key gs gone c e ≡ remove_from q key gs gone c e
   from_same gs key gone c e = ap (λ fs. remove_by key (bytes_at c.file fs) gs gone e (lists_of c e)) same_files
 
@@ -306,8 +335,8 @@ module _ (p q : Loaded) (same_files : p.files ≡ q.files) (same_trees : trees p
 
   slot_same : (key : List ℕ) (c : ValueChange) (may : MayBeMade c) (s : Slot) → slot_steps p key c may s ≡ slot_steps q key c may s
   slot_same key (change.Set g) may s = set_same g (written_given g may) key s
-  slot_same key (change.SetAll gs) may s = all_same gs may key s
-  slot_same key (change.Add gs) may s = add_same gs may key s
+  slot_same key (change.SetAll gs) may s = set_all_steps_same gs may key s
+  slot_same key (change.Add gs) may s = added_steps_same gs may key s
   slot_same key (change.Remove gs) may s = remove_same gs key s
   slot_same key (change.Replace old new) may s = exchange_same (exchange old new may) key s
   slot_same key change.Delete may s = refl

@@ -1,3 +1,4 @@
+pub mod AssignedArrays
 pub mod AssignedValues
 pub mod Arguments
 pub mod ArrayEffects

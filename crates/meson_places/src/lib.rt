@@ -4,6 +4,7 @@
 mod additions;
 pub mod arguments;
 mod assigned;
+mod assigned_arrays;
 mod assignments;
 pub mod changes;
 mod colon;
