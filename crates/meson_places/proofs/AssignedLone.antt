@@ -1,6 +1,6 @@
 -- A literal or an identifier that is assigned, and the array that its assignment assigns then: the steps may be done, and leave that array.
-use Rattle.std.proofs.Common.{◌≡◌, ℕ, true, false, List, [], ◌∷◌, map, Option, Some, None, Result, Ok, Err, refl, sym, ap, ◌∙◌, subst, inl, inr}
-use Rattle.std.specs.Prelude.{Bool, ◌⊎◌, ◌&&◌, if◌then◌else◌, is_some, option_map}
+use Rattle.std.proofs.Common.{◌≡◌, ℕ, true, false, List, [], ◌∷◌, Option, Some, None, Ok, Err, refl, ap, ◌∙◌, subst, inl, inr}
+use Rattle.std.specs.Prelude.{Bool, ◌⊎◌, if◌then◌else◌, is_some, option_map}
 use Rattle.std.proofs.lemmas.Bool.{and_parts}
 use Rattle.meson_lex.specs.declared.kinds.Span.{Span}
 use Rattle.meson_splice.specs.Files.{bytes_at}
@@ -9,7 +9,6 @@ use Rattle.meson_syntax.specs.Tree.{Expression, Nowhere, Plain}
 use Rattle.meson_edit.specs.Edits.{Written}
 use Rattle.meson_edit.specs.Places.{IsWrittenStatement}
 use Rattle.meson_calls.specs.declared.call.CallRef.{CallRef}
-use Rattle.meson_calls.specs.declared.refusal.Refusal.{Refusal}
 use Rattle.meson_calls.specs.declared.refusal.Refusal.TheVariants.{NotLiteral, TooDeep}
 use Rattle.meson_calls.specs.Calls.{literal_of}
 use Rattle.meson_calls.specs.Loading.{IsProject, Loaded, project}

@@ -17,13 +17,13 @@ use Rattle.meson_steps.specs.declared.given.Given.{Given}
 use Rattle.meson_places.specs.declared.slots.Slot.{Slot}
 use Rattle.meson_places.specs.declared.slots.Slot.TheVariants as slot
 use Rattle.meson_places.specs.Behind.{Behind, first_that, gains, has_lists, or_first, says_all_at, says_one_at, slot_at_value, slot_behind}
-use Rattle.meson_places.specs.BehindLaws.{FollowsOwnValue, IsBehind, IsOperandOf}
+use Rattle.meson_places.specs.BehindLaws.{FollowsOwnValue, IsBehind}
 use Rattle.meson_places.specs.Changes.{slot_place}
-use Rattle.meson_places.specs.Operands.{behind_at, followed_slot, gaining_among, gaining_at, losing_at, operand_value, operand_value_of, operands_at, own_value, owned_value, says_behind, value_if_own}
+use Rattle.meson_places.specs.Operands.{behind_at, gaining_among, gaining_at, losing_at, operand_value, operand_value_of, operands_at, own_value, owned_value, says_behind, value_if_own}
 use Rattle.meson_places.specs.Uses.{is_read_once}
 use Rattle.meson_places.specs.ValueLists.{last_of}
 use Rattle.meson_places.proofs.Found.{Among, contained, given_by}
-use Rattle.meson_places.proofs.OwnValues.{Is, changes_own_value, is_behind, owned_by}
+use Rattle.meson_places.proofs.OwnValues.{changes_own_value, is_behind, owned_by}
 
 -- ---- the first place that passes a test
 

@@ -44,7 +44,7 @@ pub record IsOperandOf (p : Project Span) (s : Slot) (c : CallRef) : Type 0 wher
   pub is_sum : slot_place p s ≡ Some sum
   pub is_operand : Contains (operands_at p sum) c
 
--- The value of a slot, or an operand of the sum that it is, is a variable that nobody else reads, and another slot is the one value that the variable is set to.
+-- The value of a slot, or an operand of the sum that it is, is a variable that nobody else reads. Another slot is the one value that the variable is set to.
 pub record IsBehind (l : Loaded) (s t : Slot) : Type 0 where
   pub read_at : CallRef
   pub is_read : (slot_place (project l) s ≡ Some read_at) ⊎ IsOperandOf (project l) s read_at

@@ -47,7 +47,8 @@ fn assign_array(
     key: &Text,
     array: Bytes,
 ) -> Result<Vec<ListStep>, Refusal>
-    ensures made { (w : Written (Expression Nowhere)) → w.bytes ≡ array → (x : IsValue w.bytes) → x.node ≡ w.node → let meant = array_assigned key.now place.now w in
+    ensures made { (w : Written (Expression Nowhere)) → w.bytes ≡ array → (x : IsValue w.bytes) → x.node ≡ w.node
+        → let meant = array_assigned key.now place.now w in
         MatchResult result (λ steps. AreMeant meant steps.items) (λ e. e ≢ OutOfMemory → meant ≡ Err e) }
 {
     let text = array.get();

@@ -207,8 +207,10 @@ fn owned_value(
 ) -> Result<Option<CallRef>, Refusal>
     requires parsed { AreParsed sources.files.now sources.trees.now }
     requires named { IsIdentifier variable.name.now }
-    ensures found { let b = Some (behind_view variable.entry) in IfOk result (λ o. owned_value sources.entry.files.now (project (loaded_in sources.entry)) b ≡ Ok o) }
-    ensures refused { let b = Some (behind_view variable.entry) in RefusedAs result (owned_value sources.entry.files.now (project (loaded_in sources.entry)) b) }
+    ensures found { let b = Some (behind_view variable.entry) in
+        IfOk result (λ o. owned_value sources.entry.files.now (project (loaded_in sources.entry)) b ≡ Ok o) }
+    ensures refused { let b = Some (behind_view variable.entry) in
+        RefusedAs result (owned_value sources.entry.files.now (project (loaded_in sources.entry)) b) }
 {
     if is_read_once(alloc, sources, variable.name, &variable.read_at)? {
         return Ok(Some(variable.value_at));

@@ -1,11 +1,11 @@
-use Rattle.std.proofs.Common.{◌≡◌, true, false, ℕ, List, [], ◌∷◌, ◌++◌, map, Some, Ok, Err, refl, sym, ap, ◌∙◌, subst}
+use Rattle.std.proofs.Common.{◌≡◌, true, false, ℕ, List, [], ◌∷◌, ◌++◌, map, Some, Ok, Err, sym, ap, ◌∙◌, subst}
 use Rattle.std.specs.Prelude.{if◌then◌else◌}
 use Rattle.meson_syntax.specs.Tree.{Expression, Nowhere}
 use Rattle.meson_edit.specs.Edits.{Written}
 use Rattle.meson_calls.specs.declared.refusal.Refusal.TheVariants.{NotLiteral, TooDeep}
 use Rattle.meson_steps.specs.Code.{IsValue}
 use Rattle.meson_steps.specs.declared.step.ListEdit.TheVariants as code
-use Rattle.meson_places.specs.AssignedArrays.{array_assigned, is_line}
+use Rattle.meson_places.specs.AssignedArrays.{is_line}
 use Rattle.meson_places.specs.AssignedValues.{assign_steps, assigned_room, statement_of}
 use Rattle.meson_places.proofs.assigned_arrays.assign_array.Goals as goal
 

@@ -1,7 +1,6 @@
-use Rattle.std.proofs.Common.{◌≡◌, List, [], ◌∷◌, Ok, sym, ap, ◌∙◌}
+use Rattle.std.proofs.Common.{sym, ap, ◌∙◌}
 use Rattle.std.proofs.lemmas.Result.{IfOk-weaker}
 use Rattle.meson_calls.specs.Loading.{project}
-use Rattle.meson_steps.specs.declared.given.Given.{Given}
 use Rattle.meson_places.specs.Names.{loaded_in}
 use Rattle.meson_places.specs.Operands.{losing_at, operand_value_at}
 use Rattle.meson_places.proofs.Refused.{refused_as}
