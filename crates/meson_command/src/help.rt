@@ -58,6 +58,7 @@ Options of the program, before the subcommand (see meson_rewrite --help):
 
 Operations:
   add, rm                          add sources, remove sources
+  rename                           give the source OLD the name NEW, in its place
   add_extra_files, rm_extra_files  the same for extra files
   add_target                       write a new target at the end of a build file
   rm_target                        remove the target
@@ -72,6 +73,7 @@ build file, not to the working folder.
 Examples:
   meson_rewrite target tide add moon.c sun.c
   meson_rewrite target tide rm tide.c
+  meson_rewrite target tide rename moon.c full_moon.c
   meson_rewrite target harbor add_extra_files harbor.h
   meson_rewrite target make_tables rm_extra_files tables.txt
   meson_rewrite target moon add_target moon.c --subdir src --type executable
@@ -218,8 +220,8 @@ JSON is the script, or says where it is:
 
 A script is an array of objects, one for each command. Each has a type and an
 operation; man meson_rewrite lists their other members:
-  target           src_add, src_rm, extra_files_add, extra_files_rm,
-                   target_add, target_rm, info
+  target           src_add, src_rm, rename, extra_files_add,
+                   extra_files_rm, target_add, target_rm, info
   kwargs           set, add, remove, delete, info
   default_options  set, delete
   arg              set, add, delete, info

@@ -29,6 +29,7 @@ use Rattle.meson_calls.specs.Searching.{anywhere}
 abbrev pub subject : Command → Role × CallName
 subject (command.SourcesAdd target sources) = (role.Target, target)
 subject (command.SourcesRemove target sources) = (role.Target, target)
+subject (command.SourcesRename target old new) = (role.Target, target)
 subject (command.ExtraAdd target sources) = (role.Target, target)
 subject (command.ExtraRemove target sources) = (role.Target, target)
 subject (command.TargetAdd target kind subdir sources) = (role.Target, anywhere target)
@@ -91,6 +92,7 @@ with_info notes = record { notes = notes; help = codes "info lists the sources a
 
 abbrev pub not_there : Loaded → Command → Explanation
 not_there l (command.SourcesRemove target names) = with_info (source_notes (sources_at l target) names)
+not_there l (command.SourcesRename target old new) = with_info (source_notes (sources_at l target) (old ∷ []))
 not_there l (command.ExtraRemove target names) = with_info (source_notes (extras_at l target) names)
 not_there l _ = record { notes = []; help = [] }
 

@@ -41,6 +41,7 @@ with_list notes = record { notes = notes; help = codes "write it in a list, as i
 
 abbrev pub not_removable : Loaded → Command → Explanation
 not_removable l (command.SourcesRemove target names) = with_list (fixed_notes (sources_at l target) names)
+not_removable l (command.SourcesRename target old new) = with_list (fixed_notes (sources_at l target) (old ∷ []))
 not_removable l (command.ExtraRemove target names) = with_list (fixed_notes (extras_at l target) names)
 not_removable l _ = record { notes = []; help = [] }
 
@@ -91,5 +92,6 @@ not_known l target key items names = record { notes = not_known_notes l target k
 
 abbrev pub unresolved : Loaded → Command → Explanation
 unresolved l (command.SourcesRemove target names) = not_known l target (codes "sources") (sources_at l target) names
+unresolved l (command.SourcesRename target old new) = not_known l target (codes "sources") (sources_at l target) (old ∷ [])
 unresolved l (command.ExtraRemove target names) = not_known l target (codes "extra_files") (extras_at l target) names
 unresolved l _ = record { notes = []; help = [] }

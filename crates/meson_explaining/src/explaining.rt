@@ -29,6 +29,7 @@ use meson_splice::{Many, Text};
 use meson_steps::command::Command;
 use meson_variables::SourceItem;
 use std::alloc::{AllocError, Global};
+use std::slice;
 
 /// Notes with one line of help.
 pub(crate) fn with_help(
@@ -158,6 +159,10 @@ fn not_there(alloc: Global, project: &Project, command: &Command) -> Result<Expl
         Command::SourcesRemove { target, sources } => {
             let items = sources_at(alloc, project, target.as_name())?;
             with_info(alloc, items.get(), sources.get())
+        }
+        Command::SourcesRename { target, old, .. } => {
+            let items = sources_at(alloc, project, target.as_name())?;
+            with_info(alloc, items.get(), slice::from_ref(old))
         }
         Command::ExtraRemove { target, sources } => {
             let items = extras_at(alloc, project, target.as_name())?;

@@ -20,6 +20,7 @@ use meson_plan::Project;
 use meson_splice::{Many, Text};
 use meson_steps::command::Command;
 use std::alloc::{AllocError, Global};
+use std::slice;
 
 /// Why there is no call of the project.
 pub(crate) fn no_project(alloc: Global, project: &Project) -> Result<Explanation, AllocError>
@@ -234,6 +235,11 @@ pub(crate) fn not_removable(
             let notes = fixed_notes(alloc, items.get(), sources.get())?;
             with_help(alloc, notes, help)
         }
+        Command::SourcesRename { target, old, .. } => {
+            let items = sources_at(alloc, project, target.as_name())?;
+            let notes = fixed_notes(alloc, items.get(), slice::from_ref(old))?;
+            with_help(alloc, notes, help)
+        }
         Command::ExtraRemove { target, sources } => {
             let items = extras_at(alloc, project, target.as_name())?;
             let notes = fixed_notes(alloc, items.get(), sources.get())?;
@@ -259,6 +265,16 @@ pub(crate) fn unresolved(
                 key: "sources",
                 items: items.get(),
                 names: sources.get(),
+            };
+            not_known(alloc, project, lost)
+        }
+        Command::SourcesRename { target, old, .. } => {
+            let items = sources_at(alloc, project, target.as_name())?;
+            let lost = Lost {
+                target: target.as_name(),
+                key: "sources",
+                items: items.get(),
+                names: slice::from_ref(old),
             };
             not_known(alloc, project, lost)
         }

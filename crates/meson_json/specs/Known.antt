@@ -21,6 +21,7 @@ value_members change.Delete = codes "function" ∷ codes "id" ∷ codes "key" �
 abbrev pub used_members : Command → List (List ℕ)
 used_members (command.SourcesAdd target sources) = codes "target" ∷ codes "sources" ∷ codes "in" ∷ []
 used_members (command.SourcesRemove target sources) = codes "target" ∷ codes "sources" ∷ codes "in" ∷ []
+used_members (command.SourcesRename target old new) = codes "target" ∷ codes "sources" ∷ codes "in" ∷ []
 used_members (command.ExtraAdd target sources) = codes "target" ∷ codes "sources" ∷ codes "in" ∷ []
 used_members (command.ExtraRemove target sources) = codes "target" ∷ codes "sources" ∷ codes "in" ∷ []
 used_members (command.TargetAdd target kind subdir sources) = codes "target" ∷ codes "sources" ∷ codes "subdir" ∷ codes "target_type" ∷ []

@@ -52,6 +52,7 @@ fn is_known(command: &Command, name: &str) -> bool
     match command {
         Command::SourcesAdd { .. }
         | Command::SourcesRemove { .. }
+        | Command::SourcesRename { .. }
         | Command::ExtraAdd { .. }
         | Command::ExtraRemove { .. } => name == "target" || name == "sources" || name == "in",
         Command::TargetAdd { .. } => {

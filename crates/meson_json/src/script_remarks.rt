@@ -24,6 +24,7 @@ const TARGET_OPERATIONS: Choice = Choice {
     words: &[
         "src_add",
         "src_rm",
+        "rename",
         "extra_files_add",
         "extra_files_rm",
         "target_add",
@@ -108,6 +109,9 @@ fn value_of(entry: &Value, member: &str) -> &'static str {
         return argument_of(text_at(entry, "operation").unwrap_or(""), member);
     }
     match member {
+        "sources" if text_at(entry, "operation") == Some("rename") => {
+            "an array of two texts, the old name and the new one"
+        }
         "sources" => "an array of texts",
         "function" => "one of project, target, dependency",
         "kwargs" => "an object, whose values are texts, true, false or arrays of texts",
