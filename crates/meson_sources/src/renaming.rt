@@ -1,6 +1,7 @@
 //! Sources of a target that get another name.
 
-ghost use Rattle.std.specs.Prelude.{◌≡◌, ◌++◌, ◌∷◌, [], IfErr, IfOk, OnOk, Some, length, map};
+ghost use Rattle.std.specs.Prelude.{◌≡◌, ◌++◌, ◌∷◌, [], IfErr, IfOk, OnOk, Some, false, length, map, true};
+ghost use Rattle.std.specs.List.{list_any};
 ghost use Rattle.std.specs.Str.{IsUtf8};
 ghost use Rattle.meson_calls.specs.ChosenNotes.{Source, placed_call};
 ghost use Rattle.meson_calls.specs.GoodLists.{GoodListing};
@@ -10,6 +11,7 @@ ghost use Rattle.meson_calls.specs.Searching.{name_at};
 ghost use Rattle.meson_sources.specs.SourceEdits.{renaming, sources_renamed};
 ghost use Rattle.meson_sources.specs.Targeted.{renamed_steps};
 ghost use Rattle.meson_sources.specs.inside.CodeSpots.{renamed_among, spot_view};
+ghost use Rattle.meson_sources.specs.inside.Naming.{has_value};
 ghost use Rattle.meson_steps.specs.ListSteps.{bare};
 ghost use Rattle.meson_steps.specs.Meanings.{AreMeant};
 ghost use Rattle.meson_steps.specs.Names.{checked_names};
@@ -29,6 +31,7 @@ use meson_steps::literals::written_text;
 use meson_steps::names::checked_names;
 use meson_steps::step::{ListEdit, ListStep, push_step};
 use meson_syntax::List;
+use meson_variables::SourceItem;
 use meson_variables::call_sources::{MAX_FOLLOWED, met};
 use meson_variables::marks::Marks;
 use meson_variables::variables::Variables;
@@ -90,6 +93,20 @@ fn renamings(alloc: Global, spots: &[ElementSpot], name: &Text) -> Result<Vec<Li
     Ok(steps)
 }
 
+/// Refuses a name that an item has.
+///
+/// # Errors
+/// An item has it.
+fn refuse_known(items: &[SourceItem], name: &Text) -> Result<(), Refusal>
+    ensures fresh { OnOk result (list_any (has_value name.now) items.now ≡ false) }
+    ensures taken { IfErr result (λ e. (e ≡ Refusal.ThereAlready) × (list_any (has_value name.now) items.now ≡ true)) }
+{
+    if is_known(items, name) {
+        return Err(Refusal::ThereAlready);
+    }
+    Ok(())
+}
+
 /// The steps that give all items of a name another one.
 ///
 /// # Errors
@@ -104,9 +121,7 @@ fn names_renamed(
     ensures refused { RefusedAs result (renamed_among marks.now names.entry.old.now names.entry.new.now) }
 {
     let spots = spots_of(alloc, marks, slice::from_ref(&names.old))?;
-    if is_known(marks.items.as_slice(), names.new) {
-        return Err(Refusal::ThereAlready);
-    }
+    refuse_known(marks.items.as_slice(), names.new)?;
     renamings(alloc, spots.as_slice(), names.new)
 }
 

@@ -16,6 +16,17 @@ returns-in_ok-items-in-SourcesRemove c =
     ∙ ap₂ (not_known l target (codes "sources")) items c.get-in-SourcesRemove.ensures
     ∙ sym (ap (unresolved l) c.in-SourcesRemove.is)) c.not_known.ensures
 
+pub returns-in_ok-items-in-SourcesRename : goal.returns-in_ok-items-in-SourcesRename
+returns-in_ok-items-in-SourcesRename c =
+    let l = c.args.project.now in
+    let target = c.in-SourcesRename.target in
+    let items = c.get-in-SourcesRename.ensures ∙ c.in_ok-items-in-SourcesRename.ensures ∙ ap (sources_at l) c.as_name-in-SourcesRename.ensures in
+    IfOk-weaker c.not_known-in-SourcesRename.result _ _
+    (λ e is. is
+    ∙ ap (λ t. not_known l t (codes "sources") c.get-in-SourcesRename.result.now c.from_ref.result.now) c.as_name-in-SourcesRename-2.ensures
+    ∙ ap₂ (not_known l target (codes "sources")) items c.from_ref.ensures.value
+    ∙ sym (ap (unresolved l) c.in-SourcesRename.is)) c.not_known-in-SourcesRename.ensures
+
 pub returns-in_ok-items-in-ExtraRemove : goal.returns-in_ok-items-in-ExtraRemove
 returns-in_ok-items-in-ExtraRemove c =
     let l = c.args.project.now in

@@ -19,20 +19,23 @@ returns-in_err-spots-clause-refused c =
     let found = ap (λ ns. all_spots_in m (map (λ x. x.now) ns)) (sym c.from_ref.ensures.value) ∙ c.in_err-spots.ensures.refused other in
     ap (after_spots m c.args.names.new.now) found)
 
-pub returns-then-is_known-clause-refused : goal.returns-then-is_known-clause-refused
-returns-then-is_known-clause-refused c = λ other.
+pub returns-in_err-refuse_known-clause-refused : goal.returns-in_err-refuse_known-clause-refused
+returns-in_err-refuse_known-clause-refused c =
+    let error = err_from_is_err_and c.from_residual-in_err-refuse_known.result c.from_residual-in_err-refuse_known.ensures.1 in
+    rw (error.1, error.2) (λ other.
     let m = c.args.marks.now in
     let new = c.args.names.new.now in
     let found = ap (λ ns. all_spots_in m (map (λ x. x.now) ns)) (sym c.from_ref.ensures.value) ∙ c.in_ok-spots.ensures.found in
-    let known = sym (c.is_known.ensures ∙ ap (list_any (has_value new)) c.as_slice.ensures.value) ∙ c.if-is_known.true in
+    let known = ap (list_any (has_value new)) (sym c.as_slice.ensures.value) ∙ c.in_err-refuse_known.ensures.taken.1 in
     ap (after_spots m new) found ∙ ap (λ b. if b then Err ThereAlready else Ok (map (renaming new) (map spot_view c.in_ok-spots.spots.items))) known
+    ∙ ap Err (sym c.in_err-refuse_known.ensures.taken.0))
 
 pub returns-clause-meant : goal.returns-clause-meant
 returns-clause-meant c =
     let m = c.args.marks.now in
     let new = c.args.names.new.now in
     let found = ap (λ ns. all_spots_in m (map (λ x. x.now) ns)) (sym c.from_ref.ensures.value) ∙ c.in_ok-spots.ensures.found in
-    let known = sym (c.is_known.ensures ∙ ap (list_any (has_value new)) c.as_slice.ensures.value) ∙ c.if-is_known.false in
+    let known = ap (list_any (has_value new)) (sym c.as_slice.ensures.value) ∙ c.in_ok-refuse_known.ensures.fresh in
     let meant = ap (after_spots m new) found ∙ ap (λ b. if b then Err ThereAlready else Ok (map (renaming new) (map spot_view c.in_ok-spots.spots.items))) known
     ∙ ap (λ ss. Ok (map (renaming new) (map spot_view ss))) (sym c.as_slice-2.ensures.value) in
     ok_meant (λ v. v.items) (map (renaming new) (map spot_view c.as_slice-2.result.now)) (renamed_among m c.args.names.old.now new) meant c.renamings.result c.renamings.ensures.done
