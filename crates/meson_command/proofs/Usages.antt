@@ -14,11 +14,12 @@ use Rattle.clap.specs.Words.{Row, Text, fault_of, first_of, matches_of, subcomma
 use Rattle.clap.specs.declared.error.kind.ErrorKind.TheVariants.{DisplayHelp, DisplayVersion}
 use Rattle.meson_calls.specs.declared.call.Role.{Role}
 use Rattle.meson_splice.specs.Patch.{then_ok}
-use Rattle.meson_command.specs.Actions.{action_of, count_in, history_by, kwargs_action, kwargs_by, list_by, list_with, listing_of, options_action, options_by, other_action, target_action, undo_of, word_at, words_at}
+use Rattle.meson_command.specs.Actions.{action_of, count_in, history_by, kwargs_action, kwargs_by, list_by, list_with, listing_of, options_action, options_by, other_action, rename_action, target_action, target_by, target_words, undo_of, word_at, words_at}
 use Rattle.meson_command.specs.Arguments.{action_within, argument_action, command_meant, keys_meant, requested, value_named, values_meant}
 use Rattle.meson_command.specs.Asking.{answer, asked_from, asked_of, help, is_dry, names_no_folder, texts_fit, title_in, version, with_texts, with_title}
 use Rattle.meson_json.specs.Counts.{count_of}
-use Rattle.meson_command.specs.Laws.{FolderIsMisused, HelpWhereAsked, IsNoArgument, IsNoCount, IsUnknown, TextsAreMisused, UsageMeansUnknown, VersionWhereAsked}
+use Rattle.meson_command.specs.Laws.{FolderIsMisused, HelpWhereAsked, IsNoArgument, IsNoCount, IsNoTarget, IsUnknown, TextsAreMisused, UsageMeansUnknown, VersionWhereAsked}
+use Rattle.meson_json.specs.Targets.{renaming_of}
 use Rattle.meson_json.specs.Titles.{is_title}
 use Rattle.meson_json.specs.Arguments.{change_to, command_to, keys_left_out, place_named}
 use Rattle.meson_json.specs.Operations.{argument_operation, kwargs_operation, role_of}
@@ -187,10 +188,6 @@ one_missing None r f h e = inl refl
 one_missing (Some x) None f h e = inr refl
 one_missing (Some x) (Some y) f h e = absurd (h x y e)
 
-target-unknown : (folder : Option Text) (rows : List Row) → target_action folder rows ≡ Err Usage → operation_of_word (word_at (codes "OPERATION") rows) ≡ None
-unfolding target_action
-target-unknown folder rows e = missing (operation_of_word (word_at (codes "OPERATION") rows)) _ (λ o x. cc) e
-
 kwargs-unknown : (folder : Option Text) (rows : List Row) → kwargs_action folder rows ≡ Err Usage → (kwargs_operation (word_at (codes "OPERATION") rows) ≡ None) ⊎ (role_of (word_at (codes "FUNCTION") rows) ≡ None)
 unfolding kwargs_action
 kwargs-unknown folder rows e = one_missing (kwargs_operation (word_at (codes "OPERATION") rows)) (role_of (word_at (codes "FUNCTION") rows)) _ (λ o role. kwargs-not o role _ _) e
@@ -259,6 +256,27 @@ by_name false x y rest e k h n = n e k
 
 named : (name x : Text) → bytes_eq name x ≡ true → name ≡ x
 named name x e = (bytes_eq-Decides name x).0 e
+
+other_names : (target : CallName) (names : List Text) → renaming_of target names ≡ None → length names ≢ 2
+other_names target [] e = λ same. omega (arith, same)
+other_names target (a ∷ []) e = λ same. omega (arith, same)
+other_names target (a ∷ b ∷ []) e = cc
+other_names target (a ∷ b ∷ c ∷ more) e = λ same. omega (arith, same)
+
+rename-unknown : (folder : Option Text) (rows : List Row) → rename_action folder rows ≡ Err Usage
+    → renaming_of (record { id = word_at (codes "ID") rows; folder = folder }) (words_at (codes "SOURCE") rows) ≡ None
+unfolding rename_action
+rename-unknown folder rows e = missing (renaming_of (record { id = word_at (codes "ID") rows; folder = folder }) (words_at (codes "SOURCE") rows)) _ (λ c x. cc) e
+
+target-unknown : (folder : Option Text) (rows : List Row) → target_action folder rows ≡ Err Usage → IsNoTarget rows
+unfolding target_action
+target-unknown folder rows e = by_word (bytes_eq (word_at (codes "OPERATION") rows) (codes "rename")) refl e
+  where
+    by_word : (b : Bool) → bytes_eq (word_at (codes "OPERATION") rows) (codes "rename") ≡ b
+        → (if b then rename_action folder rows
+        else then_ok (ok_or (operation_of_word (word_at (codes "OPERATION") rows)) Usage) (λ o. Ok (target_by o (target_words folder rows)))) ≡ Err Usage → IsNoTarget rows
+    by_word true is e = inr (named (word_at (codes "OPERATION") rows) (codes "rename") is, other_names _ (words_at (codes "SOURCE") rows) (rename-unknown folder rows e))
+    by_word false is e = inl (another (word_at (codes "OPERATION") rows) (codes "rename") is, missing (operation_of_word (word_at (codes "OPERATION") rows)) _ (λ o x. cc) e)
 
 -- of another subcommand than `arg`
 unknown : (folder : Option Text) (name : Text) (rows : List Row) → (bytes_eq name (codes "target") || (bytes_eq name (codes "kwargs") || is_other name)) ≡ true

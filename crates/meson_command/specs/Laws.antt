@@ -86,10 +86,16 @@ IsNoArgument rows =
     (argument_operation (word_at (codes "OPERATION") rows) ≡ None)
     ⊎ ((place_named (word_at (codes "FUNCTION") rows) (word_at (codes "ID") rows) ≡ None) ⊎ (HasNoKey rows ⊎ HasOtherValues rows))
 
--- the subcommand's operation, function, id or number is not valid, the key of `arg` is missing, its values are not as many as it takes, or two listings are requested or one of a function without a name
+-- the operation of `target` is unknown, or `rename` has not two names
+abbrev pub IsNoTarget : List Row → Type 0
+IsNoTarget rows =
+    ((word_at (codes "OPERATION") rows ≢ codes "rename") × (operation_of_word (word_at (codes "OPERATION") rows) ≡ None))
+    ⊎ ((word_at (codes "OPERATION") rows ≡ codes "rename") × (length (words_at (codes "SOURCE") rows) ≢ 2))
+
+-- the subcommand's operation, function, id or number is not valid, `rename` has not two names, the key of `arg` is missing, its values are not as many as it takes, or two listings are requested or one of a function without a name
 abbrev pub IsUnknown : Text → List Row → Type 0
 IsUnknown subcommand rows =
-    ((subcommand ≡ codes "target") × (operation_of_word (word_at (codes "OPERATION") rows) ≡ None))
+    ((subcommand ≡ codes "target") × IsNoTarget rows)
     ⊎ (((subcommand ≡ codes "kwargs") × ((kwargs_operation (word_at (codes "OPERATION") rows) ≡ None) ⊎ (role_of (word_at (codes "FUNCTION") rows) ≡ None)))
     ⊎ (((subcommand ≡ codes "default-options") × (options_word (word_at (codes "OPERATION") rows) ≡ None))
     ⊎ (((subcommand ≡ codes "undo") × ((word : Text) × IsNoCount (first_of (codes "N") rows) word))
@@ -106,7 +112,7 @@ abbrev pub TextsAreMisused : List Row → Text → List Row → Type 0
 TextsAreMisused own subcommand rows =
     (asked : Action) × (action_within (first_of (codes "FOLDER") own) subcommand rows ≡ Ok asked) × (texts_fit asked (first_of (codes "FILE") own) (is_dry own) ≡ false)
 
--- if clap takes the words and the usage is wrong: the folder is empty, a word is unknown or not a number, `arg` has no place or other values, two
+-- if clap takes the words and the usage is wrong: the folder is empty, a word is unknown or not a number, `rename` has not two names, `arg` has no place or other values, two
 -- listings are requested or one of a function without a name, or a folder or texts do not fit
 abbrev pub UsageMeansUnknown : Type 0
 UsageMeansUnknown = (words : List Text) → fault_of program words ≡ [] → asked_by words ≡ Err Usage
