@@ -4,7 +4,7 @@ use Rattle.std.specs.Prelude.{not, ◌&&◌, ◌||◌, ◌==◌, length, IfOk, b
 use Rattle.clap.specs.Words.{Row, Text, first_of}
 use Rattle.meson_calls.specs.declared.call.Role.{Role}
 use Rattle.meson_splice.specs.Patch.{then_ok}
-use Rattle.meson_command.specs.Actions.{action_of, count_in, kwargs_action, history_by, kwargs_by, has_flag, list_by, list_with, options_action, options_by, is_json, other_action, script_action, target_action, target_by, target_words, undo_of, unknown_members, word_at, words_at}
+use Rattle.meson_command.specs.Actions.{action_of, count_in, kwargs_action, history_by, kwargs_by, has_flag, list_by, list_with, options_action, options_by, is_json, other_action, script_action, rename_action, target_action, target_by, target_words, undo_of, unknown_members, word_at, words_at}
 use Rattle.meson_command.specs.Arguments.{action_within, argument_action, command_meant, requested, value_named}
 use Rattle.meson_command.specs.Asking.{asked_from, is_dry, names_no_folder, texts_fit, title_in, with_texts, with_title, without_help_text, without_text}
 use Rattle.meson_command.specs.declared.asked.Action.{Action}

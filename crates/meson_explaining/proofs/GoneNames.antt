@@ -163,7 +163,7 @@ module _ (l : Loaded) (target : CallName) (old new : List ℕ) (why : Refusal) (
 
   -- the spots of the old name are not found
   spots_gone : (known : Bool) (r : Result (List Spot) Refusal) (f : List Spot → List Step) → then_ok r (λ spots. taken_or known (f spots)) ≡ Err why → r ≡ Err why
-  spots_gone known (Err e) f is = is
+  spots_gone known (Err e) f is = let same : e ≡ why = cc in ap (λ (x : Refusal). Err x) same
   spots_gone true (Ok spots) f is =
       let same : refusal.ThereAlready ≡ why = cc in
       let both : ◌≡◌ {A = Bool} false true = ap is_gone same ∙ gone in

@@ -1,4 +1,4 @@
--- Other targets that use a list that `target add` or `target rm` changes.
+-- Other targets that use a list that `target add`, `rm` or `rename` changes.
 use Rattle.std.specs.Prelude.{ℕ, ◌-◌, ◌==◌, Bool, not, ◌&&◌, if◌then◌else◌, List, [], ◌∷◌, ◌++◌, codes, find, flat_map, is_some, length, option_to_list, take}
 use Rattle.std.specs.Prelude.{Option, Some, None}
 use Rattle.std.specs.List.{list_any}

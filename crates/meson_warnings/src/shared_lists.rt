@@ -1,4 +1,4 @@
-//! Other targets that use a list that `target add` or `target rm` changes.
+//! Other targets that use a list that `target add`, `rm` or `rename` changes.
 
 ghost use Rattle.std.specs.Prelude.{◌≡◌, ◌++◌, IfOk, OnOk, find, flat_map, map, option_map, take};
 ghost use Rattle.std.specs.List.{list_any};
