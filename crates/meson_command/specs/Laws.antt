@@ -4,7 +4,7 @@ use Rattle.std.specs.List.{AllPairs}
 use Rattle.clap.specs.Words.{Row, Text, fault_of, first_of, matches_of, subcommand_of}
 use Rattle.clap.specs.declared.error.kind.ErrorKind.TheVariants.{DisplayHelp, DisplayVersion}
 use Rattle.meson_command.specs.Actions.{has_flag, options_by, word_at, words_at}
-use Rattle.meson_command.specs.Arguments.{action_within, takes_folder, values_meant}
+use Rattle.meson_command.specs.Arguments.{action_within, after_meant, takes_folder, values_meant}
 use Rattle.meson_command.specs.Asking.{asked_by, help, is_dry, names_no_folder, only_asks, only_shows, texts_fit, version, wants_json}
 use Rattle.meson_json.specs.Arguments.{change_to, keys_left_out, place_named}
 use Rattle.meson_json.specs.Operations.{argument_operation, kwargs_operation, role_of}
@@ -74,13 +74,15 @@ HasNoKey rows =
     (operation : ArgumentOperation) × (argument_operation (word_at (codes "OPERATION") rows) ≡ Some operation)
     × (first_of (codes "KEY") rows ≡ None) × (keys_left_out operation ≡ None)
 
--- the values of `arg` are not as many as its operation takes
+-- the values of `arg` are not as many as its operation takes, or it does not take `--after`
 abbrev pub HasOtherValues : List Row → Type 0
 HasOtherValues rows =
-    (operation : ArgumentOperation) × (values : List Given) × (argument_operation (word_at (codes "OPERATION") rows) ≡ Some operation)
-    × (values_meant (words_at (codes "VALUE") rows) ≡ Some values) × (change_to operation values ≡ None)
+    (operation : ArgumentOperation) × (values : List Given) × (after : Option Given) × (argument_operation (word_at (codes "OPERATION") rows) ≡ Some operation)
+    × (values_meant (words_at (codes "VALUE") rows) ≡ Some values) × (after_meant (first_of (codes "ELEMENT") rows) ≡ Some after)
+    × (change_to operation after values ≡ None)
 
--- the operation of `arg` is unknown, its function and id name no place, its key is missing, or its values are not as many as it takes
+-- the operation of `arg` is unknown, its function and id name no place, its key is missing, its values are not as many as it takes, or it does not take
+-- `--after`
 abbrev pub IsNoArgument : List Row → Type 0
 IsNoArgument rows =
     (argument_operation (word_at (codes "OPERATION") rows) ≡ None)

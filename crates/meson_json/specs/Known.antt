@@ -13,6 +13,8 @@ abbrev pub value_members : ValueChange → List (List ℕ)
 value_members (change.Set g) = codes "function" ∷ codes "id" ∷ codes "key" ∷ codes "in" ∷ codes "values" ∷ []
 value_members (change.SetAll gs) = codes "function" ∷ codes "id" ∷ codes "key" ∷ codes "in" ∷ codes "values" ∷ []
 value_members (change.Add gs) = codes "function" ∷ codes "id" ∷ codes "key" ∷ codes "in" ∷ codes "values" ∷ []
+value_members (change.AddAfter g gs) =
+    codes "function" ∷ codes "id" ∷ codes "key" ∷ codes "in" ∷ codes "values" ∷ codes "after" ∷ []
 value_members (change.Remove gs) = codes "function" ∷ codes "id" ∷ codes "key" ∷ codes "in" ∷ codes "values" ∷ []
 value_members (change.Replace old new) = codes "function" ∷ codes "id" ∷ codes "key" ∷ codes "in" ∷ codes "values" ∷ []
 value_members change.Delete = codes "function" ∷ codes "id" ∷ codes "key" ∷ codes "in" ∷ []

@@ -145,8 +145,15 @@ values_at i argument.Replace d = given (λ v. option_and_then (each_of given_val
 values_at i argument.Delete d = Ok []
 values_at i argument.Info d = Ok []
 
+-- the value behind which values are added, if one is given; only `add` reads it
+abbrev pub after_at : ℕ → ArgumentOperation → Data → Result (Option Given) ScriptFault
+after_at i argument.Add d = given (λ v. option_map Some (given_value v)) i (codes "after") None (get (codes "after") d)
+after_at i operation d = Ok None
+
 abbrev pub value_command : ℕ → ArgumentOperation → ValueName → Data → Result Command ScriptFault
-value_command i operation name d = then_ok (values_at i operation d) (λ gs. ok_or (command_to operation name gs) (BadField i (codes "values")))
+value_command i operation name d =
+    then_ok (values_at i operation d) (λ gs.
+    then_ok (after_at i operation d) (λ after. ok_or (command_to operation name after gs) (BadField i (codes "values"))))
 
 unfoldable pub value_name : ℕ → ArgumentOperation → Data → Result ValueName ScriptFault
 value_name i operation d =

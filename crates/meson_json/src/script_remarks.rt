@@ -98,6 +98,7 @@ fn argument_of(operation: &str, member: &str) -> &'static str {
         "id" => "a text; of at it is the name of a file, a colon and a line",
         "key" => "texts joined by dots, or an array of texts",
         "values" => "an array of texts, true, false and objects whose code is one expression",
+        "after" => "a text, true, false or an object whose code is one expression",
         _ => "a text",
     }
 }

@@ -1,6 +1,8 @@
 mod AddedValues
 mod ArgumentsDoable
 mod Around
+mod BetweenDoable
+mod BetweenLeft
 mod AssignedDepth
 mod AssignedDoable
 mod AssignedLeft
@@ -25,6 +27,7 @@ mod ListStands
 mod ListsEdited
 mod ListsThere
 mod LoneValues
+mod Marks
 mod Meant
 mod NewElementsDoable
 mod Numbers

@@ -89,6 +89,7 @@ module _ (files : List File) (p : Project Span) where
           let same : c ≡ d = cc in
           let f = first_among (says_all_at files p gs) cs d (all ∙ ap Some same) in
           (with_all gs d f.0, f.1)
+  changed_found (change.AddAfter g gs) cs d is = one_found (g ∷ []) cs d is
   changed_found (change.Remove gs) cs d is = one_found gs cs d is
   changed_found (change.Replace old new) cs d is = one_found (old ∷ []) cs d is
   changed_found change.Delete cs d is = absurd (let no : ⊥ = cc in no)

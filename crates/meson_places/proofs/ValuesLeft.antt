@@ -37,6 +37,7 @@ use Rattle.meson_places.specs.ValueLists.{ValueList, last_of, lists_of}
 use Rattle.meson_places.specs.Values.{written_given}
 use Rattle.meson_places.proofs.AddedValues.{adds_to_one_list}
 use Rattle.meson_places.proofs.ArgumentsDoable.{ok_then}
+use Rattle.meson_places.proofs.BetweenLeft.{values_put_behind}
 use Rattle.meson_places.proofs.ListsThere.{element_there}
 use Rattle.meson_places.proofs.SaidLeft.{element_removed, element_replaced, whole_removed, whole_replaced}
 use Rattle.meson_places.proofs.ElementsLeft.{text_alone}
@@ -143,6 +144,7 @@ slot_left l is key (change.SetAll gs) may (slot.Whole p) steps after made done =
 slot_left l is key (change.Add gs) may (slot.Element list n) steps after made done = element_left l gs may key steps after done list n made
 slot_left l is key (change.Add gs) may (slot.Absent list k) steps after made done = array_added l gs may steps after done list k made
 slot_left l is key (change.Add gs) may (slot.Whole c) steps after made done = whole_left l gs may key steps after done c made
+slot_left l is key (change.AddAfter g gs) may s steps after made done = values_put_behind l g gs may key s steps after made done
 slot_left l is key (change.Remove gs) may (slot.Element list n) steps after made done = element_removed l is steps after done gs key list n made
 slot_left l is key (change.Remove gs) may (slot.Absent list k) steps after made done = tt
 slot_left l is key (change.Remove gs) may (slot.Whole c) steps after made done = whole_removed l is steps after done gs key c made

@@ -18,6 +18,7 @@ use Rattle.meson_places.specs.AssignedValues.{assigned_room}
 use Rattle.meson_places.specs.Assignments.{changed_slot}
 use Rattle.meson_places.specs.Changes.{delete_steps, set_steps}
 use Rattle.meson_places.specs.Names.{the_place}
+use Rattle.meson_places.specs.Insertions.{insert_steps}
 use Rattle.meson_places.specs.NewElements.{add_steps}
 use Rattle.meson_places.specs.Removals.{remove_steps}
 use Rattle.meson_places.specs.Replacements.{exchange, exchange_steps}
@@ -51,6 +52,7 @@ abbrev pub MayBeMade : ValueChange → Type 0
 MayBeMade (change.Set g) = MayBeGiven g
 MayBeMade (change.SetAll gs) = AllMayBeGiven gs
 MayBeMade (change.Add gs) = AllMayBeGiven gs
+MayBeMade (change.AddAfter g gs) = AllMayBeGiven gs
 MayBeMade (change.Remove gs) = Unit {0}
 MayBeMade (change.Replace old new) = MayBeGiven new
 MayBeMade change.Delete = Unit {0}
@@ -59,6 +61,7 @@ abbrev pub slot_steps : Loaded → (key : List ℕ) → (c : ValueChange) → Ma
 slot_steps l key (change.Set g) may s = set_within l g (written_given g may) key s
 slot_steps l key (change.SetAll gs) may s = set_all l gs may key s
 slot_steps l key (change.Add gs) may s = add_steps l gs may key s
+slot_steps l key (change.AddAfter g gs) may s = insert_steps l g gs may key s
 slot_steps l key (change.Remove gs) may s = remove_steps l gs key s
 slot_steps l key (change.Replace old new) may s = exchange_steps l (exchange old new may) key s
 slot_steps l key change.Delete may s = delete_steps s

@@ -81,7 +81,7 @@ added_slot files p s (Some b) = Ok (if not (is_empty (lists_at p b.value_at)) &&
 abbrev pub own_slot : List File → Project Span → Behind → Result Slot Refusal
 own_slot files p b = if is_read_once files p b.variable b.read_at then Ok (slot.Whole b.value_at) else Err (Shared b.variable)
 
--- An element of them is removed or replaced only where nothing else reads the variable.
+-- An element of them is removed or replaced, or gets values behind it, only where nothing else reads the variable.
 abbrev pub said_slot : List File → Project Span → List Given → Slot → Option Behind → Result Slot Refusal
 said_slot files p gs s None = Ok s
 said_slot files p gs s (Some b) = if says_one_at files p gs b.value_at then own_slot files p b else Ok s
@@ -100,6 +100,7 @@ set_slot files p (given.Code code) s = Ok s
 abbrev pub slot_behind : List File → Project Span → ValueChange → Slot → Result Slot Refusal
 slot_behind files p (change.Set g) s = set_slot files p g s
 slot_behind files p (change.Add gs) s = added_slot files p s (behind_slot files p gs s)
+slot_behind files p (change.AddAfter g gs) s = said_slot files p (g ∷ []) s (behind_slot files p (g ∷ []) s)
 slot_behind files p (change.Remove gs) s = said_slot files p gs s (behind_slot files p gs s)
 slot_behind files p (change.Replace old new) s = said_slot files p (old ∷ []) s (behind_slot files p (old ∷ []) s)
 slot_behind files p _ s = Ok s

@@ -7,7 +7,7 @@ use Rattle.meson_syntax.specs.Tree.{Expression, Nowhere, Plain, erase_expression
 use Rattle.meson_edit.specs.Edits.{Written}
 use Rattle.meson_calls.specs.declared.call.CallRef.{CallRef}
 use Rattle.meson_calls.specs.Loading.{Loaded, project}
-use Rattle.meson_calls.specs.Project.{child, expression_at}
+use Rattle.meson_calls.specs.Project.{Placed, child, expression_at}
 use Rattle.meson_steps.specs.declared.argument.ValueChange.{ValueChange}
 use Rattle.meson_steps.specs.declared.argument.ValueChange.TheVariants as change
 use Rattle.meson_steps.specs.declared.argument.ValueName.{ValueName}
@@ -16,13 +16,14 @@ use Rattle.meson_steps.specs.GivenWords.{MayBeGiven}
 use Rattle.meson_places.specs.declared.slots.Slot.{Slot}
 use Rattle.meson_places.specs.declared.slots.Slot.TheVariants as slot
 use Rattle.meson_places.specs.ArrayEffects.{HasValues}
+use Rattle.meson_places.specs.Behind.{placed_value}
 use Rattle.meson_places.specs.BehindLaws.{IsChanged}
 use Rattle.meson_places.specs.Changes.{element_child, replaces_texts}
 use Rattle.meson_places.specs.Equality.{lists_say, says}
 use Rattle.meson_places.specs.Expressions.{ExpressionIs}
 use Rattle.meson_places.specs.KeyEffects.{ArrayAdded, ArraySet, GivenAdded}
 use Rattle.meson_places.specs.AssignedValues.{is_assigned, statement_of}
-use Rattle.meson_places.specs.Laws.{AssignedIs, HasAlso, IsWithout, MaySet, SlotIs, SlotIsThere}
+use Rattle.meson_places.specs.Laws.{AssignedIs, HasAlso, IsWithout, MaySet, PutBehind, SlotIs, SlotIsThere}
 use Rattle.meson_places.specs.Names.{the_place}
 use Rattle.meson_places.specs.NewElements.{array_with, fresh_written, lone_token}
 use Rattle.meson_places.specs.SaidElements.{elements_left, says_one, value_left}
@@ -82,6 +83,13 @@ pub record WholeAdded (old : Loaded) (gs : List Given) (c : CallRef) (before aft
   pub value : Expression Span
   pub is_value : expression_at (project old) c ≡ Some value
   pub added : AddedTo old gs may c value before after
+
+-- The value of a slot was there, and the values were put behind the first element of its lists that said another one.
+pub record ValuesPutBehind (old : Loaded) (it : Given) (gs : List Given) (s : Slot) (before after : List Plain) : Type 0 where
+  pub may : AllMayBeGiven gs
+  pub value : Placed (Expression Span)
+  pub is_value : placed_value (project old) s ≡ Some value
+  pub put : PutBehind old it gs may value.place value.it before after
 
 -- ---- removed
 
@@ -147,6 +155,7 @@ SlotLeft old (change.SetAll gs) (slot.Absent list key) before after = ArrayAdded
 SlotLeft old (change.Add gs) (slot.Element list n) before after = ElementAdded old gs list n before after
 SlotLeft old (change.Add gs) (slot.Absent list key) before after = ArrayAdded old gs list key before after
 SlotLeft old (change.Add gs) (slot.Whole c) before after = WholeAdded old gs c before after
+SlotLeft old (change.AddAfter g gs) s before after = ValuesPutBehind old g gs s before after
 SlotLeft old (change.Remove gs) (slot.Element list n) before after = ElementRemoved old gs list n before after
 SlotLeft old (change.Remove gs) (slot.Whole c) before after = WholeRemoved old gs c before after
 SlotLeft old (change.Replace was new) (slot.Element list n) before after = ElementReplaced old was new list n before after

@@ -9,6 +9,7 @@ pub mod Colons
 pub mod ColonLaws
 pub mod Equality
 pub mod Expressions
+pub mod Insertions
 pub mod NamedValues
 pub mod Names
 pub mod NewElements

@@ -15,6 +15,7 @@ ghost use Rattle.meson_places.specs.Values.{given_node, written_given};
 use crate::assigned::assigned_room;
 use crate::assignments::changed_slot;
 use crate::changes::{delete_steps, set_steps};
+use crate::insertions::{Insertion, insert_steps};
 use crate::lookup::find_place;
 use crate::name::Sources;
 use crate::new_elements::add_steps;
@@ -63,6 +64,7 @@ fn reads_change(change: &ValueChange)
         ValueChange::Set(given) => reads(given),
         ValueChange::SetAll(values) => reads_all(values.get()),
         ValueChange::Add(values) => reads_all(values.get()),
+        ValueChange::AddAfter { values, .. } => reads_all(values.get()),
         ValueChange::Remove(_) => {}
         ValueChange::Replace { new, .. } => reads(new),
         ValueChange::Delete => {}
@@ -125,7 +127,7 @@ fn set_within(
 /// The steps that change the value of a slot.
 ///
 /// # Errors
-/// The faults of `set_within`, `set_all`, `add_steps`, `remove_steps`, `replace_steps` or `delete_steps`.
+/// The faults of `set_within`, `set_all`, `add_steps`, `insert_steps`, `remove_steps`, `replace_steps` or `delete_steps`.
 fn slot_steps(
     alloc: Global,
     sources: Sources<'_>,
@@ -141,6 +143,10 @@ fn slot_steps(
         ValueChange::Set(given) => set_within(alloc, sources, given, key, slot),
         ValueChange::SetAll(values) => set_all(alloc, sources, values.get(), key, slot),
         ValueChange::Add(values) => add_steps(alloc, sources, values.get(), key, slot),
+        ValueChange::AddAfter { after, values } => {
+            let values = values.get();
+            insert_steps(alloc, sources, Insertion { after, values }, key, slot)
+        }
         ValueChange::Remove(values) => remove_steps(alloc, sources, values.get(), key, slot),
         ValueChange::Replace { old, new } => {
             replace_steps(alloc, sources, Pair { old, new }, key, slot)

@@ -210,6 +210,9 @@ fn changed_value(
 {
     match change {
         ValueChange::Add(values) => gaining_value(alloc, sources, values.get(), places),
+        ValueChange::AddAfter { after, .. } => {
+            first_with_one(alloc, sources, slice::from_ref(after), places)
+        }
         ValueChange::Remove(values) => first_with_one(alloc, sources, values.get(), places),
         ValueChange::Replace { old, .. } => {
             first_with_one(alloc, sources, slice::from_ref(old), places)

@@ -1,6 +1,6 @@
 //! Laws of places. The functions do nothing: what they ensure is the law.
 
-ghost use Rattle.meson_places.specs.Laws.{AddsToOneList, ArgumentStepsAreDoable, DeletesOneElement, FindsOneCall, KeepsKind, NewAreUnknown, NewAreWritten, RemovesWhatIsSaid, ReplacesWhatIsSaid, SetsOneValue, SlotsAreThere, ValuesAreThere};
+ghost use Rattle.meson_places.specs.Laws.{AddsToOneList, ArgumentStepsAreDoable, DeletesOneElement, FindsOneCall, KeepsKind, NewAreUnknown, NewAreWritten, PutsBehindFirst, RemovesWhatIsSaid, ReplacesWhatIsSaid, SetsOneValue, SlotsAreThere, ValuesAreThere};
 ghost use Rattle.meson_places.specs.BehindLaws.{ChangesOneValue, ChangesOwnValue, ReadByNobodyElse};
 ghost use Rattle.meson_places.specs.ColonLaws.{TakesLastColon};
 ghost use Rattle.meson_places.specs.LineLaws.{FindsOnLine};
@@ -60,6 +60,11 @@ pub fn new_are_unknown()
 /// What is written for the new ones is what is written for each of them.
 pub fn new_are_written()
     ensures { NewAreWritten }
+{}
+
+/// Values are put behind the first element of the lists of a value that says another one, in their order, and all other elements stay in theirs.
+pub fn puts_behind_first()
+    ensures { PutsBehindFirst }
 {}
 
 /// From the lists of a value exactly those elements are removed that say one of some values.

@@ -9,6 +9,7 @@ pub mod changes;
 mod colon;
 mod elements;
 mod equality;
+mod insertions;
 mod keys;
 mod known;
 pub mod laws;

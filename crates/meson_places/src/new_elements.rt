@@ -1,6 +1,6 @@
 //! The steps that add values to the lists of a value.
 
-ghost use Rattle.std.specs.Prelude.{◌≡◌, ◌≢◌, ◌++◌, ◌∷◌, [], Err, IfErr, IfOk, List, MatchOption, MatchResult, OnOk, Result, Some, length, map, option_map};
+ghost use Rattle.std.specs.Prelude.{◌≡◌, ◌≢◌, ◌<◌, ◌^◌, ◌++◌, ◌∷◌, [], Err, IfErr, IfOk, List, MatchOption, MatchResult, OnOk, Result, Some, length, map, option_map};
 ghost use Rattle.meson_edit.specs.Edits.{Replace, Written};
 ghost use Rattle.meson_splice.specs.Files.{bytes_at};
 ghost use Rattle.meson_syntax.specs.Grammar.{expression_words};
@@ -37,24 +37,25 @@ use meson_calls::{CallRef, Refusal};
 use meson_splice::Text;
 use meson_steps::given::Given;
 use meson_steps::step::{ListEdit, ListStep};
-use meson_syntax::{Arg, Expr};
+use meson_syntax::Expr;
 use std::alloc::{AllocError, Global};
 
-/// The steps that add values behind all elements of the list at a place.
-fn put_behind(
+/// The steps that put values behind this many elements of the list at a place, one after another.
+pub(crate) fn put_behind(
     alloc: Global,
     list: &CallRef,
-    elements: &[Arg],
+    many: usize,
     values: &[&Given],
 ) -> Result<Vec<ListStep>, Refusal>
-    ensures done { let many = length elements.now in (ws : List (Written (Expression Nowhere)))
+    requires { many < 2 ^ 63 }
+    ensures done { (ws : List (Written (Expression Nowhere)))
         → map (λ w. w.bytes) ws ≡ map given_bytes (map (λ x. x.now) values.now) → IfOk result (λ steps. AreBare (put_each list.now many many ws) steps.items) }
     ensures refused { IfErr result (λ e. e ≡ OutOfMemory) }
 {
     let mut steps = Vec::new(alloc);
     for i in 0..values.len() {
         let new = given_bytes(alloc, values[i])?;
-        let edit = put_at(elements.len(), elements.len() + i, new);
+        let edit = put_at(many, many + i, new);
         push_edit(alloc, list, edit, &mut steps)?;
     }
     Ok(steps)
@@ -89,7 +90,7 @@ fn add_to_list(
         return Err(Refusal::TooDeep);
     }
     let new = fresh(alloc, to.source, to.known, values)?;
-    put_behind(alloc, place, to.list.elements, new.as_slice())
+    put_behind(alloc, place, to.list.elements.len(), new.as_slice())
 }
 
 /// The steps that add values to the last list of the expression at a place, if it has one.

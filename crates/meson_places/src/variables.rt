@@ -298,7 +298,7 @@ fn set_slot(alloc: Global, sources: Sources<'_>, given: &Given, slot: Slot) -> R
 /// The slot whose value a change is made to: the slot itself, or that of the value of the variable that its value is.
 ///
 /// # Errors
-/// A value would be set, or an element of a list removed or replaced, that is the value of a variable which something else reads. Or out of memory.
+/// A value would be set, an element of a list removed or replaced, or values put behind one, that is the value of a variable which something else reads. Or out of memory.
 pub(crate) fn slot_behind(
     alloc: Global,
     sources: Sources<'_>,
@@ -312,6 +312,9 @@ pub(crate) fn slot_behind(
     match change {
         ValueChange::Set(given) => set_slot(alloc, sources, given, slot),
         ValueChange::Add(values) => added_slot(alloc, sources, values.get(), slot),
+        ValueChange::AddAfter { after, .. } => {
+            said_slot(alloc, sources, slice::from_ref(after), slot)
+        }
         ValueChange::Remove(values) => said_slot(alloc, sources, values.get(), slot),
         ValueChange::Replace { old, .. } => said_slot(alloc, sources, slice::from_ref(old), slot),
         _ => Ok(slot),
