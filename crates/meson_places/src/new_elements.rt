@@ -37,7 +37,7 @@ use meson_calls::{CallRef, Refusal};
 use meson_splice::Text;
 use meson_steps::given::Given;
 use meson_steps::step::{ListEdit, ListStep};
-use meson_syntax::Expr;
+use meson_syntax::{Arg, Expr};
 use std::alloc::{AllocError, Global};
 
 /// The steps that put values behind this many elements of the list at a place, one after another.
@@ -59,6 +59,20 @@ pub(crate) fn put_behind(
         push_edit(alloc, list, edit, &mut steps)?;
     }
     Ok(steps)
+}
+
+/// The steps that put values behind all elements of the list at a place.
+fn put_behind_all(
+    alloc: Global,
+    list: &CallRef,
+    elements: &[Arg],
+    values: &[&Given],
+) -> Result<Vec<ListStep>, Refusal>
+    ensures done { let many = length elements.now in (ws : List (Written (Expression Nowhere)))
+        → map (λ w. w.bytes) ws ≡ map given_bytes (map (λ x. x.now) values.now) → IfOk result (λ steps. AreBare (put_each list.now many many ws) steps.items) }
+    ensures refused { IfErr result (λ e. e ≡ OutOfMemory) }
+{
+    put_behind(alloc, list, elements.len(), values)
 }
 
 /// A list among the files: the source, and what says values already.
@@ -90,7 +104,7 @@ fn add_to_list(
         return Err(Refusal::TooDeep);
     }
     let new = fresh(alloc, to.source, to.known, values)?;
-    put_behind(alloc, place, to.list.elements.len(), new.as_slice())
+    put_behind_all(alloc, place, to.list.elements, new.as_slice())
 }
 
 /// The steps that add values to the last list of the expression at a place, if it has one.
