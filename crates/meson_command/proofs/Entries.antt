@@ -110,7 +110,7 @@ read_by operation.Replace values = values
 read_by operation.Delete values = []
 read_by operation.Info values = []
 
--- and the value behind which values are added
+-- and the value after which values are added
 abbrev after_by : ArgumentOperation → Option Given → Option Given
 after_by operation.Add after = after
 after_by o after = None

@@ -43,7 +43,7 @@ abbrev pub after_meant : Option Text → Option (Option Given)
 after_meant None = Some None
 after_meant (Some word) = option_map Some (meant_by word)
 
--- the command that the operation, the name of the value, the word of the value behind which values are added, and further words mean
+-- the command that the operation, the name of the value, the word of the value after which values are added, and further words mean
 abbrev pub command_meant : ArgumentOperation → ValueName → (after : Option Text) → List Text → Result Command UsageFault
 command_meant operation name after words =
     then_ok (ok_or (values_meant words) NotCode) (λ values.

@@ -103,11 +103,7 @@ fn explain_values(
 }
 
 /// Explains that the operation does not take `--after`.
-fn explain_after(
-    alloc: Global,
-    remarks: &mut Remarks,
-    operation: &str,
-) -> Result<(), AllocError> {
+fn explain_after(alloc: Global, remarks: &mut Remarks, operation: &str) -> Result<(), AllocError> {
     remarks.note(format!(in alloc; "{operation} does not take --after")?)?;
     remarks.help_words(
         alloc,

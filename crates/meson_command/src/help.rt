@@ -133,7 +133,7 @@ Operations:
           keyword or entry is inserted after the others
   add     add the values that its list does not have yet, at the end; of a
           sum, to its last list; an absent key gets the array of them;
-          with --after, behind the first element of its lists that is ELEMENT
+          with --after, after the first element of its lists that is ELEMENT
   remove  remove each element of its lists that is one of the values; a value
           without a list goes with its argument or entry, if it is the value
   replace  takes two values, OLD and NEW: put NEW in the place of each element
@@ -191,7 +191,7 @@ Examples:
 
 pub(crate) const PLACE_FUNCTION: &str = "Where the value is, see Places";
 
-pub(crate) const AFTER: &str = "Of add: put the values behind this element";
+pub(crate) const AFTER: &str = "Of add: put the values after this element";
 
 pub(crate) const DEFAULT_OPTIONS: &str = "Edit the default options of the project";
 

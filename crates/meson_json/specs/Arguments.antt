@@ -77,13 +77,13 @@ change_by operation.Delete [] = Some change.Delete
 change_by operation.Delete (g ∷ gs) = None
 change_by operation.Info gs = None
 
--- the same, with the value behind which values are added, if one is given; only `add` takes it
+-- the same, with the value after which values are added, if one is given; only `add` takes it
 abbrev pub change_to : ArgumentOperation → (after : Option Given) → List Given → Option ValueChange
 change_to o None gs = change_by o gs
 change_to operation.Add (Some it) (g ∷ gs) = Some (change.AddAfter it (g ∷ gs))
 change_to o (Some it) gs = None
 
--- the command of an operation with the name of a value, the value behind which values are added, and further values, if there are as many as it takes; a
+-- the command of an operation with the name of a value, the value after which values are added, and further values, if there are as many as it takes; a
 -- report takes none
 abbrev pub command_to : ArgumentOperation → ValueName → (after : Option Given) → List Given → Option Command
 command_to operation.Info name None [] = Some (command.ArgumentInfo name)

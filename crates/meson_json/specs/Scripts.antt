@@ -145,7 +145,7 @@ values_at i argument.Replace d = given (λ v. option_and_then (each_of given_val
 values_at i argument.Delete d = Ok []
 values_at i argument.Info d = Ok []
 
--- the value behind which values are added, if one is given; only `add` reads it
+-- the value after which values are added, if one is given; only `add` reads it
 abbrev pub after_at : ℕ → ArgumentOperation → Data → Result (Option Given) ScriptFault
 after_at i argument.Add d = given (λ v. option_map Some (given_value v)) i (codes "after") None (get (codes "after") d)
 after_at i operation d = Ok None

@@ -125,7 +125,7 @@ fn change_by(operation: ArgumentOperation, values: Vec<Given>) -> Option<ValueCh
     }
 }
 
-/// The same, with the value behind which values are added, if one is given. Only `add` takes it.
+/// The same, with the value after which values are added, if one is given. Only `add` takes it.
 fn change_to(
     operation: ArgumentOperation,
     after: Option<Given>,
@@ -143,7 +143,7 @@ fn change_to(
     Some(ValueChange::AddAfter { after, values })
 }
 
-/// The command that an operation, the name of a value, the value behind which values are added, and further values mean, if there are as many as it takes. A
+/// The command that an operation, the name of a value, the value after which values are added, and further values mean, if there are as many as it takes. A
 /// report takes none.
 pub fn command_to(
     operation: ArgumentOperation,

@@ -316,7 +316,7 @@ fn after_of(alloc: Global, index: usize, entry: &Value) -> Result<Option<Given>,
     }
 }
 
-/// The value behind which values are added, if one is given and the operation of the entry reads it.
+/// The value after which values are added, if one is given and the operation of the entry reads it.
 fn after_at(
     alloc: Global,
     index: usize,

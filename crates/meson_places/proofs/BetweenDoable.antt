@@ -1,4 +1,4 @@
--- The steps that put values behind an element may be done one after another.
+-- The steps that put values after an element may be done one after another.
 use Rattle.std.proofs.Common.{◌≡◌, ℕ, zero, suc, ◌-◌, ◌≤◌, ◌<◌, true, false, List, [], ◌∷◌, ◌++◌, length, map, drop, take, Option, Some, None, Result, Ok, Err, refl, sym, ap, ◌∙◌, subst, arith}
 use Rattle.std.specs.Prelude.{Bool, All, nat_lt, option_map, if◌then◌else◌}
 use Rattle.std.specs.List.{list_all}

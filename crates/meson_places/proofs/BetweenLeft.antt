@@ -1,4 +1,4 @@
--- What putting values behind an element leaves: the list has them there, and all else stays.
+-- What putting values after an element leaves: the list has them there, and all else stays.
 use Rattle.std.proofs.Common.{◌≡◌, ℕ, zero, suc, ◌≤◌, ◌<◌, true, false, List, [], ◌∷◌, ◌++◌, append_assoc, drop, length, map, take, Option, Some, None, Ok, refl, sym, ap, ap₂, ◌∙◌, subst, arith}
 use Rattle.std.specs.Prelude.{Bool, nat_lt, slice_set, option_and_then, option_map, if◌then◌else◌}
 use Rattle.std.proofs.lemmas.Bool.{ltb-true}
@@ -66,7 +66,7 @@ module _ (c : CallRef) (many : ℕ) where
   abbrev with_new : List (Argument Nowhere) → ℕ → List (Argument Nowhere) → List (Argument Nowhere)
   with_new ys k new = take k ys ++ (new ++ drop k ys)
 
-  -- the edit of an element behind another one
+  -- the edit of an element after another one
   edit_between : (t : Plain) (q : ListAt Nowhere) → list_at t path ≡ Some q → (new : Written (Argument Nowhere)) (m : ℕ) → m < length (elements q.list) → (trees : List Plain) → nth trees c.file ≡ Some t
       → stepped (step_in c (After path m new)) trees ≡ Some (slice_set trees c.file (q.back (with_elements q.list (with_new (elements q.list) (suc m) (new.node ∷ [])))))
   edit_between t q at_ new m within trees is_tree =

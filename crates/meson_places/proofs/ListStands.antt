@@ -145,7 +145,7 @@ module _ (c : CallRef) (b : Bracket) (limit : ℕ) (trees : List Plain) (all : A
       list_step (Replace path n new) ys writes made (replacements-keep-levels path n new level s.tree (s.place.back (with_elements s.place.list ys)) tree_level made)
       (omega (arith, depth_append (take n xs) (with_value new.node it ∷ drop (suc n) xs), depth_take n xs, depth_drop (suc n) xs, value_depth it new.node, depth_nth xs n it is, old_depth, small))
 
-  -- an element comes behind another one
+  -- an element comes after another one
   pub insert_step : (m : ℕ) (it : Argument Nowhere) (new : Written (Argument Nowhere)) → nth xs m ≡ Some it → IsWritten new.bytes (argument_words new.node) → MayFollow b it (drop (suc m) xs) new.node
       → suc (argument_depth new.node) ≤ limit → ListStep (After path m new) (take (suc m) xs ++ new.node ∷ drop (suc m) xs)
   insert_step m it new is writes may small =

@@ -81,7 +81,7 @@ added_slot files p s (Some b) = Ok (if not (is_empty (lists_at p b.value_at)) &&
 abbrev pub own_slot : List File → Project Span → Behind → Result Slot Refusal
 own_slot files p b = if is_read_once files p b.variable b.read_at then Ok (slot.Whole b.value_at) else Err (Shared b.variable)
 
--- An element of them is removed or replaced, or gets values behind it, only where nothing else reads the variable.
+-- An element of them is removed or replaced, or gets values after it, only where nothing else reads the variable.
 abbrev pub said_slot : List File → Project Span → List Given → Slot → Option Behind → Result Slot Refusal
 said_slot files p gs s None = Ok s
 said_slot files p gs s (Some b) = if says_one_at files p gs b.value_at then own_slot files p b else Ok s

@@ -84,7 +84,7 @@ pub record WholeAdded (old : Loaded) (gs : List Given) (c : CallRef) (before aft
   pub is_value : expression_at (project old) c ≡ Some value
   pub added : AddedTo old gs may c value before after
 
--- The value of a slot was there, and the values were put behind the first element of its lists that said another one.
+-- The value of a slot was there, and the values were put after the first element of its lists that said another one.
 pub record ValuesPutBehind (old : Loaded) (it : Given) (gs : List Given) (s : Slot) (before after : List Plain) : Type 0 where
   pub may : AllMayBeGiven gs
   pub value : Placed (Expression Span)

@@ -1,4 +1,4 @@
--- The steps that put values behind the first element that says a value.
+-- The steps that put values after the first element that says a value.
 use Rattle.std.specs.Prelude.{ℕ, suc, Bool, List, [], ◌∷◌, if◌then◌else◌, Option, Some, None, Result, Ok, Err}
 use Rattle.meson_lex.specs.declared.kinds.Span.{Span}
 use Rattle.meson_splice.specs.Files.{bytes_at}
@@ -37,13 +37,13 @@ find_mark source g (l ∷ ls) = or_later l.place (number_saying source g 0 l.ele
 
 -- ---- the steps
 
--- Each value that is not known, behind the element. Its list has room for all that are given.
+-- Each value that is not known, after the element. Its list has room for all that are given.
 abbrev pub insert_at : Loaded → (key : List ℕ) → (known : Given → Bool) → (gs : List Given) → AllMayBeGiven gs → Option Mark → Result (List Step) Refusal
 insert_at l key known gs may None = Err (NoSuchValue key)
 insert_at l key known gs may (Some m) =
     if_room_for l m.list (all_written gs may) (put_each m.list (suc m.number) (suc m.number) (fresh_written known [] gs may))
 
--- behind the first element that says a value, of the lists of an expression
+-- after the first element that says a value, of the lists of an expression
 abbrev pub insert_by : Loaded → (key source : List ℕ) → (after : Given) → (gs : List Given) → AllMayBeGiven gs → Expression Span → List (ValueList Span)
     → Result (List Step) Refusal
 insert_by l key source after gs may e [] = Err (says_other key e)

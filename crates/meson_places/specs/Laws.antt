@@ -188,9 +188,9 @@ abbrev pub NewAreWritten : Type 0
 NewAreWritten = (known : Given → Bool) (before gs : List Given) (may : AllMayBeGiven gs)
     → (new : AllMayBeGiven (fresh known before gs)) × (fresh_written known before gs may ≡ all_written (fresh known before gs) new)
 
--- ---- elements that are added behind another one
+-- ---- elements that are added after another one
 
--- Elements with these values are behind the first n of the list there, and all else in the trees is as it was.
+-- Elements with these values are after the first n of the list there, and all else in the trees is as it was.
 pub record HasBetween (list : CallRef) (n : ℕ) (new : List (Expression Nowhere)) (before after : List Plain) : Type 0 where
   pub tree : Plain
   pub is_tree : nth before list.file ≡ Some tree
@@ -218,7 +218,7 @@ pub record IsFirstSaying (source : List ℕ) (g : Given) (ls : List (ValueList S
   pub says_it : element_says source g element ≡ true
   pub none_before : list_any (element_says source g) (take m.number list.elements) ≡ false
 
--- the values are behind the first element that said another one, in their order
+-- the values are after the first element that said another one, in their order
 pub record PutBehind (l : Loaded) (it : Given) (gs : List Given) (may : AllMayBeGiven gs) (c : CallRef) (e : Expression Span) (before after : List Plain) : Type 0 where
   pub mark : Mark
   pub is_first : IsFirstSaying (bytes_at c.file l.files) it (lists_of c e) mark

@@ -1,4 +1,4 @@
-//! The steps that put values behind an element.
+//! The steps that put values after an element.
 
 ghost use Rattle.std.specs.Prelude.{◌≡◌, ◌≢◌, ◌+◌, ◌<◌, ◌^◌, ℕ, Err, IfOk, IfSome, List, MatchResult, Some};
 ghost use Rattle.meson_syntax.specs.View.{args_view};
@@ -39,7 +39,7 @@ pub(crate) struct Mark {
     pub number: usize,
 }
 
-/// Values, and the one behind which they are put.
+/// Values, and the one after which they are put.
 #[derive(Clone, Copy)]
 pub(crate) struct Insertion<'v> {
     pub after: &'v Given,
@@ -85,7 +85,7 @@ fn find_mark(
     Ok(None)
 }
 
-/// The steps that put the values that no list says already behind an element.
+/// The steps that put the values that no list says already after an element.
 ///
 /// # Errors
 /// The file would nest too deep, or out of memory.
@@ -111,7 +111,7 @@ fn insert_at(
     put_behind(alloc, &mark.list, mark.number + 1, new.as_slice())
 }
 
-/// The steps that put values behind the first element of some lists that says a value.
+/// The steps that put values after the first element of some lists that says a value.
 ///
 /// # Errors
 /// No element says it; the file would nest too deep; or out of memory.
@@ -134,7 +134,7 @@ fn insert_among(
     }
 }
 
-/// The steps that put values behind the first element that says a value, of the lists of the value at a place.
+/// The steps that put values after the first element that says a value, of the lists of the value at a place.
 ///
 /// # Errors
 /// It has no list, or the faults of `insert_among`.
@@ -161,7 +161,7 @@ fn insert_into(
     insert_among(alloc, sources, keyed, new, lists.as_slice())
 }
 
-/// The steps that put values behind the first element that says a value, of the lists of the value of a slot: each that no list of it says.
+/// The steps that put values after the first element that says a value, of the lists of the value of a slot: each that no list of it says.
 ///
 /// # Errors
 /// The slot is absent, or no element says the value; the value has no list; the file would nest too deep; or out of memory.

@@ -62,7 +62,7 @@ pub fn new_are_written()
     ensures { NewAreWritten }
 {}
 
-/// Values are put behind the first element of the lists of a value that says another one, in their order, and all other elements stay in theirs.
+/// Values are put after the first element of the lists of a value that says another one, in their order, and all other elements stay in theirs.
 pub fn puts_behind_first()
     ensures { PutsBehindFirst }
 {}

@@ -40,7 +40,7 @@ use meson_steps::step::{ListEdit, ListStep};
 use meson_syntax::{Arg, Expr};
 use std::alloc::{AllocError, Global};
 
-/// The steps that put values behind this many elements of the list at a place, one after another.
+/// The steps that put values after this many elements of the list at a place, one after another.
 pub(crate) fn put_behind(
     alloc: Global,
     list: &CallRef,
@@ -61,7 +61,7 @@ pub(crate) fn put_behind(
     Ok(steps)
 }
 
-/// The steps that put values behind all elements of the list at a place.
+/// The steps that put values after all elements of the list at a place.
 fn put_behind_all(
     alloc: Global,
     list: &CallRef,

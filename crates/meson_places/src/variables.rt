@@ -298,7 +298,8 @@ fn set_slot(alloc: Global, sources: Sources<'_>, given: &Given, slot: Slot) -> R
 /// The slot whose value a change is made to: the slot itself, or that of the value of the variable that its value is.
 ///
 /// # Errors
-/// A value would be set, an element of a list removed or replaced, or values put behind one, that is the value of a variable which something else reads. Or out of memory.
+/// A value would be set, an element of a list removed or replaced, or values put after one, that is the value of a variable which something else reads. Or out
+/// of memory.
 pub(crate) fn slot_behind(
     alloc: Global,
     sources: Sources<'_>,

@@ -49,7 +49,7 @@ pub enum ValueChange {
     SetAll(Many<Given>),
     /// Those of these values that it does not have yet are added to its last list.
     Add(Many<Given>),
-    /// Those of these values that it does not have yet are added behind the first element of its lists that says a value.
+    /// Those of these values that it does not have yet are added after the first element of its lists that says a value.
     AddAfter { after: Given, values: Many<Given> },
     /// What says one of these values is removed: elements of its lists, or all of it.
     Remove(Many<Given>),
