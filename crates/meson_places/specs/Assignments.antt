@@ -65,8 +65,8 @@ says_all_in source gs c (Some e) = list_all (lists_say source (lists_of c e)) gs
 abbrev pub says_all_at : List File → Project Span → List Given → CallRef → Bool
 says_all_at files p gs c = says_all_in (bytes_at c.file files) gs c (expression_at p c)
 
--- Values are added to the first value that has a list; unless another one has them all. They are removed or replaced in the first one that has one of them, and put after
--- a value in the first one that has it.
+-- Values are added to the first value that has a list; unless another one has them all. They are removed or replaced in the first one that has one of them,
+-- and put after a value in the first one that has it.
 abbrev pub changed_value : List File → Project Span → ValueChange → List CallRef → Option CallRef
 changed_value files p (change.Add gs) cs = or_first (first_that (says_all_at files p gs) cs) (first_that (has_lists p) cs)
 changed_value files p (change.AddAfter g gs) cs = first_that (says_one_at files p (g ∷ [])) cs

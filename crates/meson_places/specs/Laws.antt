@@ -219,10 +219,12 @@ pub record IsFirstSaying (source : List ℕ) (g : Given) (ls : List (ValueList S
   pub none_before : list_any (element_says source g) (take m.number list.elements) ≡ false
 
 -- the values are after the first element that said another one, in their order
-pub record PutBehind (l : Loaded) (it : Given) (gs : List Given) (may : AllMayBeGiven gs) (c : CallRef) (e : Expression Span) (before after : List Plain) : Type 0 where
+pub record PutBehind (l : Loaded) (it : Given) (gs : List Given) (may : AllMayBeGiven gs) (c : CallRef) (e : Expression Span) (before after : List Plain)
+    : Type 0 where
   pub mark : Mark
   pub is_first : IsFirstSaying (bytes_at c.file l.files) it (lists_of c e) mark
-  pub now : AlsoBetween mark.list (suc mark.number) (map (λ w. w.node) (fresh_written (lists_say (bytes_at c.file l.files) (lists_of c e)) [] gs may)) before after
+  pub now : AlsoBetween mark.list (suc mark.number) (map (λ w. w.node) (fresh_written (lists_say (bytes_at c.file l.files) (lists_of c e)) [] gs may))
+      before after
 
 -- the law: so it is of the values that no element of a list of the value said
 abbrev pub PutsBehindFirst : Type 0
