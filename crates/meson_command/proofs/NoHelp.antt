@@ -158,7 +158,7 @@ unfolding argument_action
 argument-plain folder rows =
     after (ok_or (argument_operation (word_at (codes "OPERATION") rows)) Usage) _ (λ operation.
     after (ok_or (value_named folder operation rows) Usage) _ (λ name.
-    after (command_meant operation name (words_at (codes "VALUE") rows)) _ (λ c. ok _ (requested-plain operation c))))
+    after (command_meant operation name (first_of (codes "ELEMENT") rows) (words_at (codes "VALUE") rows)) _ (λ c. ok _ (requested-plain operation c))))
 
 within-plain : (folder : Option Text) (name : Text) (rows : List Row) → Answers IsPlain (action_within folder name rows)
 unfolding action_within
