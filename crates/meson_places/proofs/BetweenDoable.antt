@@ -1,5 +1,5 @@
 -- The steps that put values after an element may be done one after another.
-use Rattle.std.proofs.Common.{◌≡◌, ℕ, zero, suc, ◌-◌, ◌≤◌, ◌<◌, true, false, List, [], ◌∷◌, ◌++◌, length, map, drop, take, Option, Some, None, Result, Ok, Err, refl, sym, ap, ◌∙◌, subst, arith}
+use Rattle.std.proofs.Common.{◌≡◌, ℕ, zero, suc, ◌-◌, ◌≤◌, ◌<◌, true, false, List, [], ◌∷◌, ◌++◌, length, map, drop, take, Option, Some, None, Ok, Err, refl, sym, ap, ◌∙◌, subst, arith}
 use Rattle.std.specs.Prelude.{Bool, All, nat_lt, option_map, if◌then◌else◌}
 use Rattle.std.specs.List.{list_all}
 use Rattle.std.proofs.lemmas.Bool.{and_from, and_parts, ltb-true}
@@ -8,7 +8,7 @@ use Rattle.meson_lex.specs.declared.kinds.Span.{Span}
 use Rattle.meson_splice.specs.Files.{bytes_at}
 use Rattle.meson_syntax.specs.declared.operator.Bracket.{Bracket}
 use Rattle.meson_syntax.specs.declared.operator.Bracket.TheVariants as bracket
-use Rattle.meson_syntax.specs.Grammar.{LevelExpression, expression_depth}
+use Rattle.meson_syntax.specs.Grammar.{expression_depth}
 use Rattle.meson_syntax.specs.Paths.{nth}
 use Rattle.meson_syntax.specs.Tree.{Argument, plain, Expression, Nowhere, Plain, erase_argument}
 use Rattle.meson_syntax.proofs.paths.Reaching.{and-then-some}
@@ -29,7 +29,6 @@ use Rattle.meson_places.specs.Behind.{placed_at, placed_value}
 use Rattle.meson_places.specs.Changes.{behind_all, slot_place}
 use Rattle.meson_places.specs.Equality.{lists_say}
 use Rattle.meson_places.specs.Insertions.{find_mark, insert_at, insert_by, insert_into, insert_steps}
-use Rattle.meson_places.specs.Laws.{IsFirstSaying}
 use Rattle.meson_places.specs.NewElements.{fresh_written}
 use Rattle.meson_places.specs.Several.{AllMayBeGiven, put_each}
 use Rattle.meson_places.specs.Slots.{has_no_name}
@@ -38,7 +37,7 @@ use Rattle.meson_places.proofs.ListStands.{ListStands, insert_step, xs}
 use Rattle.meson_places.proofs.ListsThere.{stands_with}
 use Rattle.meson_places.proofs.Marks.{first_found}
 use Rattle.meson_places.proofs.NewElementsDoable.{AllFit, erased_open, follow_may, fresh_fits}
-use Rattle.meson_places.proofs.SeveralDoable.{AllLow, all_room, deepest, lower}
+use Rattle.meson_places.proofs.SeveralDoable.{all_room, deepest, lower}
 use Rattle.meson_places.proofs.SlotsDoable.{nth_within}
 use Rattle.meson_places.proofs.ValueListsThere.{AllThere, IsOpen, ListThere, lists_there}
 

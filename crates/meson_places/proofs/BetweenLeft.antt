@@ -10,7 +10,7 @@ use Rattle.meson_syntax.specs.Tree.{Argument, plain, Expression, Listing, listin
 use Rattle.meson_edit.specs.Edits.{After, Replace, Written, edited, element_added, elements, is_empty, with_elements}
 use Rattle.meson_calls.specs.declared.call.CallRef.{CallRef}
 use Rattle.meson_calls.specs.Loading.{Loaded, project}
-use Rattle.meson_calls.specs.Project.{Placed, expression_at, placed}
+use Rattle.meson_calls.specs.Project.{Placed, expression_at}
 use Rattle.meson_calls.proofs.ExpressionsAt.{list_here}
 use Rattle.meson_steps.specs.ResultLimits.{plain_trees}
 use Rattle.meson_steps.specs.Steps.{Step, all_stepped, step_in, stepped}
@@ -27,7 +27,7 @@ use Rattle.meson_places.specs.Insertions.{find_mark, insert_into, insert_steps}
 use Rattle.meson_places.specs.Laws.{AlsoBetween, PutBehind, PutsBehindFirst}
 use Rattle.meson_places.specs.NewElements.{fresh_written}
 use Rattle.meson_places.specs.Several.{AllMayBeGiven, put_each}
-use Rattle.meson_places.specs.ValueLists.{ValueList, lists_of}
+use Rattle.meson_places.specs.ValueLists.{lists_of}
 use Rattle.meson_places.proofs.AddedValues.{set_twice}
 use Rattle.meson_places.proofs.BetweenDoable.{Inserted, by_mark, nth_is_within, one_longer, placed_there, there_among}
 use Rattle.meson_places.proofs.Marks.{first_found}

@@ -1,17 +1,15 @@
 -- The first element that says a value: what is found, and how a loop over lists finds it.
-use Rattle.std.proofs.Common.{◌≡◌, ℕ, zero, suc, ◌+◌, ◌<◌, true, false, List, [], ◌∷◌, ◌++◌, length, get_or, drop, take, Option, Some, None, refl, sym, ap, ◌∙◌, arith, add-one}
+use Rattle.std.proofs.Common.{◌≡◌, ℕ, suc, ◌+◌, ◌<◌, true, false, List, [], ◌∷◌, length, get_or, drop, take, Option, Some, None, refl, sym, ap, ◌∙◌, arith, add-one}
 use Rattle.std.specs.Prelude.{Bool, ◌||◌, if◌then◌else◌}
 use Rattle.std.specs.List.{list_any}
-use Rattle.std.proofs.lemmas.Bool.{or_parts}
 use Rattle.meson_lex.specs.declared.kinds.Span.{Span}
 use Rattle.meson_syntax.specs.declared.tree.Arg.{Arg}
 use Rattle.meson_syntax.specs.Paths.{nth}
 use Rattle.meson_syntax.specs.Tree.{Argument}
 use Rattle.meson_syntax.specs.View.{arg_view, args_view}
-use Rattle.meson_calls.specs.declared.call.CallRef.{CallRef}
 use Rattle.meson_steps.specs.declared.given.Given.{Given}
 use Rattle.meson_places.specs.declared.insertions.Mark.{Mark}
-use Rattle.meson_places.specs.Equality.{element_says, list_says, lists_say}
+use Rattle.meson_places.specs.Equality.{element_says, lists_say}
 use Rattle.meson_places.specs.Insertions.{find_mark, number_saying, or_later}
 use Rattle.meson_places.specs.Laws.{IsFirstSaying}
 use Rattle.meson_places.specs.ValueLists.{ValueList}
