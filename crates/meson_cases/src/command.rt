@@ -120,6 +120,16 @@ fn named(alloc: Global, folder: Option<&str>, id: &str) -> Result<CallName, Allo
     Ok(CallName { id, folder })
 }
 
+/// The command that renames sources of a target.
+fn rename(alloc: Global, target: CallName, words: &[&str]) -> Read {
+    let [old, new] = words else {
+        return Ok(None);
+    };
+    let old = text(alloc, old)?;
+    let new = text(alloc, new)?;
+    Ok(Some(Command::SourcesRename { target, old, new }))
+}
+
 /// A command on the sources of a target.
 fn on_sources(alloc: Global, target: CallName, operation: &str, words: &[&str]) -> Read {
     let sources = texts(alloc, words)?;
@@ -136,6 +146,7 @@ fn on_target(alloc: Global, target: CallName, operation: &str, words: &[&str]) -
     match operation {
         "rm_target" => Ok(Some(Command::TargetRemove { target })),
         "info" => Ok(Some(Command::TargetInfo { target })),
+        "rename" => rename(alloc, target, words),
         _ => on_sources(alloc, target, operation, words),
     }
 }

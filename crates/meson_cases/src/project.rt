@@ -4,7 +4,7 @@ use crate::command::role_of;
 use crate::files::Files;
 use meson_calls::folders::is_file_name;
 use meson_case_files::{Transcript, text_of};
-use meson_plan::{CallRef, LoadFault, Project, Refusal, Role, Unloaded, subdirs};
+use meson_plan::{BorrowedName, CallRef, LoadFault, Project, Refusal, Role, Unloaded, subdirs};
 use meson_splice::FileSet;
 use meson_syntax::{Many, Path};
 use std::alloc::{AllocError, Global};
@@ -135,7 +135,11 @@ pub fn put_named(
     let id = text_of(alloc, id)?;
     let role = role_of(function).unwrap_or(Role::Target);
     if let Some(project) = loaded(files, alloc, to) {
-        put_found(&project, project.find(alloc, role, id.as_str()), to);
+        let name = BorrowedName {
+            id: id.as_str(),
+            folder: None,
+        };
+        put_found(&project, project.find(alloc, role, name), to);
     }
     Ok(())
 }

@@ -4,7 +4,7 @@ use crate::files::Files;
 use crate::performing::put_refusal;
 use crate::project::{loaded, put_place};
 use meson_case_files::{Transcript, text_of};
-use meson_plan::{CallRef, Project, Role, SourceItem, Sources};
+use meson_plan::{BorrowedName, CallRef, Project, Role, SourceItem, Sources};
 use meson_splice::FileSet;
 use std::alloc::{AllocError, Global};
 
@@ -66,7 +66,11 @@ pub fn put_sources(
 ) -> Result<(), AllocError> {
     let id = text_of(alloc, id)?;
     if let Some(project) = loaded(files, alloc, to) {
-        if let Ok(calls) = project.find(alloc, Role::Target, id.as_str()) {
+        let name = BorrowedName {
+            id: id.as_str(),
+            folder: None,
+        };
+        if let Ok(calls) = project.find(alloc, Role::Target, name) {
             for call in calls.as_slice() {
                 put_of(&project, alloc, call, to);
             }

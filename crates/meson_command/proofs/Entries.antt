@@ -15,14 +15,14 @@ use Rattle.meson_steps.specs.declared.given.Given.TheVariants as given
 use Rattle.meson_json.specs.Arguments.{change_to, command_to, keys_in, place_named}
 use Rattle.meson_json.specs.Each.{each_of}
 use Rattle.meson_json.specs.Operations.{argument_operation}
-use Rattle.meson_json.specs.Scripts.{argument_entry, entry_of, value_name, values_at}
+use Rattle.meson_json.specs.Scripts.{after_at, argument_entry, entry_of, value_name, values_at}
 use Rattle.meson_json.specs.Settings.{given_value}
 use Rattle.meson_json.specs.declared.fault.ScriptFault.{ScriptFault}
 use Rattle.meson_json.specs.declared.fault.ScriptFault.TheVariants.{BadField, UnknownOperation}
 use Rattle.meson_json.specs.declared.names.ArgumentOperation.{ArgumentOperation}
 use Rattle.meson_json.specs.declared.names.ArgumentOperation.TheVariants as operation
 use Rattle.meson_command.specs.Actions.{run, word_at, words_at}
-use Rattle.meson_command.specs.Arguments.{argument_action, keys_meant, requested, value_named, values_meant}
+use Rattle.meson_command.specs.Arguments.{after_meant, argument_action, keys_meant, requested, value_named, values_meant}
 use Rattle.meson_command.specs.Entries.{WordsMeanTheEntry, data_of, entry_of_words, items_of}
 use Rattle.meson_command.specs.declared.asked.Action.{Action}
 use Rattle.meson_command.specs.declared.asked.Action.TheVariants.{Run}
@@ -95,11 +95,11 @@ named_in folder key name = record { place = record { name = name; folder = folde
 abbrev value_in : Option Text → List Text → PlaceName → ValueName
 value_in folder keys name = record { place = record { name = name; folder = folder }; keys = keys }
 
-abbrev by_words : Option Text → Option Text → Option ArgumentOperation → Option PlaceName → List Given → Result Action UsageFault
-by_words folder w o p values =
+abbrev by_words : Option Text → Option Text → Option ArgumentOperation → Option PlaceName → Option Given → List Given → Result Action UsageFault
+by_words folder w o p after values =
     then_ok (ok_or o Usage) (λ operation.
     then_ok (ok_or (option_and_then (λ keys. option_map (value_in folder keys) p) (keys_meant operation w)) Usage) (λ name.
-    then_ok (then_ok (ok_or (Some values) NotCode) (λ values. ok_or (command_to operation name values) Usage)) (λ c. Ok (requested operation c))))
+    then_ok (then_ok (ok_or (Some values) NotCode) (λ values. then_ok (ok_or (Some after) NotCode) (λ it. ok_or (command_to operation name it values) Usage))) (λ c. Ok (requested operation c))))
 
 -- the values that an operation reads
 abbrev read_by : ArgumentOperation → List Given → List Given
@@ -110,11 +110,22 @@ read_by operation.Replace values = values
 read_by operation.Delete values = []
 read_by operation.Info values = []
 
-abbrev by_entry : ℕ → Option Text → Text → Option ArgumentOperation → Option PlaceName → (ArgumentOperation → Result (List Given) ScriptFault) → Result Command ScriptFault
-by_entry i folder key o p read =
+-- and the value after which values are added
+abbrev after_by : ArgumentOperation → Option Given → Option Given
+after_by operation.Add after = after
+after_by o after = None
+
+abbrev Reads : Type 0
+Reads = ArgumentOperation → Result (List Given) ScriptFault
+
+abbrev ReadsAfter : Type 0
+ReadsAfter = ArgumentOperation → Result (Option Given) ScriptFault
+
+abbrev by_entry : ℕ → Option Text → Text → Option ArgumentOperation → Option PlaceName → ReadsAfter → Reads → Result Command ScriptFault
+by_entry i folder key o p after read =
     then_ok (ok_or o (UnknownOperation i)) (λ operation.
     then_ok (then_ok (ok_or p (BadField i (codes "id"))) (λ place. Ok (named_in folder key place))) (λ name.
-    then_ok (read operation) (λ gs. ok_or (command_to operation name gs) (BadField i (codes "values")))))
+    then_ok (read operation) (λ gs. then_ok (after operation) (λ it. ok_or (command_to operation name it gs) (BadField i (codes "values"))))))
 
 one-change : (i : ℕ) (name : ValueName) (c : Option ValueChange) (made : Command)
     → then_ok (ok_or (option_map (commands.Argument name) c) Usage) (λ k. Ok (run k)) ≡ Ok (run made)
@@ -123,89 +134,144 @@ one-change i name None made e = cc
 one-change i name (Some change) made e = run-of (commands.Argument name change) made e
 
 -- what is reported is no run
-no-run : (folder w : Option Text) (p : Option PlaceName) (values : List Given) (made : Command) → by_words folder w (Some operation.Info) p values ≡ Ok (run made) → ⊥
-no-run folder None None values made e = let none : ⊥ = cc in none
-no-run folder None (Some name) [] made e = let none : ⊥ = cc in none
-no-run folder None (Some name) (g ∷ gs) made e = let none : ⊥ = cc in none
-no-run folder (Some key) None values made e = let none : ⊥ = cc in none
-no-run folder (Some key) (Some name) [] made e = let none : ⊥ = cc in none
-no-run folder (Some key) (Some name) (g ∷ gs) made e = let none : ⊥ = cc in none
+no-run : (folder w : Option Text) (p : Option PlaceName) (after : Option Given) (values : List Given) (made : Command) → by_words folder w (Some operation.Info) p after values ≡ Ok (run made) → ⊥
+no-run folder None None after values made e = let none : ⊥ = cc in none
+no-run folder None (Some name) None [] made e = let none : ⊥ = cc in none
+no-run folder None (Some name) None (g ∷ gs) made e = let none : ⊥ = cc in none
+no-run folder None (Some name) (Some it) values made e = let none : ⊥ = cc in none
+no-run folder (Some key) None after values made e = let none : ⊥ = cc in none
+no-run folder (Some key) (Some name) None [] made e = let none : ⊥ = cc in none
+no-run folder (Some key) (Some name) None (g ∷ gs) made e = let none : ⊥ = cc in none
+no-run folder (Some key) (Some name) (Some it) values made e = let none : ⊥ = cc in none
 
-same-made : (i : ℕ) (folder w : Option Text) (o : Option ArgumentOperation) (p : Option PlaceName) (values : List Given) (made : Command)
-    → by_words folder w o p values ≡ Ok (run made) → by_entry i folder (unwrap_or w []) o p (λ operation. Ok (read_by operation values)) ≡ Ok made
-same-made i folder w None p values made e = cc
-same-made i folder w (Some operation.Info) p values made e = absurd (no-run folder w p values made e)
-same-made i folder None (Some operation.Set) p values made e = cc
-same-made i folder None (Some operation.Add) p values made e = cc
-same-made i folder None (Some operation.Remove) p values made e = cc
-same-made i folder None (Some operation.Replace) p values made e = cc
-same-made i folder None (Some operation.Delete) p values made e = cc
-same-made i folder (Some key) (Some operation.Set) None values made e = cc
-same-made i folder (Some key) (Some operation.Add) None values made e = cc
-same-made i folder (Some key) (Some operation.Remove) None values made e = cc
-same-made i folder (Some key) (Some operation.Replace) None values made e = cc
-same-made i folder (Some key) (Some operation.Delete) None values made e = cc
-same-made i folder (Some key) (Some operation.Set) (Some name) values made e = one-change i (named_in folder key name) (change_to operation.Set values) made e
-same-made i folder (Some key) (Some operation.Add) (Some name) values made e = one-change i (named_in folder key name) (change_to operation.Add values) made e
-same-made i folder (Some key) (Some operation.Remove) (Some name) values made e = one-change i (named_in folder key name) (change_to operation.Remove values) made e
-same-made i folder (Some key) (Some operation.Replace) (Some name) values made e = one-change i (named_in folder key name) (change_to operation.Replace values) made e
-same-made i folder (Some key) (Some operation.Delete) (Some name) [] made e = one-change i (named_in folder key name) (change_to operation.Delete []) made e
-same-made i folder (Some key) (Some operation.Delete) (Some name) (g ∷ gs) made e = cc
+same-made : (i : ℕ) (folder w : Option Text) (o : Option ArgumentOperation) (p : Option PlaceName) (after : Option Given) (values : List Given) (made : Command)
+    → by_words folder w o p after values ≡ Ok (run made) → by_entry i folder (unwrap_or w []) o p (λ operation. Ok (after_by operation after)) (λ operation. Ok (read_by operation values)) ≡ Ok made
+same-made i folder w None p after values made e = cc
+same-made i folder w (Some operation.Info) p after values made e = absurd (no-run folder w p after values made e)
+same-made i folder None (Some operation.Set) p after values made e = cc
+same-made i folder None (Some operation.Add) p after values made e = cc
+same-made i folder None (Some operation.Remove) p after values made e = cc
+same-made i folder None (Some operation.Replace) p after values made e = cc
+same-made i folder None (Some operation.Delete) p after values made e = cc
+same-made i folder (Some key) (Some operation.Set) None after values made e = cc
+same-made i folder (Some key) (Some operation.Add) None after values made e = cc
+same-made i folder (Some key) (Some operation.Remove) None after values made e = cc
+same-made i folder (Some key) (Some operation.Replace) None after values made e = cc
+same-made i folder (Some key) (Some operation.Delete) None after values made e = cc
+same-made i folder (Some key) (Some operation.Set) (Some name) None values made e = one-change i (named_in folder key name) (change_to operation.Set None values) made e
+same-made i folder (Some key) (Some operation.Add) (Some name) after values made e = one-change i (named_in folder key name) (change_to operation.Add after values) made e
+same-made i folder (Some key) (Some operation.Remove) (Some name) None values made e = one-change i (named_in folder key name) (change_to operation.Remove None values) made e
+same-made i folder (Some key) (Some operation.Replace) (Some name) None values made e = one-change i (named_in folder key name) (change_to operation.Replace None values) made e
+same-made i folder (Some key) (Some operation.Delete) (Some name) None [] made e = one-change i (named_in folder key name) (change_to operation.Delete None []) made e
+same-made i folder (Some key) (Some operation.Delete) (Some name) None (g ∷ gs) made e = cc
+same-made i folder (Some key) (Some operation.Set) (Some name) (Some it) values made e = cc
+same-made i folder (Some key) (Some operation.Remove) (Some name) (Some it) values made e = cc
+same-made i folder (Some key) (Some operation.Replace) (Some name) (Some it) values made e = cc
+same-made i folder (Some key) (Some operation.Delete) (Some name) (Some it) values made e = cc
 
-by-reads : (i : ℕ) (folder : Option Text) (key : Text) (o : Option ArgumentOperation) (p : Option PlaceName) (values : List Given) (made : Command)
-    → (read : ArgumentOperation → Result (List Given) ScriptFault) → ((operation : ArgumentOperation) → read operation ≡ Ok (read_by operation values))
-    → by_entry i folder key o p (λ operation. Ok (read_by operation values)) ≡ Ok made → by_entry i folder key o p read ≡ Ok made
-by-reads i folder key None p values made read each e = e
-by-reads i folder key (Some operation) None values made read each e = e
-by-reads i folder key (Some operation) (Some name) values made read each e =
-    ap (λ (r : Result (List Given) ScriptFault). then_ok r (λ gs. ok_or (command_to operation (named_in folder key name) gs) (BadField i (codes "values")))) (each operation) ∙ e
+by-reads : (i : ℕ) (folder : Option Text) (key : Text) (o : Option ArgumentOperation) (p : Option PlaceName) (after : Option Given) (values : List Given) (made : Command)
+    → (last : ReadsAfter) → ((operation : ArgumentOperation) → last operation ≡ Ok (after_by operation after))
+    → (read : Reads) → ((operation : ArgumentOperation) → read operation ≡ Ok (read_by operation values))
+    → by_entry i folder key o p (λ operation. Ok (after_by operation after)) (λ operation. Ok (read_by operation values)) ≡ Ok made → by_entry i folder key o p last read ≡ Ok made
+by-reads i folder key None p after values made last both read each e = e
+by-reads i folder key (Some operation) None after values made last both read each e = e
+by-reads i folder key (Some operation) (Some name) after values made last both read each e =
+    ap₂ (λ (r : Result (List Given) ScriptFault) (a : Result (Option Given) ScriptFault). then_ok r (λ gs. then_ok a (λ it. ok_or (command_to operation (named_in folder key name) it gs) (BadField i (codes "values")))))
+    (each operation) (both operation) ∙ e
 
-of-words : (folder : Option Text) (rows : List Row) (values : List Given) (vs : Option (List Given)) (made : Command) → vs ≡ Some values
+of-words : (folder : Option Text) (rows : List Row) (after : Option Given) (a : Option (Option Given)) (values : List Given) (vs : Option (List Given)) (made : Command) → a ≡ Some after → vs ≡ Some values
     → then_ok (ok_or (argument_operation (word_at (codes "OPERATION") rows)) Usage) (λ operation.
     then_ok (ok_or (value_named folder operation rows) Usage) (λ name.
-    then_ok (then_ok (ok_or vs NotCode) (λ values. ok_or (command_to operation name values) Usage)) (λ c. Ok (requested operation c))))
+    then_ok (then_ok (ok_or vs NotCode) (λ values. then_ok (ok_or a NotCode) (λ it. ok_or (command_to operation name it values) Usage))) (λ c. Ok (requested operation c))))
     ≡ Ok (run made)
     → by_words folder (first_of (codes "KEY") rows) (argument_operation (word_at (codes "OPERATION") rows))
-    (place_named (word_at (codes "FUNCTION") rows) (word_at (codes "ID") rows)) values ≡ Ok (run made)
-of-words folder rows values vs made is e =
+    (place_named (word_at (codes "FUNCTION") rows) (word_at (codes "ID") rows)) after values ≡ Ok (run made)
+of-words folder rows after a values vs made ends is e =
     subst (λ (v : Option (List Given)). then_ok (ok_or (argument_operation (word_at (codes "OPERATION") rows)) Usage) (λ operation.
     then_ok (ok_or (value_named folder operation rows) Usage) (λ name.
-    then_ok (then_ok (ok_or v NotCode) (λ values. ok_or (command_to operation name values) Usage)) (λ c. Ok (requested operation c))))
-    ≡ Ok (run made)) is e
+    then_ok (then_ok (ok_or v NotCode) (λ values. then_ok (ok_or (Some after) NotCode) (λ it. ok_or (command_to operation name it values) Usage))) (λ c. Ok (requested operation c))))
+    ≡ Ok (run made)) is
+    (subst (λ (b : Option (Option Given)). then_ok (ok_or (argument_operation (word_at (codes "OPERATION") rows)) Usage) (λ operation.
+    then_ok (ok_or (value_named folder operation rows) Usage) (λ name.
+    then_ok (then_ok (ok_or vs NotCode) (λ values. then_ok (ok_or b NotCode) (λ it. ok_or (command_to operation name it values) Usage))) (λ c. Ok (requested operation c))))
+    ≡ Ok (run made)) ends e)
 
-entered : (i : ℕ) (folder : Option Text) (rows : List Row) (values : List Given) (made : Command)
-    → (read : ArgumentOperation → Result (List Given) ScriptFault) → ((operation : ArgumentOperation) → read operation ≡ Ok (read_by operation values))
-    → values_meant (words_at (codes "VALUE") rows) ≡ Some values → argument_action folder rows ≡ Ok (run made)
+entered : (i : ℕ) (folder : Option Text) (rows : List Row) (after : Option Given) (values : List Given) (made : Command)
+    → (last : ReadsAfter) → ((operation : ArgumentOperation) → last operation ≡ Ok (after_by operation after))
+    → (read : Reads) → ((operation : ArgumentOperation) → read operation ≡ Ok (read_by operation values))
+    → after_meant (first_of (codes "ELEMENT") rows) ≡ Some after → values_meant (words_at (codes "VALUE") rows) ≡ Some values → argument_action folder rows ≡ Ok (run made)
     → by_entry i folder (word_at (codes "KEY") rows) (argument_operation (word_at (codes "OPERATION") rows))
-    (place_named (word_at (codes "FUNCTION") rows) (word_at (codes "ID") rows)) read ≡ Ok made
+    (place_named (word_at (codes "FUNCTION") rows) (word_at (codes "ID") rows)) last read ≡ Ok made
 unfolding argument_action
-entered i folder rows values made read each meant e =
-    by-reads i folder (word_at (codes "KEY") rows) _ _ values made read each
-    (same-made i folder (first_of (codes "KEY") rows) _ _ values made (of-words folder rows values (values_meant (words_at (codes "VALUE") rows)) made meant e))
+entered i folder rows after values made last both read each ends meant e =
+    by-reads i folder (word_at (codes "KEY") rows) _ _ after values made last both read each
+    (same-made i folder (first_of (codes "KEY") rows) _ _ after values made
+    (of-words folder rows after (after_meant (first_of (codes "ELEMENT") rows)) values (values_meant (words_at (codes "VALUE") rows)) made ends meant e))
 
 set-read : (i : ℕ) (rows : List Row) (values : List Given) → values_meant (words_at (codes "VALUE") rows) ≡ Some values
     → ok_or (each_of given_value (items_of values)) (BadField i (codes "values")) ≡ Ok values
 set-read i rows values meant =
     ap (λ (r : Option (List Given)). ok_or r (BadField i (codes "values"))) (values-read (words_at (codes "VALUE") rows) values meant)
 
-each-read : (i : ℕ) (folder : Option Text) (rows : List Row) (values : List Given) → values_meant (words_at (codes "VALUE") rows) ≡ Some values
-    → (operation : ArgumentOperation) → values_at i operation (entry_of_words folder rows values) ≡ Ok (read_by operation values)
-each-read i None rows values meant operation.Set = set-read i rows values meant
-each-read i None rows values meant operation.Add = set-read i rows values meant
-each-read i None rows values meant operation.Remove = set-read i rows values meant
-each-read i None rows values meant operation.Replace = set-read i rows values meant
-each-read i None rows values meant operation.Delete = refl
-each-read i None rows values meant operation.Info = refl
-each-read i (Some folder) rows values meant operation.Set = set-read i rows values meant
-each-read i (Some folder) rows values meant operation.Add = set-read i rows values meant
-each-read i (Some folder) rows values meant operation.Remove = set-read i rows values meant
-each-read i (Some folder) rows values meant operation.Replace = set-read i rows values meant
-each-read i (Some folder) rows values meant operation.Delete = refl
-each-read i (Some folder) rows values meant operation.Info = refl
+each-read : (i : ℕ) (folder : Option Text) (rows : List Row) (after : Option Given) (values : List Given) → values_meant (words_at (codes "VALUE") rows) ≡ Some values
+    → (operation : ArgumentOperation) → values_at i operation (entry_of_words folder rows after values) ≡ Ok (read_by operation values)
+each-read i None rows None values meant operation.Set = set-read i rows values meant
+each-read i None rows None values meant operation.Add = set-read i rows values meant
+each-read i None rows None values meant operation.Remove = set-read i rows values meant
+each-read i None rows None values meant operation.Replace = set-read i rows values meant
+each-read i None rows None values meant operation.Delete = refl
+each-read i None rows None values meant operation.Info = refl
+each-read i None rows (Some it) values meant operation.Set = set-read i rows values meant
+each-read i None rows (Some it) values meant operation.Add = set-read i rows values meant
+each-read i None rows (Some it) values meant operation.Remove = set-read i rows values meant
+each-read i None rows (Some it) values meant operation.Replace = set-read i rows values meant
+each-read i None rows (Some it) values meant operation.Delete = refl
+each-read i None rows (Some it) values meant operation.Info = refl
+each-read i (Some folder) rows None values meant operation.Set = set-read i rows values meant
+each-read i (Some folder) rows None values meant operation.Add = set-read i rows values meant
+each-read i (Some folder) rows None values meant operation.Remove = set-read i rows values meant
+each-read i (Some folder) rows None values meant operation.Replace = set-read i rows values meant
+each-read i (Some folder) rows None values meant operation.Delete = refl
+each-read i (Some folder) rows None values meant operation.Info = refl
+each-read i (Some folder) rows (Some it) values meant operation.Set = set-read i rows values meant
+each-read i (Some folder) rows (Some it) values meant operation.Add = set-read i rows values meant
+each-read i (Some folder) rows (Some it) values meant operation.Remove = set-read i rows values meant
+each-read i (Some folder) rows (Some it) values meant operation.Replace = set-read i rows values meant
+each-read i (Some folder) rows (Some it) values meant operation.Delete = refl
+each-read i (Some folder) rows (Some it) values meant operation.Info = refl
+
+-- the value of `--after` is read from its data
+after-read : (w : Option Text) (g : Given) → after_meant w ≡ Some (Some g) → IsRead g
+after-read None g e = cc
+after-read (Some word) g e = go (meant_by word) refl e
+  where
+    go : (o : Option Given) → meant_by word ≡ o → option_map Some o ≡ Some (Some g) → IsRead g
+    go None is h = cc
+    go (Some x) is h = let same : x ≡ g = cc in word-read word (begins_colon word) g (is ∙ ap Some same)
+
+last-read : (i : ℕ) (folder : Option Text) (rows : List Row) (after : Option Given) (values : List Given) → after_meant (first_of (codes "ELEMENT") rows) ≡ Some after
+    → (operation : ArgumentOperation) → after_at i operation (entry_of_words folder rows after values) ≡ Ok (after_by operation after)
+last-read i None rows None values ends operation.Add = refl
+last-read i (Some folder) rows None values ends operation.Add = refl
+last-read i folder rows (Some g) values ends operation.Add =
+    ap (λ (o : Option Given). ok_or (option_map Some o) (BadField i (codes "after"))) (after-read (first_of (codes "ELEMENT") rows) g ends)
+last-read i folder rows after values ends operation.Set = refl
+last-read i folder rows after values ends operation.Remove = refl
+last-read i folder rows after values ends operation.Replace = refl
+last-read i folder rows after values ends operation.Delete = refl
+last-read i folder rows after values ends operation.Info = refl
 
 pub entry-law : WordsMeanTheEntry
 unfolding entry_of argument_entry value_name
-entry-law i None rows values made meant e =
-    entered i None rows values made (λ o. values_at i o (entry_of_words None rows values)) (each-read i None rows values meant) meant e
-entry-law i (Some folder) rows values made meant e =
-    entered i (Some folder) rows values made (λ o. values_at i o (entry_of_words (Some folder) rows values)) (each-read i (Some folder) rows values meant) meant e
+entry-law i None rows None values made ends meant e =
+    entered i None rows None values made (λ o. after_at i o (entry_of_words None rows None values)) (last-read i None rows None values ends)
+    (λ o. values_at i o (entry_of_words None rows None values)) (each-read i None rows None values meant) ends meant e
+entry-law i None rows (Some it) values made ends meant e =
+    entered i None rows (Some it) values made (λ o. after_at i o (entry_of_words None rows (Some it) values)) (last-read i None rows (Some it) values ends)
+    (λ o. values_at i o (entry_of_words None rows (Some it) values)) (each-read i None rows (Some it) values meant) ends meant e
+entry-law i (Some folder) rows None values made ends meant e =
+    entered i (Some folder) rows None values made (λ o. after_at i o (entry_of_words (Some folder) rows None values)) (last-read i (Some folder) rows None values ends)
+    (λ o. values_at i o (entry_of_words (Some folder) rows None values)) (each-read i (Some folder) rows None values meant) ends meant e
+entry-law i (Some folder) rows (Some it) values made ends meant e =
+    entered i (Some folder) rows (Some it) values made (λ o. after_at i o (entry_of_words (Some folder) rows (Some it) values)) (last-read i (Some folder) rows (Some it) values ends)
+    (λ o. values_at i o (entry_of_words (Some folder) rows (Some it) values)) (each-read i (Some folder) rows (Some it) values meant) ends meant e

@@ -26,7 +26,7 @@ use Rattle.meson_command.specs.declared.fault.UsageFault.TheVariants.{NotCode, U
 
 -- what is made of one word is made of its value
 one-value : (o : Option Given) (n : ValueName) (g : Action → Result Asked UsageFault)
-    → then_ok (then_ok (then_ok (ok_or (option_and_then (λ value. option_map (λ values. value ∷ values) (Some [])) o) NotCode) (λ values. ok_or (command_to operation.Set n values) Usage))
+    → then_ok (then_ok (then_ok (ok_or (option_and_then (λ value. option_map (λ values. value ∷ values) (Some [])) o) NotCode) (λ values. then_ok (ok_or (Some None) NotCode) (λ it. ok_or (command_to operation.Set n it values) Usage)))
     (λ c. Ok (requested operation.Set c))) g
     ≡ then_ok (ok_or o NotCode) (λ value. g (run (commands.Argument n (change.Set value))))
 one-value None n g = refl

@@ -14,11 +14,12 @@ use Rattle.clap.specs.Words.{Row, Text, fault_of, first_of, matches_of, subcomma
 use Rattle.clap.specs.declared.error.kind.ErrorKind.TheVariants.{DisplayHelp, DisplayVersion}
 use Rattle.meson_calls.specs.declared.call.Role.{Role}
 use Rattle.meson_splice.specs.Patch.{then_ok}
-use Rattle.meson_command.specs.Actions.{action_of, count_in, history_by, kwargs_action, kwargs_by, list_by, list_with, listing_of, options_action, options_by, other_action, target_action, undo_of, word_at, words_at}
-use Rattle.meson_command.specs.Arguments.{action_within, argument_action, command_meant, keys_meant, requested, value_named, values_meant}
+use Rattle.meson_command.specs.Actions.{action_of, count_in, history_by, kwargs_action, kwargs_by, list_by, list_with, listing_of, options_action, options_by, other_action, target_action, undo_of, word_at, words_at, rename_action, target_by, target_words}
+use Rattle.meson_command.specs.Arguments.{after_meant, action_within, argument_action, command_meant, keys_meant, requested, value_named, values_meant}
 use Rattle.meson_command.specs.Asking.{answer, asked_from, asked_of, help, is_dry, names_no_folder, texts_fit, title_in, version, with_texts, with_title}
 use Rattle.meson_json.specs.Counts.{count_of}
-use Rattle.meson_command.specs.Laws.{FolderIsMisused, HelpWhereAsked, IsNoArgument, IsNoCount, IsUnknown, TextsAreMisused, UsageMeansUnknown, VersionWhereAsked}
+use Rattle.meson_command.specs.Laws.{FolderIsMisused, HelpWhereAsked, IsNoArgument, IsNoCount, IsNoTarget, IsUnknown, TextsAreMisused, UsageMeansUnknown, VersionWhereAsked}
+use Rattle.meson_json.specs.Targets.{renaming_of}
 use Rattle.meson_json.specs.Titles.{is_title}
 use Rattle.meson_json.specs.Arguments.{change_to, command_to, keys_left_out, place_named}
 use Rattle.meson_json.specs.Operations.{argument_operation, kwargs_operation, role_of}
@@ -187,10 +188,6 @@ one_missing None r f h e = inl refl
 one_missing (Some x) None f h e = inr refl
 one_missing (Some x) (Some y) f h e = absurd (h x y e)
 
-target-unknown : (folder : Option Text) (rows : List Row) → target_action folder rows ≡ Err Usage → operation_of_word (word_at (codes "OPERATION") rows) ≡ None
-unfolding target_action
-target-unknown folder rows e = missing (operation_of_word (word_at (codes "OPERATION") rows)) _ (λ o x. cc) e
-
 kwargs-unknown : (folder : Option Text) (rows : List Row) → kwargs_action folder rows ≡ Err Usage → (kwargs_operation (word_at (codes "OPERATION") rows) ≡ None) ⊎ (role_of (word_at (codes "FUNCTION") rows) ≡ None)
 unfolding kwargs_action
 kwargs-unknown folder rows e = one_missing (kwargs_operation (word_at (codes "OPERATION") rows)) (role_of (word_at (codes "FUNCTION") rows)) _ (λ o role. kwargs-not o role _ _) e
@@ -260,6 +257,27 @@ by_name false x y rest e k h n = n e k
 named : (name x : Text) → bytes_eq name x ≡ true → name ≡ x
 named name x e = (bytes_eq-Decides name x).0 e
 
+other_names : (target : CallName) (names : List Text) → renaming_of target names ≡ None → length names ≢ 2
+other_names target [] e = λ same. omega (arith, same)
+other_names target (a ∷ []) e = λ same. omega (arith, same)
+other_names target (a ∷ b ∷ []) e = cc
+other_names target (a ∷ b ∷ c ∷ more) e = λ same. omega (arith, same)
+
+rename-unknown : (folder : Option Text) (rows : List Row) → rename_action folder rows ≡ Err Usage
+    → renaming_of (record { id = word_at (codes "ID") rows; folder = folder }) (words_at (codes "SOURCE") rows) ≡ None
+unfolding rename_action
+rename-unknown folder rows e = missing (renaming_of (record { id = word_at (codes "ID") rows; folder = folder }) (words_at (codes "SOURCE") rows)) _ (λ c x. cc) e
+
+target-unknown : (folder : Option Text) (rows : List Row) → target_action folder rows ≡ Err Usage → IsNoTarget rows
+unfolding target_action
+target-unknown folder rows e = by_word (bytes_eq (word_at (codes "OPERATION") rows) (codes "rename")) refl e
+  where
+    by_word : (b : Bool) → bytes_eq (word_at (codes "OPERATION") rows) (codes "rename") ≡ b
+        → (if b then rename_action folder rows
+        else then_ok (ok_or (operation_of_word (word_at (codes "OPERATION") rows)) Usage) (λ o. Ok (target_by o (target_words folder rows)))) ≡ Err Usage → IsNoTarget rows
+    by_word true is e = inr (named (word_at (codes "OPERATION") rows) (codes "rename") is, other_names _ (words_at (codes "SOURCE") rows) (rename-unknown folder rows e))
+    by_word false is e = inl (another (word_at (codes "OPERATION") rows) (codes "rename") is, missing (operation_of_word (word_at (codes "OPERATION") rows)) _ (λ o x. cc) e)
+
 -- of another subcommand than `arg`
 unknown : (folder : Option Text) (name : Text) (rows : List Row) → (bytes_eq name (codes "target") || (bytes_eq name (codes "kwargs") || is_other name)) ≡ true
     → action_of folder name rows ≡ Err Usage → IsUnknown name rows
@@ -277,22 +295,25 @@ unknown folder name rows k e =
 -- ---- which of the words of `arg` is unknown
 
 -- the number of values is wrong, as each of them is code or another word
-other-values : (o : ArgumentOperation) (name : ValueName) (vs : Option (List Given)) → then_ok (ok_or vs NotCode) (λ values. ok_or (command_to o name values) Usage) ≡ Err Usage
-    → (values : List Given) × (vs ≡ Some values) × (change_to o values ≡ None)
-other-values o name None e = cc
-other-values o name (Some values) e = (values, refl, of_values o e)
+other-values : (o : ArgumentOperation) (name : ValueName) (vs : Option (List Given)) (it : Option (Option Given))
+    → then_ok (ok_or vs NotCode) (λ values. then_ok (ok_or it NotCode) (λ after. ok_or (command_to o name after values) Usage)) ≡ Err Usage
+    → (values : List Given) × (after : Option Given) × (vs ≡ Some values) × (it ≡ Some after) × (change_to o after values ≡ None)
+other-values o name None it e = cc
+other-values o name (Some values) None e = cc
+other-values o name (Some values) (Some after) e = (values, after, refl, refl, of_values o after e)
   where
     no_change : (c : Option ValueChange) → ok_or (option_map (commands.Argument name) c) Usage ≡ Err Usage → c ≡ None
     no_change None e = refl
     no_change (Some change) e = cc
 
-    of_values : (o : ArgumentOperation) → ok_or (command_to o name values) Usage ≡ Err Usage → change_to o values ≡ None
-    of_values of_argument.Info e = refl
-    of_values of_argument.Set e = no_change (change_to of_argument.Set values) e
-    of_values of_argument.Add e = no_change (change_to of_argument.Add values) e
-    of_values of_argument.Remove e = no_change (change_to of_argument.Remove values) e
-    of_values of_argument.Replace e = no_change (change_to of_argument.Replace values) e
-    of_values of_argument.Delete e = no_change (change_to of_argument.Delete values) e
+    of_values : (o : ArgumentOperation) (a : Option Given) → ok_or (command_to o name a values) Usage ≡ Err Usage → change_to o a values ≡ None
+    of_values of_argument.Info None e = refl
+    of_values of_argument.Info (Some g) e = refl
+    of_values of_argument.Set a e = no_change (change_to of_argument.Set a values) e
+    of_values of_argument.Add a e = no_change (change_to of_argument.Add a values) e
+    of_values of_argument.Remove a e = no_change (change_to of_argument.Remove a values) e
+    of_values of_argument.Replace a e = no_change (change_to of_argument.Replace a values) e
+    of_values of_argument.Delete a e = no_change (change_to of_argument.Delete a values) e
 
 after_command : (r : Result Command UsageFault) (f : Command → Action) → then_ok r (λ c. Ok (f c)) ≡ Err Usage → r ≡ Err Usage
 after_command (Ok c) f e = cc
@@ -316,18 +337,18 @@ argument-unknown folder rows e = by_operation (argument_operation (word_at (code
     unnamed o of (Some word) has (Some name) is e = cc
 
     by_name_of : (o : ArgumentOperation) → argument_operation (word_at (codes "OPERATION") rows) ≡ Some o → (n : Option ValueName) → value_named folder o rows ≡ n
-        → then_ok (ok_or n Usage) (λ name. then_ok (command_meant o name (words_at (codes "VALUE") rows)) (λ c. Ok (requested o c))) ≡ Err Usage
+        → then_ok (ok_or n Usage) (λ name. then_ok (command_meant o name (first_of (codes "ELEMENT") rows) (words_at (codes "VALUE") rows)) (λ c. Ok (requested o c))) ≡ Err Usage
         → IsNoArgument rows
     by_name_of o of None is e = unnamed o of (first_of (codes "KEY") rows) refl (place_named (word_at (codes "FUNCTION") rows) (word_at (codes "ID") rows)) refl is
     by_name_of o of (Some name) is e =
-        let meant = after_command (command_meant o name (words_at (codes "VALUE") rows)) (requested o) e in
-        let given = other-values o name (values_meant (words_at (codes "VALUE") rows)) meant in
-        inr (inr (inr (o, given.0, of, given.1, given.2)))
+        let meant = after_command (command_meant o name (first_of (codes "ELEMENT") rows) (words_at (codes "VALUE") rows)) (requested o) e in
+        let given = other-values o name (values_meant (words_at (codes "VALUE") rows)) (after_meant (first_of (codes "ELEMENT") rows)) meant in
+        inr (inr (inr (o, given.0, given.1, of, given.2, given.3, given.4)))
 
     by_operation : (o : Option ArgumentOperation) → argument_operation (word_at (codes "OPERATION") rows) ≡ o
         → then_ok (ok_or o Usage) (λ operation.
         then_ok (ok_or (value_named folder operation rows) Usage) (λ name.
-        then_ok (command_meant operation name (words_at (codes "VALUE") rows)) (λ c. Ok (requested operation c)))) ≡ Err Usage
+        then_ok (command_meant operation name (first_of (codes "ELEMENT") rows) (words_at (codes "VALUE") rows)) (λ c. Ok (requested operation c)))) ≡ Err Usage
         → IsNoArgument rows
     by_operation None of e = inl of
     by_operation (Some o) of e = by_name_of o of (value_named folder o rows) refl e

@@ -10,7 +10,7 @@ use Rattle.meson_steps.specs.declared.command.Command.TheVariants as command
 use Rattle.meson_steps.specs.declared.command.Setting.{Setting}
 use Rattle.meson_steps.specs.declared.command.Setting.TheVariants as setting
 use Rattle.meson_json.specs.Operations.{kwargs_operation, role_of}
-use Rattle.meson_json.specs.Targets.{target_command}
+use Rattle.meson_json.specs.Targets.{renaming_of, target_command}
 use Rattle.meson_json.specs.Counts.{count_of}
 use Rattle.meson_command.specs.Operations.{operation_of_word, options_word}
 use Rattle.meson_command.specs.Pairs.{lone_names, pair_names, pairs_of}
@@ -65,9 +65,19 @@ abbrev pub target_by : TargetOperation → TargetMembers → Action
 target_by target.Info members = Info (target_command target.Info members)
 target_by operation members = run (target_command operation members)
 
+-- ---- target ID rename OLD NEW
+
+-- the sources are the old name and the new one
+unfoldable pub rename_action : Option Text → List Row → Result Action UsageFault
+rename_action folder rows =
+    then_ok (ok_or (renaming_of (record { id = word_at (codes "ID") rows; folder = folder }) (words_at (codes "SOURCE") rows)) Usage) (λ command. Ok (run command))
+
+-- ---- any words of target
+
 unfoldable pub target_action : Option Text → List Row → Result Action UsageFault
 target_action folder rows =
-    then_ok (ok_or (operation_of_word (word_at (codes "OPERATION") rows)) Usage) (λ operation.
+    if bytes_eq (word_at (codes "OPERATION") rows) (codes "rename") then rename_action folder rows
+    else then_ok (ok_or (operation_of_word (word_at (codes "OPERATION") rows)) Usage) (λ operation.
     Ok (target_by operation (target_words folder rows)))
 
 -- ---- kwargs OPERATION FUNCTION ID [KEY VALUE]...

@@ -19,7 +19,7 @@ use Rattle.meson_command.specs.declared.asked.Action.TheVariants.{Info}
 use Rattle.meson_command.specs.declared.fault.UsageFault.{UsageFault}
 use Rattle.meson_command.specs.declared.fault.UsageFault.TheVariants.{NotCode, Usage}
 
--- ---- arg OPERATION FUNCTION ID [KEY [VALUE]...]
+-- ---- arg OPERATION [--after ELEMENT] FUNCTION ID [KEY [VALUE]...]
 
 -- the values of words, if each word is one
 unfoldable pub values_meant : List Text → Option (List Given)
@@ -38,9 +38,16 @@ value_named folder operation rows =
     (place_named (word_at (codes "FUNCTION") rows) (word_at (codes "ID") rows)))
     (keys_meant operation (first_of (codes "KEY") rows))
 
--- the command that the operation, the name of the value and further words mean
-abbrev pub command_meant : ArgumentOperation → ValueName → List Text → Result Command UsageFault
-command_meant operation name words = then_ok (ok_or (values_meant words) NotCode) (λ values. ok_or (command_to operation name values) Usage)
+-- the value of a word, if there is one and it means a value
+abbrev pub after_meant : Option Text → Option (Option Given)
+after_meant None = Some None
+after_meant (Some word) = option_map Some (meant_by word)
+
+-- the command that the operation, the name of the value, the word of the value after which values are added, and further words mean
+abbrev pub command_meant : ArgumentOperation → ValueName → (after : Option Text) → List Text → Result Command UsageFault
+command_meant operation name after words =
+    then_ok (ok_or (values_meant words) NotCode) (λ values.
+    then_ok (ok_or (after_meant after) NotCode) (λ it. ok_or (command_to operation name it values) Usage))
 
 -- what is reported is no run
 abbrev pub requested : ArgumentOperation → Command → Action
@@ -51,7 +58,7 @@ unfoldable pub argument_action : Option Text → List Row → Result Action Usag
 argument_action folder rows =
     then_ok (ok_or (argument_operation (word_at (codes "OPERATION") rows)) Usage) (λ operation.
     then_ok (ok_or (value_named folder operation rows) Usage) (λ name.
-    then_ok (command_meant operation name (words_at (codes "VALUE") rows)) (λ c. Ok (requested operation c))))
+    then_ok (command_meant operation name (first_of (codes "ELEMENT") rows) (words_at (codes "VALUE") rows)) (λ c. Ok (requested operation c))))
 
 -- ---- any subcommand
 

@@ -4,7 +4,7 @@ use Rattle.std.specs.List.{AllPairs}
 use Rattle.clap.specs.Words.{Row, Text, fault_of, first_of, matches_of, subcommand_of}
 use Rattle.clap.specs.declared.error.kind.ErrorKind.TheVariants.{DisplayHelp, DisplayVersion}
 use Rattle.meson_command.specs.Actions.{has_flag, options_by, word_at, words_at}
-use Rattle.meson_command.specs.Arguments.{action_within, takes_folder, values_meant}
+use Rattle.meson_command.specs.Arguments.{action_within, after_meant, takes_folder, values_meant}
 use Rattle.meson_command.specs.Asking.{asked_by, help, is_dry, names_no_folder, only_asks, only_shows, texts_fit, version, wants_json}
 use Rattle.meson_json.specs.Arguments.{change_to, keys_left_out, place_named}
 use Rattle.meson_json.specs.Operations.{argument_operation, kwargs_operation, role_of}
@@ -74,22 +74,30 @@ HasNoKey rows =
     (operation : ArgumentOperation) × (argument_operation (word_at (codes "OPERATION") rows) ≡ Some operation)
     × (first_of (codes "KEY") rows ≡ None) × (keys_left_out operation ≡ None)
 
--- the values of `arg` are not as many as its operation takes
+-- the values of `arg` are not as many as its operation takes, or it does not take `--after`
 abbrev pub HasOtherValues : List Row → Type 0
 HasOtherValues rows =
-    (operation : ArgumentOperation) × (values : List Given) × (argument_operation (word_at (codes "OPERATION") rows) ≡ Some operation)
-    × (values_meant (words_at (codes "VALUE") rows) ≡ Some values) × (change_to operation values ≡ None)
+    (operation : ArgumentOperation) × (values : List Given) × (after : Option Given) × (argument_operation (word_at (codes "OPERATION") rows) ≡ Some operation)
+    × (values_meant (words_at (codes "VALUE") rows) ≡ Some values) × (after_meant (first_of (codes "ELEMENT") rows) ≡ Some after)
+    × (change_to operation after values ≡ None)
 
--- the operation of `arg` is unknown, its function and id name no place, its key is missing, or its values are not as many as it takes
+-- the operation of `arg` is unknown, its function and id name no place, its key is missing, its values are not as many as it takes, or it does not take
+-- `--after`
 abbrev pub IsNoArgument : List Row → Type 0
 IsNoArgument rows =
     (argument_operation (word_at (codes "OPERATION") rows) ≡ None)
     ⊎ ((place_named (word_at (codes "FUNCTION") rows) (word_at (codes "ID") rows) ≡ None) ⊎ (HasNoKey rows ⊎ HasOtherValues rows))
 
--- the subcommand's operation, function, id or number is not valid, the key of `arg` is missing, its values are not as many as it takes, or two listings are requested or one of a function without a name
+-- the operation of `target` is unknown, or `rename` has not two names
+abbrev pub IsNoTarget : List Row → Type 0
+IsNoTarget rows =
+    ((word_at (codes "OPERATION") rows ≢ codes "rename") × (operation_of_word (word_at (codes "OPERATION") rows) ≡ None))
+    ⊎ ((word_at (codes "OPERATION") rows ≡ codes "rename") × (length (words_at (codes "SOURCE") rows) ≢ 2))
+
+-- the subcommand's operation, function, id or number is not valid, `rename` has not two names, the key of `arg` is missing, its values are not as many as it takes, or two listings are requested or one of a function without a name
 abbrev pub IsUnknown : Text → List Row → Type 0
 IsUnknown subcommand rows =
-    ((subcommand ≡ codes "target") × (operation_of_word (word_at (codes "OPERATION") rows) ≡ None))
+    ((subcommand ≡ codes "target") × IsNoTarget rows)
     ⊎ (((subcommand ≡ codes "kwargs") × ((kwargs_operation (word_at (codes "OPERATION") rows) ≡ None) ⊎ (role_of (word_at (codes "FUNCTION") rows) ≡ None)))
     ⊎ (((subcommand ≡ codes "default-options") × (options_word (word_at (codes "OPERATION") rows) ≡ None))
     ⊎ (((subcommand ≡ codes "undo") × ((word : Text) × IsNoCount (first_of (codes "N") rows) word))
@@ -106,7 +114,7 @@ abbrev pub TextsAreMisused : List Row → Text → List Row → Type 0
 TextsAreMisused own subcommand rows =
     (asked : Action) × (action_within (first_of (codes "FOLDER") own) subcommand rows ≡ Ok asked) × (texts_fit asked (first_of (codes "FILE") own) (is_dry own) ≡ false)
 
--- if clap takes the words and the usage is wrong: the folder is empty, a word is unknown or not a number, `arg` has no place or other values, two
+-- if clap takes the words and the usage is wrong: the folder is empty, a word is unknown or not a number, `rename` has not two names, `arg` has no place or other values, two
 -- listings are requested or one of a function without a name, or a folder or texts do not fit
 abbrev pub UsageMeansUnknown : Type 0
 UsageMeansUnknown = (words : List Text) → fault_of program words ≡ [] → asked_by words ≡ Err Usage

@@ -63,10 +63,10 @@ unfoldable pub kwargs : App
 kwargs = of_words (new_app (codes "kwargs")) (required_word (codes "OPERATION") ∷ required_word (codes "FUNCTION") ∷ required_word (codes "ID")
     ∷ many (codes "KEY VALUE") ∷ help ∷ [])
 
--- arg OPERATION FUNCTION ID [KEY [VALUE]...]
+-- arg OPERATION [--after ELEMENT] FUNCTION ID [KEY [VALUE]...]
 unfoldable pub argument : App
 argument = of_words (new_app (codes "arg")) (required_word (codes "OPERATION") ∷ ending_word (codes "FUNCTION") ∷ required_word (codes "ID")
-    ∷ word (codes "KEY") ∷ many (codes "VALUE") ∷ help ∷ [])
+    ∷ word (codes "KEY") ∷ many (codes "VALUE") ∷ option (codes "ELEMENT") (codes "after") ∷ help ∷ [])
 
 -- default-options OPERATION [OPTION VALUE]...
 unfoldable pub default_options : App

@@ -78,6 +78,7 @@ Done =
     × asks (codes "target e rm a.c") (in_place (run (command.SourcesRemove (anywhere (codes "e")) (codes "a.c" ∷ []))))
     × asks (codes "target e add_extra_files x.h") (in_place (run (command.ExtraAdd (anywhere (codes "e")) (codes "x.h" ∷ []))))
     × asks (codes "target e rm_extra_files x.h") (in_place (run (command.ExtraRemove (anywhere (codes "e")) (codes "x.h" ∷ []))))
+    × asks (codes "target e rename a.c b.c") (in_place (run (command.SourcesRename (anywhere (codes "e")) (codes "a.c") (codes "b.c"))))
     × asks (codes "--in s target e rm a.c") (in_place (run (command.SourcesRemove (record { id = codes "e"; folder = Some (codes "s") }) (codes "a.c" ∷ []))))
     × asks (codes "--in . kwargs info target e") (in_place (Info (command.KwargsInfo role.Target (record { id = codes "e"; folder = Some (codes ".") }))))
     × asks (codes "target l add_target a.c --subdir sub --type jar")

@@ -1,9 +1,9 @@
-//! `arg OPERATION FUNCTION ID [KEY [VALUE]...]`.
+//! `arg OPERATION [--after ELEMENT] FUNCTION ID [KEY [VALUE]...]`.
 
 ghost use Rattle.std.specs.Prelude.{◌≡◌, ◌≢◌, Err, IfErr, IfOk, None, Ok, Some, codes, option_map};
-ghost use Rattle.clap.specs.Words.{found_of, rows_of};
+ghost use Rattle.clap.specs.Words.{first_of, found_of, rows_of};
 ghost use Rattle.meson_command.specs.Actions.{words_at};
-ghost use Rattle.meson_command.specs.Arguments.{argument_action, command_meant, keys_meant, value_named, values_meant};
+ghost use Rattle.meson_command.specs.Arguments.{after_meant, argument_action, command_meant, keys_meant, value_named, values_meant};
 ghost use Rattle.meson_command.specs.declared.fault.UsageFault.TheVariants.{NotCode, OutOfMemory};
 
 use crate::asked::Action;
@@ -33,6 +33,24 @@ fn values_meant(alloc: Global, words: &[Text]) -> Result<Vec<Given>, UsageFault>
         values.push(value)?;
     }
     Ok(values)
+}
+
+/// The value that a word means, if there is one.
+///
+/// # Errors
+/// What is after the colon of the word is not one expression.
+fn after_meant(alloc: Global, word: Option<&str>) -> Result<Option<Given>, UsageFault>
+    ensures ok { IfOk result (λ g. after_meant (option_map (λ w. w.now) word.entry) ≡ Some g) }
+    ensures refused { IfErr result (λ e. e ≢ OutOfMemory → (e ≡ NotCode) × (after_meant (option_map (λ w. w.now) word.entry) ≡ None)) }
+{
+    match word {
+        Some(word) => {
+            let word = owned(alloc, word)?;
+            let given = given_of(alloc, &word)?;
+            Ok(Some(given))
+        }
+        None => Ok(None),
+    }
 }
 
 /// A folder that is named, if any.
@@ -80,20 +98,22 @@ fn value_named(
     Ok(Some(ValueName { place, keys }))
 }
 
-/// The command that the operation, the name of the value and further words mean.
+/// The command that the operation, the name of the value, `--after` and further words mean.
 fn command_meant(
     alloc: Global,
     operation: ArgumentOperation,
     name: ValueName,
     matches: &ArgMatches<'_>,
 ) -> Result<Command, UsageFault>
-    ensures ok { IfOk result (λ c. command_meant operation name (words_at (codes "VALUE") (rows_of (found_of matches.now))) ≡ Ok c) }
-    ensures refused { IfErr result (λ e. e ≢ OutOfMemory
-        → command_meant operation name (words_at (codes "VALUE") (rows_of (found_of matches.now))) ≡ Err e) }
+    ensures ok { let rows = rows_of (found_of matches.now) in
+        IfOk result (λ c. command_meant operation name (first_of (codes "ELEMENT") rows) (words_at (codes "VALUE") rows) ≡ Ok c) }
+    ensures refused { let rows = rows_of (found_of matches.now) in
+        IfErr result (λ e. e ≢ OutOfMemory → command_meant operation name (first_of (codes "ELEMENT") rows) (words_at (codes "VALUE") rows) ≡ Err e) }
 {
     let words = words_at(alloc, matches, "VALUE")?;
     let values = values_meant(alloc, words.get())?;
-    match command_to(operation, name, values) {
+    let after = after_meant(alloc, matches.get_str("ELEMENT"))?;
+    match command_to(operation, name, after, values) {
         Some(command) => Ok(command),
         None => Err(UsageFault::Usage),
     }
@@ -102,8 +122,8 @@ fn command_meant(
 /// The request of the words of `arg`, in the folder alone if one is named.
 ///
 /// # Errors
-/// The operation is unknown; it needs a key that is missing; the function and the id name no place; a value is not code; or the values are not as many as the
-/// operation takes.
+/// The operation is unknown; it needs a key that is missing; the function and the id name no place; a value is not code; the values are not as many as the
+/// operation takes; or it does not take `--after`.
 #[tactic(auto, unfolding(crate::specs::Arguments::argument_action))]
 pub(crate) fn argument_action(
     alloc: Global,

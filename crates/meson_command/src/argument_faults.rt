@@ -102,6 +102,15 @@ fn explain_values(
     )?)
 }
 
+/// Explains that the operation does not take `--after`.
+fn explain_after(alloc: Global, remarks: &mut Remarks, operation: &str) -> Result<(), AllocError> {
+    remarks.note(format!(in alloc; "{operation} does not take --after")?)?;
+    remarks.help_words(
+        alloc,
+        "--after ELEMENT says where add puts its values; every other operation finds them itself",
+    )
+}
+
 /// Explains that the key is missing.
 fn explain_no_key(alloc: Global, remarks: &mut Remarks) -> Result<(), AllocError> {
     remarks.note_words(
@@ -138,6 +147,9 @@ pub(crate) fn explain_argument(
     }
     if words.get_str("KEY").is_none() && operation != "info" {
         return explain_no_key(alloc, remarks);
+    }
+    if words.get_str("ELEMENT").is_some() && operation != "add" {
+        return explain_after(alloc, remarks, operation);
     }
     let many = words.get_strs("VALUE").map_or(0, |values| values.len());
     let fits = match operation {
@@ -237,23 +249,34 @@ fn words_of(flaw: Flaw) -> (&'static str, &'static str) {
     }
 }
 
-/// Explains that what is after the colon of a value is not one expression.
+/// Explains that what is after the colon of a word is not one expression. Whether the word is such a one.
+fn explain_word(alloc: Global, remarks: &mut Remarks, word: &str) -> Result<bool, AllocError> {
+    let Some(code) = word.strip_prefix(":") else {
+        return Ok(false);
+    };
+    if is_expression(alloc, code)? {
+        return Ok(false);
+    }
+    let (note, help) = words_of(flaw_of(alloc, code)?);
+    remarks.note(format!(in alloc; "{word} {note}")?)?;
+    remarks.help_words(alloc, help)?;
+    help_text(alloc, remarks, word)?;
+    Ok(true)
+}
+
+/// Explains that what is after the colon of a value, or of that of `--after`, is not one expression.
 pub(crate) fn explain_code(
     alloc: Global,
     remarks: &mut Remarks,
     words: &ArgMatches<'_>,
 ) -> Result<(), AllocError> {
     for word in words.get_strs("VALUE").unwrap_or(&[]) {
-        let Some(code) = word.strip_prefix(":") else {
-            continue;
-        };
-        if is_expression(alloc, code)? {
-            continue;
+        if explain_word(alloc, remarks, word)? {
+            return Ok(());
         }
-        let (note, help) = words_of(flaw_of(alloc, code)?);
-        remarks.note(format!(in alloc; "{word} {note}")?)?;
-        remarks.help_words(alloc, help)?;
-        return help_text(alloc, remarks, word);
+    }
+    if let Some(word) = words.get_str("ELEMENT") {
+        explain_word(alloc, remarks, word)?;
     }
     Ok(())
 }

@@ -9,6 +9,7 @@ pub(crate) const TARGET_OPERATIONS: Choice = Choice {
     words: &[
         "add",
         "rm",
+        "rename",
         "add_extra_files",
         "rm_extra_files",
         "add_target",

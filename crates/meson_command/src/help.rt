@@ -58,6 +58,7 @@ Options of the program, before the subcommand (see meson_rewrite --help):
 
 Operations:
   add, rm                          add sources, remove sources
+  rename                           give source OLD the name NEW, in its place
   add_extra_files, rm_extra_files  the same for extra files
   add_target                       write a new target at the end of a build file
   rm_target                        remove the target
@@ -72,6 +73,7 @@ build file, not to the working folder.
 Examples:
   meson_rewrite target tide add moon.c sun.c
   meson_rewrite target tide rm tide.c
+  meson_rewrite target tide rename station.c gauge.c
   meson_rewrite target harbor add_extra_files harbor.h
   meson_rewrite target make_tables rm_extra_files tables.txt
   meson_rewrite target moon add_target moon.c --subdir src --type executable
@@ -132,7 +134,8 @@ Operations:
   set     give the key this value, or an array of these values; an absent
           keyword or entry is inserted after the others
   add     add the values that its list does not have yet, at the end; of a
-          sum, to its last list; an absent key gets the array of them
+          sum, to its last list; an absent key gets the array of them;
+          with --after, after the first element of its lists that is ELEMENT
   remove  remove each element of its lists that is one of the values; a value
           without a list goes with its argument or entry, if it is the value
   replace  takes two values, OLD and NEW: put NEW in the place of each element
@@ -159,7 +162,8 @@ Values:
   :CODE        a Meson expression without comments, as :zlib or :[]
   other words  the text
 
-From FUNCTION on no word is an option, so values may begin with -.
+From FUNCTION on no word is an option, so values may begin with -; write
+--after=ELEMENT for an element that does.
 A text replaces a text or an array of texts, a truth value a truth value, and
 CODE anything. For the whole value of a variable CODE is on one line.
 
@@ -171,11 +175,13 @@ If it is refused:
   C21  the value is of another kind: give CODE
   C22  the new value is there already: remove the old one
   C23  no value has this key: see the keys with arg info; or nothing is the
-       value to remove or to replace: a text is no CODE, as zlib or :zlib
+       value to remove or to replace, or that of --after: a text is no CODE,
+       as zlib or :zlib
 
 Examples:
   meson_rewrite arg set target tide c_args -DTIDE -DPIER
   meson_rewrite arg add target harbor c_args -DHARBOR
+  meson_rewrite arg add --after tide.c variable tide_sources . moon.c
   meson_rewrite arg remove dependency zlib version '<2'
   meson_rewrite arg replace target tide dependencies :zlib :zlib_ng
   meson_rewrite arg set target harbor install_dir \":get_option('bindir')\"
@@ -186,6 +192,8 @@ Examples:
   meson_rewrite arg info target harbor";
 
 pub(crate) const PLACE_FUNCTION: &str = "Where the value is, see Places";
+
+pub(crate) const AFTER: &str = "Of add: put the values after this element";
 
 pub(crate) const DEFAULT_OPTIONS: &str = "Edit the default options of the project";
 
@@ -218,8 +226,8 @@ JSON is the script, or says where it is:
 
 A script is an array of objects, one for each command. Each has a type and an
 operation; man meson_rewrite lists their other members:
-  target           src_add, src_rm, extra_files_add, extra_files_rm,
-                   target_add, target_rm, info
+  target           src_add, src_rm, rename, extra_files_add,
+                   extra_files_rm, target_add, target_rm, info
   kwargs           set, add, remove, delete, info
   default_options  set, delete
   arg              set, add, delete, info

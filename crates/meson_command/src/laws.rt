@@ -54,9 +54,9 @@ pub fn texts_write_nothing()
     ensures { TextsWriteNothing }
 {}
 
-/// Words that clap takes are wrong usage only in these cases: the folder is empty, an operation or a function is unknown, a number is not valid, two listings
-/// are requested or one of a function without a name, the function and the id of `arg` name no place, its key is missing, its values are not as many as its
-/// operation takes, a folder is named for another subcommand, or texts are named for what writes or would read standard input, too.
+/// Words that clap takes are wrong usage only in these cases: the folder is empty, an operation or a function is unknown, `rename` has not two names, a number
+/// is not valid, two listings are requested or one of a function without a name, the function and the id of `arg` name no place, its key is missing, its values
+/// are not as many as its operation takes, a folder is named for another subcommand, or texts are named for what writes or would read standard input, too.
 pub fn usage_means_unknown()
     ensures { UsageMeansUnknown }
 {}

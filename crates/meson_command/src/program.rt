@@ -214,6 +214,7 @@ fn argument<'h>(alloc: Global) -> Result<Command<'h>, AllocError>
     let command = with_one(alloc, command, "ID", "Which call or variable, see Places");
     let command = with_optional(alloc, command, "KEY", "Which value of it, see Keys");
     let command = with_many(alloc, command, "VALUE", "What it becomes, see Values");
+    let command = with_option(alloc, command, "ELEMENT", "after", help::AFTER);
     with_help(alloc, command)
 }
 

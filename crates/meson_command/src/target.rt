@@ -1,8 +1,8 @@
-//! `target ID OPERATION [SOURCE]... [--subdir SUBDIR] [--type KIND]`.
+//! `target ID OPERATION [SOURCE]... [--subdir SUBDIR] [--type KIND]`, and `target ID rename OLD NEW`.
 
 ghost use Rattle.std.specs.Prelude.{◌≡◌, ◌≢◌, Err, IfErr, IfOk, Ok, option_map};
 ghost use Rattle.clap.specs.Words.{found_of, rows_of};
-ghost use Rattle.meson_command.specs.Actions.{target_action, target_by, target_words};
+ghost use Rattle.meson_command.specs.Actions.{rename_action, target_action, target_by, target_words};
 ghost use Rattle.meson_command.specs.declared.fault.UsageFault.TheVariants.{OutOfMemory};
 
 use crate::argument::folder_named;
@@ -11,8 +11,9 @@ use crate::fault::UsageFault;
 use crate::operations::find_target_operation;
 use crate::words::{run, word_or, words_at};
 use clap::ArgMatches;
+use meson_calls::CallName;
 use meson_json::owned;
-use meson_json::target::{TargetMembers, TargetOperation, target_command};
+use meson_json::target::{TargetMembers, TargetOperation, renaming_of, target_command};
 use std::alloc::{AllocError, Global};
 
 /// The words after the operation, in the folder alone if one is named.
@@ -48,6 +49,29 @@ fn target_by(
     }
 }
 
+/// The request of the words of `target ID rename`, in the folder alone if one is named.
+///
+/// # Errors
+/// There are not two names.
+#[tactic(auto, unfolding(crate::specs::Actions::rename_action))]
+fn rename_action(
+    alloc: Global,
+    folder: Option<&str>,
+    matches: &ArgMatches<'_>,
+) -> Result<Action, UsageFault>
+    ensures ok { IfOk result (λ a. rename_action (option_map (λ f. f.now) folder.entry) (rows_of (found_of matches.now)) ≡ Ok a) }
+    ensures refused { IfErr result (λ e. e ≢ OutOfMemory
+        → rename_action (option_map (λ f. f.now) folder.entry) (rows_of (found_of matches.now)) ≡ Err e) }
+{
+    let id = owned(alloc, word_or(matches, "ID", ""))?;
+    let names = words_at(alloc, matches, "SOURCE")?;
+    let folder = folder_named(alloc, folder)?;
+    match renaming_of(CallName { id, folder }, names) {
+        Some(command) => run(alloc, command),
+        None => Err(UsageFault::Usage),
+    }
+}
+
 /// The request of the words of `target`, in the folder alone if one is named.
 ///
 /// # Errors
@@ -62,7 +86,11 @@ pub(crate) fn target_action(
     ensures refused { IfErr result (λ e. e ≢ OutOfMemory
         → target_action (option_map (λ f. f.now) folder.entry) (rows_of (found_of matches.now)) ≡ Err e) }
 {
-    let Some(operation) = find_target_operation(word_or(matches, "OPERATION", "")) else {
+    let word = word_or(matches, "OPERATION", "");
+    if word == "rename" {
+        return rename_action(alloc, folder, matches);
+    }
+    let Some(operation) = find_target_operation(word) else {
         return Err(UsageFault::Usage);
     };
     target_by(alloc, operation, target_words(alloc, folder, matches)?)

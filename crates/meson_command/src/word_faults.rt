@@ -55,6 +55,10 @@ fn explain_target(
     words: &ArgMatches<'_>,
 ) -> Result<(), AllocError> {
     let operation = word_or(words, "OPERATION", "");
+    let many = words.get_strs("SOURCE").map_or(0, |names| names.len());
+    if operation == "rename" && many != 2 {
+        return remarks.note_words(alloc, "rename takes two names, the old one and the new one");
+    }
     if TARGET_OPERATIONS.has(operation) {
         return Ok(());
     }

@@ -1,6 +1,6 @@
 -- A command that is refused for a name that is not valid is refused for the first of its names that is not.
 use Rattle.std.proofs.Common.{◌≡◌, ℕ, zero, suc, true, false, List, [], ◌∷◌, map, Option, Some, None, refl, sym, ap, ◌∙◌}
-use Rattle.std.specs.Prelude.{Bool, Result, Ok, Err, codes, find, option_map}
+use Rattle.std.specs.Prelude.{Bool, Result, Ok, Err, codes, find, if◌then◌else◌, option_map}
 use Rattle.std.proofs.lemmas.List.Elements.{All-cons, All-nil}
 use Rattle.meson_lex.specs.declared.kinds.Span.{Span}
 use Rattle.meson_splice.specs.Patch.{then_ok}
@@ -16,7 +16,7 @@ use Rattle.meson_calls.specs.declared.refusal.Refusal.TheVariants as refusal
 use Rattle.meson_keywords.specs.Tasks.{Task, add_entry, checked_option, delete_entry, delete_option, delete_option_entry, each_made, remove_entry, set_entry, set_option, set_option_entry}
 use Rattle.meson_keywords.specs.TaskSteps.{call_changed, tasks_steps, trees_of}
 use Rattle.meson_plan.specs.Planning.{call_asked, planned, target_told}
-use Rattle.meson_sources.specs.SourceEdits.{checked_extra, extra_added, extra_key, extra_marks, extra_removed, none_found, removed_at, sources_added, sources_removed, spots_by, spots_named, spots_of, items_of}
+use Rattle.meson_sources.specs.SourceEdits.{checked_extra, extra_added, extra_key, extra_marks, extra_removed, none_found, removed_at, is_known, sources_added, sources_removed, sources_renamed, spots_by, spots_named, spots_of, items_of}
 use Rattle.meson_steps.specs.Names.{checked_names, distinct}
 use Rattle.meson_steps.specs.Steps.{Step}
 use Rattle.meson_steps.specs.declared.command.Command.{Command}
@@ -161,6 +161,52 @@ module _ (l : Loaded) where
               };
             }
 
+  -- ---- a renaming, as a command on a list of names: the old one and the new one, or one that is both
+
+  module _ (target : CallName) where
+    abbrev renames : List (List ℕ) → Command
+    renames [] = command.SourcesRemove target []
+    renames (x ∷ []) = command.SourcesRename target x x
+    renames (x ∷ y ∷ more) = command.SourcesRename target x y
+
+    abbrev renames_steps : List (List ℕ) → Placed (Call Span) → Result (List Step) Refusal
+    renames_steps [] c = sources_removed (project l) c []
+    renames_steps (x ∷ []) c = sources_renamed (project l) c x x
+    renames_steps (x ∷ y ∷ more) c = sources_renamed (project l) c x y
+
+    renames_are : (names : List (List ℕ)) → planned (project l) (renames names) ≡ then_ok (the_call (project l) role.Target target) (renames_steps names)
+    renames_are [] = refl
+    renames_are (x ∷ []) = refl
+    renames_are (x ∷ y ∷ more) = refl
+
+    taken_free : (known : Bool) (steps : List Step) → Free is_bad (if known then Err refusal.ThereAlready else Ok steps)
+    taken_free true steps = refl
+    taken_free false steps = tt
+
+    renamed_free : (x y : List ℕ) → find is_empty_name (x ∷ y ∷ []) ≡ None → (c : Placed (Call Span)) → Free is_bad (sources_renamed (project l) c x y)
+    renamed_free x y none c =
+        after is_bad (checked_names (x ∷ y ∷ [])) _ (names_free (x ∷ y ∷ []) none)
+        (λ u. after is_bad (once sources_key (keyword sources_key c.it) (source_marks (project l) c)) _ (once_free is_bad bad_of_names sources_key (keyword sources_key c.it) (source_marks (project l) c))
+        (λ marks. after is_bad (spots_named marks (x ∷ [])) _ (spots_free marks (x ∷ [])) (λ spots. taken_free (is_known marks y) _)))
+
+    both_named : (x : List ℕ) → find is_empty_name (x ∷ []) ≡ None → find is_empty_name (x ∷ x ∷ []) ≡ None
+    both_named [] none = absurd (let no : ⊥ = cc in no)
+    both_named (b ∷ bs) none = refl
+
+    first_two : (x y : List ℕ) (more : List (List ℕ)) → find is_empty_name (x ∷ y ∷ more) ≡ None → find is_empty_name (x ∷ y ∷ []) ≡ None
+    first_two [] y more none = absurd (let no : ⊥ = cc in no)
+    first_two (b ∷ bs) [] more none = absurd (let no : ⊥ = cc in no)
+    first_two (b ∷ bs) (d ∷ ds) more none = refl
+
+    renames_free : (names : List (List ℕ)) → find is_empty_name names ≡ None → (c : Placed (Call Span)) → Free is_bad (renames_steps names c)
+    renames_free [] none c =
+        after is_bad (once sources_key (keyword sources_key c.it) (source_marks (project l) c)) _ (once_free is_bad bad_of_names sources_key (keyword sources_key c.it) (source_marks (project l) c)) (λ marks. removals_free marks [])
+    renames_free (x ∷ []) none c = renamed_free x x (both_named x none) c
+    renames_free (x ∷ y ∷ more) none c = renamed_free x y (first_two x y more none) c
+
+    renaming_meant : (old new : List ℕ) → planned (project l) (command.SourcesRename target old new) ≡ Err refusal.BadName → HasMeantName l (command.SourcesRename target old new) refusal.BadName
+    renaming_meant old new e = names_meant target renames renames_steps renames_are renames_free (λ c. refl) (old ∷ new ∷ []) refl refl e
+
   -- ---- each command
 
   abbrev Bad : Command → Type 0
@@ -178,6 +224,7 @@ module _ (l : Loaded) where
       (λ names none c. after is_bad (checked_names names) _ (names_free names none)
       (λ u. after is_bad (once sources_key (keyword sources_key c.it) (source_marks (project l) c)) _ (once_free is_bad bad_of_names sources_key (keyword sources_key c.it) (source_marks (project l) c))
       (λ marks. removals_free marks (distinct names)))) (λ c. refl) sources refl refl
+  bad_meant (command.SourcesRename target old new) = renaming_meant target old new
   bad_meant (command.ExtraAdd target sources) =
       names_meant target (command.ExtraAdd target) (λ names c. extra_added (project l) c names) (λ names. refl)
       (λ names none c. after is_bad (checked_extra (project l) c names) _ (extra_free (project l) c names none) (λ marks. inserted_free is_bad bad_of_names (project l) c _ _)) (λ c. refl) sources refl refl

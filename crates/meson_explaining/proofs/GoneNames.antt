@@ -1,6 +1,7 @@
 -- A command that is refused since a source is not found is refused for the first of its names that the target does not have.
 use Rattle.std.proofs.Common.{◌≡◌, ℕ, true, List, [], ◌∷◌, map, Some, None, refl, sym, ap, ◌∙◌, subst}
-use Rattle.std.specs.Prelude.{Bool, Result, Ok, Err, cond, not, codes, find, option_map, option_and_then}
+use Rattle.std.specs.Prelude.{Bool, false, Result, Ok, Err, cond, if◌then◌else◌, not, codes, find, option_map, option_and_then}
+use Rattle.std.proofs.lemmas.List.Elements.{All-nil}
 use Rattle.std.specs.List.{AllByRecursion}
 use Rattle.meson_lex.specs.declared.kinds.Span.{Span}
 use Rattle.meson_splice.specs.Patch.{then_ok}
@@ -13,12 +14,13 @@ use Rattle.meson_calls.specs.Project.{Placed, placed}
 use Rattle.meson_calls.specs.declared.call.Role.{Role}
 use Rattle.meson_calls.specs.declared.call.Role.TheVariants as role
 use Rattle.meson_calls.specs.declared.refusal.Refusal.{Refusal}
+use Rattle.meson_calls.specs.declared.refusal.Refusal.TheVariants as refusal
 use Rattle.meson_calls.proofs.CallsFound.{role_found}
 use Rattle.meson_keywords.specs.Tasks.{Task, add_entry, checked_option, delete_entry, delete_option_entry, each_made, remove_entry, set_entry, set_option_entry}
 use Rattle.meson_keywords.specs.TaskSteps.{call_changed, tasks_steps, trees_of}
 use Rattle.meson_plan.specs.Planning.{call_asked, planned, target_told}
 use Rattle.meson_sources.specs.Extras.{extra_files, extra_of_call}
-use Rattle.meson_sources.specs.SourceEdits.{checked_extra, extra_added, extra_key, extra_marks, extra_removed, none_found, removed_at, sources_added, spots_named}
+use Rattle.meson_sources.specs.SourceEdits.{checked_extra, extra_added, extra_key, extra_marks, extra_removed, is_known, none_found, removed_at, renamed_at, renaming, sources_added, sources_renamed, Spot, spots_named}
 use Rattle.meson_steps.specs.Names.{checked_names, distinct}
 use Rattle.meson_steps.specs.Steps.{Step}
 use Rattle.meson_steps.specs.declared.command.Command.{Command}
@@ -27,7 +29,7 @@ use Rattle.meson_targets.specs.TargetEdits.{checked_kind, target_removed}
 use Rattle.meson_variables.specs.Expansion.{Mark}
 use Rattle.meson_variables.specs.TargetSources.{items, opaque_count, source_item, source_marks, sources, sources_of_call, sources_of_marks}
 use Rattle.meson_variables.specs.declared.source.SourceItem.{SourceItem}
-use Rattle.meson_explaining.specs.NameLaws.{HasMeantName, alone}
+use Rattle.meson_explaining.specs.NameLaws.{HasMeantName, NotRefused, alone}
 use Rattle.meson_explaining.specs.Names.{meant_name}
 use Rattle.meson_explaining.specs.Sources.{extras_at, has, is_missing, items_at, items_of, sources_at}
 use Rattle.meson_explaining.proofs.EntryReasons.{add_free, delete_free, each_free, option_free, remove_free, set_free, values_free}
@@ -150,11 +152,72 @@ module _ (l : Loaded) (target : CallName) (c : Placed (Call Span)) (found : the_
         shown_then (Ok u) is = is
         shown_then (Err e) is = absurd (let no : ⊥ = cc in no)
 
+-- ---- a renaming: the old name is meant
+
+module _ (l : Loaded) (target : CallName) (old new : List ℕ) (why : Refusal) (gone : is_gone why ≡ true) where
+  abbrev renamed : List ℕ → List ℕ → Placed (Call Span) → Result (List Step) Refusal
+  renamed x y c = sources_renamed (project l) c x y
+
+  abbrev taken_or : Bool → List Step → Result (List Step) Refusal
+  taken_or known steps = if known then Err refusal.ThereAlready else Ok steps
+
+  -- the spots of the old name are not found
+  spots_gone : (known : Bool) (r : Result (List Spot) Refusal) (f : List Spot → List Step) → then_ok r (λ spots. taken_or known (f spots)) ≡ Err why → r ≡ Err why
+  spots_gone known (Err e) f is = let same : e ≡ why = cc in ap (λ (x : Refusal). Err x) same
+  spots_gone true (Ok spots) f is =
+      let same : refusal.ThereAlready ≡ why = cc in
+      let both : ◌≡◌ {A = Bool} false true = ap is_gone same ∙ gone in
+      absurd (let no : ⊥ = cc in no)
+  spots_gone false (Ok spots) f is = absurd (let no : ⊥ = cc in no)
+
+  both_valid : (x y : List ℕ) (u : Unit {0}) → checked_names (x ∷ y ∷ []) ≡ Ok u → checked_names (x ∷ x ∷ []) ≡ Ok tt
+  both_valid [] y u is = absurd (let no : ⊥ = cc in no)
+  both_valid (b ∷ bs) y u is = refl
+
+  module _ (marks : List (Mark Span)) (none : spots_named marks (old ∷ []) ≡ Err why) where
+    old_lost : is_lost marks old ≡ true
+    old_lost = go (is_lost marks old) refl
+      where
+        go : (b : Bool) → is_lost marks old ≡ b → is_lost marks old ≡ true
+        go true is = is
+        go false is =
+            absurd (not_refused is_gone (spots_named marks (old ∷ [])) why (spots_found marks [] (old ∷ []) (ap (λ b. cond b (Some old) None) is)) gone none)
+
+  pub renaming_gone : meant_name l (command.SourcesRename target old new) why ≡ find (is_missing (sources_at l target)) (old ∷ [])
+      → planned (project l) (command.SourcesRename target old new) ≡ Err why → HasMeantName l (command.SourcesRename target old new) why
+  renaming_gone name e =
+      let call = reached is_gone (the_call (project l) role.Target target) (renamed old new) why (call_free is_gone gone_of_names (project l) role.Target target) gone e in
+      let c = call.value in
+      let keys = keyword sources_key c.it in
+      let all = source_marks (project l) c in
+      let by : List (Mark Span) → Result (List Step) Refusal = λ ms. renamed_at ms old new in
+      let valid = reached is_gone (checked_names (old ∷ new ∷ [])) (λ _. then_ok (once sources_key keys all) by) why (names_valid is_gone gone_of_names refl (old ∷ new ∷ [])) gone call.rest in
+      let got = reached is_gone (once sources_key keys all) by why (once_free is_gone gone_of_names sources_key keys all) gone valid.rest in
+      let none = spots_gone (is_known got.value new) (spots_named got.value (old ∷ [])) (map (renaming new)) got.rest in
+      let missing : is_missing (sources_at l target) old ≡ true = sources_same l target c call.is got.value got.is old ∙ old_lost got.value none in
+      record {
+        name = old;
+        is_meant = name ∙ ap (λ b. cond b (Some old) None) missing;
+        is_first = record {
+          before = [];
+          lone = command.SourcesRename target old old;
+          behind = (new, command.SourcesRename target new new) ∷ [];
+          are = refl;
+          refused =
+              ap (λ r. then_ok r (renamed old old)) call.is
+              ∙ ap (λ r. then_ok r (λ _. then_ok (once sources_key keys all) (λ ms. renamed_at ms old old))) (both_valid old new valid.value valid.is)
+              ∙ ap (λ r. then_ok r (λ ms. renamed_at ms old old)) got.is
+              ∙ ap (λ r. then_ok r (λ spots. taken_or (is_known got.value old) (map (renaming old) spots))) none;
+          others = All-nil (NotRefused l why);
+        };
+      }
+
 -- ---- each command
 
 module _ (l : Loaded) (why : Refusal) (gone : is_gone why ≡ true)
     (from_sources : (target : CallName) (names : List (List ℕ)) → meant_name l (command.SourcesRemove target names) why ≡ find (is_missing (sources_at l target)) names)
-    (from_extras : (target : CallName) (names : List (List ℕ)) → meant_name l (command.ExtraRemove target names) why ≡ find (is_missing (extras_at l target)) names) where
+    (from_extras : (target : CallName) (names : List (List ℕ)) → meant_name l (command.ExtraRemove target names) why ≡ find (is_missing (extras_at l target)) names)
+    (from_renames : (target : CallName) (old new : List ℕ) → meant_name l (command.SourcesRename target old new) why ≡ find (is_missing (sources_at l target)) (old ∷ [])) where
   abbrev Gone : Command → Type 0
   Gone c = planned (project l) c ≡ Err why → HasMeantName l c why
 
@@ -181,6 +244,7 @@ module _ (l : Loaded) (why : Refusal) (gone : is_gone why ≡ true)
       gone_of_target l target (sources_at l target) (command.SourcesRemove target) (λ c. once sources_key (keyword sources_key c.it) (source_marks (project l) c)) (λ ns. refl)
       (λ c. once_free is_gone gone_of_names sources_key (keyword sources_key c.it) (source_marks (project l) c)) (λ c found marks got. sources_same l target c found marks got)
       why gone names refl (from_sources target names)
+  gone_meant (command.SourcesRename target old new) = renaming_gone l target old new why gone (from_renames target old new)
   gone_meant (command.ExtraAdd target names) =
       never_of (command.ExtraAdd target names) role.Target target (λ c. extra_added (project l) c names) refl
       (λ c. after is_gone (checked_extra (project l) c names) _

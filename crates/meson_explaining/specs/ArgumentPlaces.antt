@@ -66,17 +66,22 @@ settings_of l only x = filter (is_setting only x) (assignments l)
 -- ---- more than one is meant
 
 abbrev pub meant_notes : Loaded → Option ℕ → PlaceName → List Note
-meant_notes l only (name.Project id) = few_notes 5 [] (codes "further calls of project") (calls_held l (codes "project"))
+meant_notes l only (name.Project id) = few_notes 5 [] (codes "further calls of project") (filter (λ c. is_searched only c.file) (calls_held l (codes "project")))
 meant_notes l only (name.Call f id) = few_notes 5 [] (codes "further calls that the id names") (filter (is_meant only id) (callee_calls l f))
 meant_notes l only (name.Variable x) = few_settings (settings_of l only x)
 meant_notes l only (name.Line file line) = plain_note (codes "more than one call or value begins on this line") ∷ []
 
-abbrev pub one_place_help : PlaceName → List ℕ
-one_place_help (name.Line file line) = codes "name one of them by its function and its id, or by its variable"
-one_place_help _ = codes "at FILE:LINE names the one that begins on that line, and --in FOLDER searches the build file of one folder alone"
+-- where all build files are searched, or that of one folder alone
+abbrev pub line_help : Option (List ℕ) → List ℕ
+line_help None = codes "at FILE:LINE names the one that begins on that line, and --in FOLDER searches the build file of one folder alone"
+line_help (Some folder) = codes "at FILE:LINE names the one that begins on that line"
+
+abbrev pub one_place_help : PlaceName → Option (List ℕ) → List ℕ
+one_place_help (name.Line file line) folder = codes "name one of them by its function and its id, or by its variable"
+one_place_help _ folder = line_help folder
 
 abbrev pub places_meant : Loaded → Search → Explanation
-places_meant l s = record { notes = meant_notes l (only_file l.files s.folder) s.name; help = one_place_help s.name ∷ [] }
+places_meant l s = record { notes = meant_notes l (only_file l.files s.folder) s.name; help = one_place_help s.name s.folder ∷ [] }
 
 -- ---- none is meant
 

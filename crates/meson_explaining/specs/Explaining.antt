@@ -29,6 +29,7 @@ use Rattle.meson_calls.specs.Searching.{anywhere}
 abbrev pub subject : Command → Role × CallName
 subject (command.SourcesAdd target sources) = (role.Target, target)
 subject (command.SourcesRemove target sources) = (role.Target, target)
+subject (command.SourcesRename target old new) = (role.Target, target)
 subject (command.ExtraAdd target sources) = (role.Target, target)
 subject (command.ExtraRemove target sources) = (role.Target, target)
 subject (command.TargetAdd target kind subdir sources) = (role.Target, anywhere target)
@@ -46,14 +47,24 @@ subject (command.ArgumentInfo name) = (role.Project, anywhere (codes "/"))
 
 -- ---- the id names more than one call
 
-abbrev pub ambiguous_help : Role → List ℕ
-ambiguous_help role.Project = codes "use --sourcedir FOLDER with the folder of one of them"
-ambiguous_help _ = codes "use --in FOLDER with the folder of one of them, or a variable as the id; arg at FILE:LINE names the call on a line"
+-- where all build files are searched
+abbrev pub folders_help : Role → List ℕ
+folders_help role.Project = codes "use --sourcedir FOLDER with the folder of one of them"
+folders_help _ = codes "use --in FOLDER with the folder of one of them, or a variable as the id; arg at FILE:LINE names the call on a line"
 
-abbrev pub ambiguous : Loaded → Role → List ℕ → Explanation
-ambiguous l r id = record {
-  notes = few_notes 5 [] (codes "further calls that the id names") (calls_named l r id);
-  help = ambiguous_help r ∷ [];
+-- where they are in the build file of the one folder that is searched
+abbrev pub one_file_help : Role → List ℕ
+one_file_help role.Project = codes "arg at FILE:LINE names the call on a line"
+one_file_help _ = codes "use a variable as the id; arg at FILE:LINE names the call on a line"
+
+abbrev pub ambiguous_help : Role → Option (List ℕ) → List ℕ
+ambiguous_help r None = folders_help r
+ambiguous_help r (Some folder) = one_file_help r
+
+abbrev pub ambiguous : Loaded → Role → CallName → Explanation
+ambiguous l r name = record {
+  notes = few_notes 5 [] (codes "further calls that the id names") (calls_named l r name);
+  help = ambiguous_help r name.folder ∷ [];
 }
 
 -- ---- the key is not one that commands change
@@ -65,7 +76,7 @@ unknown_help (Some key) = (codes "the nearest key is " ++ key) ∷ []
 abbrev pub unknown_key : Command → List ℕ → Explanation
 unknown_key c key = record {
   notes = unknown_notes (subject c).0 key;
-  help = unknown_help (nearest_key key (keys (subject c).0)) ++ ways c (subject c).0 (subject c).1.id key;
+  help = unknown_help (nearest_key key (keys (subject c).0)) ++ ways c (subject c).0 (subject c).1 key;
 }
 
 -- ---- the value is not of the kind that the key takes
@@ -91,6 +102,7 @@ with_info notes = record { notes = notes; help = codes "info lists the sources a
 
 abbrev pub not_there : Loaded → Command → Explanation
 not_there l (command.SourcesRemove target names) = with_info (source_notes (sources_at l target) names)
+not_there l (command.SourcesRename target old new) = with_info (source_notes (sources_at l target) (old ∷ []))
 not_there l (command.ExtraRemove target names) = with_info (source_notes (extras_at l target) names)
 not_there l _ = record { notes = []; help = [] }
 
@@ -113,7 +125,7 @@ duplicate l c key = keyword_there l c key (codes "remove one of them by hand")
 -- ---- what is said of the calls that the command names
 
 abbrev pub calls_there : Loaded → Command → ℕ → List ℕ → List ℕ → List ℕ → Explanation
-calls_there l c most more others help = record { notes = few_notes most more others (calls_named l (subject c).0 (subject c).1.id); help = help ∷ [] }
+calls_there l c most more others help = record { notes = few_notes most more others (calls_named l (subject c).0 (subject c).1); help = help ∷ [] }
 
 abbrev pub name_taken : Loaded → Command → Explanation
 name_taken l c = calls_there l c 5 [] (codes "further targets of that name") (codes "use another name, or remove that target first with rm_target")
@@ -127,7 +139,7 @@ not_statement l c =
 abbrev pub call_explanation : Loaded → Command → Refusal → Explanation
 call_explanation l c refusal.NoProject = no_project l
 call_explanation l c refusal.NotFound = and_help (not_found l (subject c).0 (subject c).1.id) (folder_lines (subject c).1.folder)
-call_explanation l c refusal.Ambiguous = ambiguous l (subject c).0 (subject c).1.id
+call_explanation l c refusal.Ambiguous = ambiguous l (subject c).0 (subject c).1
 call_explanation l c (refusal.UnknownKey key) = unknown_key c key
 call_explanation l c (refusal.WrongKind key) = wrong_kind c key
 call_explanation l c refusal.BadName = not_valid c

@@ -9,10 +9,11 @@ use Rattle.meson_steps.specs.declared.command.Command.{Command}
 use Rattle.meson_steps.specs.declared.command.Command.TheVariants as command
 use Rattle.meson_explaining.specs.Names.{meant_name}
 
--- each name of a command, with the command that has this name alone
+-- each name of a command, with the command that has this name alone, as the old name and the new one of a renaming
 abbrev pub alone : Command → List (List ℕ × Command)
 alone (command.SourcesAdd target sources) = map (λ s. (s, command.SourcesAdd target (s ∷ []))) sources
 alone (command.SourcesRemove target sources) = map (λ s. (s, command.SourcesRemove target (s ∷ []))) sources
+alone (command.SourcesRename target old new) = (old, command.SourcesRename target old old) ∷ (new, command.SourcesRename target new new) ∷ []
 alone (command.ExtraAdd target sources) = map (λ s. (s, command.ExtraAdd target (s ∷ []))) sources
 alone (command.ExtraRemove target sources) = map (λ s. (s, command.ExtraRemove target (s ∷ []))) sources
 alone (command.TargetAdd target kind subdir sources) =

@@ -48,6 +48,7 @@ find_key test pairs = option_map (λ p. p.0) (find test pairs)
 abbrev pub bad_name : Command → Option (List ℕ)
 bad_name (command.SourcesAdd target sources) = find is_empty_name sources
 bad_name (command.SourcesRemove target sources) = find is_empty_name sources
+bad_name (command.SourcesRename target old new) = find is_empty_name (old ∷ new ∷ [])
 bad_name (command.ExtraAdd target sources) = find is_empty_name sources
 bad_name (command.ExtraRemove target sources) = find is_empty_name sources
 bad_name (command.TargetAdd target kind subdir sources) = find is_empty_name (target ∷ sources)
@@ -62,6 +63,7 @@ bad_name _ = None
 
 abbrev pub missing_name : Loaded → Command → Option (List ℕ)
 missing_name l (command.SourcesRemove target sources) = find (is_missing (sources_at l target)) sources
+missing_name l (command.SourcesRename target old new) = find (is_missing (sources_at l target)) (old ∷ [])
 missing_name l (command.ExtraRemove target sources) = find (is_missing (extras_at l target)) sources
 missing_name l _ = None
 

@@ -41,6 +41,7 @@ with_list notes = record { notes = notes; help = codes "write it in a list, as i
 
 abbrev pub not_removable : Loaded → Command → Explanation
 not_removable l (command.SourcesRemove target names) = with_list (fixed_notes (sources_at l target) names)
+not_removable l (command.SourcesRename target old new) = with_list (fixed_notes (sources_at l target) (old ∷ []))
 not_removable l (command.ExtraRemove target names) = with_list (fixed_notes (extras_at l target) names)
 not_removable l _ = record { notes = []; help = [] }
 
@@ -76,20 +77,25 @@ abbrev pub is_in_root : Result CallRef Refusal → Bool
 is_in_root (Err e) = false
 is_in_root (Ok c) = c.file == 0
 
-abbrev pub element_help : List ℕ
-element_help = codes "arg remove at FILE:LINE . SOURCE removes it from the list that is set on that line"
+-- what changes one list, for a name that goes and for one that gets another
+abbrev pub removal_way : List ℕ
+removal_way = codes "arg remove at FILE:LINE . SOURCE removes it from the list that is set on that line"
+
+abbrev pub renaming_way : List ℕ
+renaming_way = codes "arg replace at FILE:LINE . OLD NEW renames it in the list that is set on that line"
 
 abbrev pub folder_help : Bool → List ℕ
 folder_help true = codes "--sourcedir does not help, since the target is in the root file; info counts what is not known"
 folder_help false = codes "--sourcedir with the folder of the target leaves out what other folders set; info counts what is not known"
 
-abbrev pub not_known_help : Loaded → CallName → List (List ℕ)
-not_known_help l target = element_help ∷ folder_help (is_in_root (target_place (project l) target)) ∷ []
+abbrev pub not_known_help : Loaded → CallName → (way : List ℕ) → List (List ℕ)
+not_known_help l target way = way ∷ folder_help (is_in_root (target_place (project l) target)) ∷ []
 
-abbrev pub not_known : Loaded → CallName → List ℕ → List SourceItem → List (List ℕ) → Explanation
-not_known l target key items names = record { notes = not_known_notes l target key items names; help = not_known_help l target }
+abbrev pub not_known : Loaded → CallName → (key way : List ℕ) → List SourceItem → List (List ℕ) → Explanation
+not_known l target key way items names = record { notes = not_known_notes l target key items names; help = not_known_help l target way }
 
 abbrev pub unresolved : Loaded → Command → Explanation
-unresolved l (command.SourcesRemove target names) = not_known l target (codes "sources") (sources_at l target) names
-unresolved l (command.ExtraRemove target names) = not_known l target (codes "extra_files") (extras_at l target) names
+unresolved l (command.SourcesRemove target names) = not_known l target (codes "sources") removal_way (sources_at l target) names
+unresolved l (command.SourcesRename target old new) = not_known l target (codes "sources") renaming_way (sources_at l target) (old ∷ [])
+unresolved l (command.ExtraRemove target names) = not_known l target (codes "extra_files") removal_way (extras_at l target) names
 unresolved l _ = record { notes = []; help = [] }

@@ -7,6 +7,7 @@ use Rattle.meson_calls.specs.Loading.{Loaded, project}
 use Rattle.meson_calls.specs.Parts.{parts}
 use Rattle.meson_calls.specs.Project.{expression_at}
 use Rattle.meson_calls.specs.Walks.{read_in}
+use Rattle.meson_calls.specs.declared.call.CallName.{CallName}
 use Rattle.meson_calls.specs.declared.call.CallRef.{CallRef}
 use Rattle.meson_calls.specs.declared.call.Role.TheVariants as role
 use Rattle.meson_inventory.specs.Holdings.{calls_named}
@@ -65,10 +66,10 @@ read_notes l name places = map (read_note l name) (take 3 places) ++ further (co
 abbrev pub in_use_help : List ℕ
 in_use_help = codes "remove the uses of the variable first; get_variable, set_variable, a second assignment and foreach count too"
 
-abbrev pub used_notes : Loaded → List ℕ → List ℕ → List Note
-used_notes l id name =
-    few_notes 1 [] (codes "further calls that the id names") (calls_named l role.Target id) ++ read_notes l name (read_in name (parts (project l)))
+abbrev pub used_notes : Loaded → CallName → List ℕ → List Note
+used_notes l target name =
+    few_notes 1 [] (codes "further calls that the id names") (calls_named l role.Target target) ++ read_notes l name (read_in name (parts (project l)))
 
 abbrev pub in_use : Loaded → Command → List ℕ → Explanation
-in_use l (command.TargetRemove target) name = record { notes = used_notes l target.id name; help = in_use_help ∷ [] }
+in_use l (command.TargetRemove target) name = record { notes = used_notes l target name; help = in_use_help ∷ [] }
 in_use l _ name = record { notes = []; help = [] }

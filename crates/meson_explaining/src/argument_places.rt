@@ -1,7 +1,7 @@
 //! Which calls and assignments a search for a place means, where it means more than one.
 
 ghost use Rattle.std.specs.Prelude.{◌≡◌, [], IfOk, codes, filter, map, string_bytes};
-ghost use Rattle.meson_explaining.specs.ArgumentPlaces.{callee_calls, few_settings, is_meant, is_searched, is_setting, meant_notes, one_place_help, only_file};
+ghost use Rattle.meson_explaining.specs.ArgumentPlaces.{callee_calls, few_settings, is_meant, is_searched, is_setting, line_help, meant_notes, one_place_help, only_file};
 ghost use Rattle.meson_explaining.specs.ArgumentPlaces.{places_meant, setting_note, settings_of};
 ghost use Rattle.meson_explaining.specs.Notes.{few_notes};
 ghost use Rattle.meson_inventory.specs.Holdings.{calls_held};
@@ -140,18 +140,41 @@ fn call_notes(
     Ok(notes)
 }
 
-/// The notes of the calls of `project`.
-fn project_notes(alloc: Global, project: &Project) -> Result<Vec<Note>, AllocError>
-    ensures { IfOk result (λ notes. notes.items ≡ few_notes 5 [] (codes "further calls of project") (calls_held project.now (codes "project"))) }
+/// Those of some calls that are searched.
+fn searched_calls(
+    alloc: Global,
+    only: Option<usize>,
+    calls: Many<HeldCall>,
+) -> Result<Vec<HeldCall>, AllocError>
+    ensures { IfOk result (λ searched. searched.items ≡ filter (λ c. is_searched only c.file) calls) }
+{
+    let mut searched = Vec::new(alloc);
+    for call in calls.take() {
+        if is_searched(only, call.file) {
+            searched.push(call)?;
+        }
+    }
+    Ok(searched)
+}
+
+/// The notes of the calls of `project` that are searched.
+fn project_notes(
+    alloc: Global,
+    project: &Project,
+    only: Option<usize>,
+) -> Result<Vec<Note>, AllocError>
+    ensures { let calls = calls_held project.now (codes "project") in
+        IfOk result (λ notes. notes.items ≡ few_notes 5 [] (codes "further calls of project") (filter (λ c. is_searched only c.file) calls)) }
 {
     let calls = calls_held(alloc, project, "project")?;
+    let searched = searched_calls(alloc, only, calls)?;
     let telling = Telling {
         most: 5,
         more: "",
         others: "further calls of project",
     };
     let mut notes = Vec::new(alloc);
-    add_few(alloc, &mut notes, telling, calls.get())?;
+    add_few(alloc, &mut notes, telling, searched.as_slice())?;
     Ok(notes)
 }
 
@@ -228,7 +251,7 @@ fn meant_notes(
     ensures { IfOk result (λ notes. notes.items ≡ meant_notes project.now only name.now) }
 {
     match name {
-        PlaceName::Project(_) => project_notes(alloc, project),
+        PlaceName::Project(_) => project_notes(alloc, project, only),
         PlaceName::Call { callee, id } => call_notes(alloc, project, only, callee, id.get()),
         PlaceName::Variable(variable) => setting_notes(alloc, project, only, variable.get()),
         PlaceName::Line { .. } => one_note(
@@ -238,15 +261,27 @@ fn meant_notes(
     }
 }
 
-fn one_place_help(name: &PlaceName) -> &'static str
-    ensures { result.now ≡ one_place_help name.now }
+/// What leads to one of them, where all build files are searched, or that of one folder alone.
+fn line_help(folder: &Option<Text>) -> &'static str
+    ensures { result.now ≡ line_help folder.now }
+{
+    match folder {
+        Some(_) => "at FILE:LINE names the one that begins on that line",
+        None => {
+            "at FILE:LINE names the one that begins on that line, and --in FOLDER searches the build file of one folder alone"
+        }
+    }
+}
+
+fn one_place_help(name: &PlaceName, folder: &Option<Text>) -> &'static str
+    ensures { result.now ≡ one_place_help name.now folder.now }
 {
     match name {
         PlaceName::Line { .. } => {
             "name one of them by its function and its id, or by its variable"
         }
         PlaceName::Project(_) | PlaceName::Call { .. } | PlaceName::Variable(_) => {
-            "at FILE:LINE names the one that begins on that line, and --in FOLDER searches the build file of one folder alone"
+            line_help(folder)
         }
     }
 }
@@ -261,5 +296,5 @@ pub(crate) fn places_meant(
 {
     let only = only_file(alloc, project.files(), &search.folder)?;
     let notes = meant_notes(alloc, project, only, &search.name)?;
-    with_help(alloc, notes, one_place_help(&search.name))
+    with_help(alloc, notes, one_place_help(&search.name, &search.folder))
 }

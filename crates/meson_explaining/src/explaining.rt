@@ -2,8 +2,8 @@
 
 ghost use Rattle.std.specs.Prelude.{◌≡◌, ◌∷◌, [], IfOk, option_map};
 ghost use Rattle.meson_explaining.specs.Sources.{source_notes};
-ghost use Rattle.meson_explaining.specs.Explaining.{ambiguous, ambiguous_help, call_explanation, explanation, list_help, not_literal, not_there};
-ghost use Rattle.meson_explaining.specs.Explaining.{unknown_help, unknown_key, with_info, wrong_kind};
+ghost use Rattle.meson_explaining.specs.Explaining.{ambiguous, ambiguous_help, call_explanation, explanation, folders_help, list_help, not_literal, not_there};
+ghost use Rattle.meson_explaining.specs.Explaining.{one_file_help, unknown_help, unknown_key, with_info, wrong_kind};
 ghost use Rattle.meson_calls.specs.Searching.{name_at};
 ghost use Rattle.meson_explaining.specs.ArgumentPlaces.{and_help, folder_lines};
 ghost use Rattle.meson_explaining.specs.NotFound.{not_found};
@@ -29,6 +29,7 @@ use meson_splice::{Many, Text};
 use meson_steps::command::Command;
 use meson_variables::SourceItem;
 use std::alloc::{AllocError, Global};
+use std::slice;
 
 /// Notes with one line of help.
 pub(crate) fn with_help(
@@ -46,8 +47,9 @@ pub(crate) fn with_help(
     })
 }
 
-fn ambiguous_help(role: Role) -> &'static str
-    ensures { result.now ≡ ambiguous_help role }
+/// What leads to one of the calls, where all build files are searched.
+fn folders_help(role: Role) -> &'static str
+    ensures { result.now ≡ folders_help role }
 {
     match role {
         Role::Project => "use --sourcedir FOLDER with the folder of one of them",
@@ -57,15 +59,36 @@ fn ambiguous_help(role: Role) -> &'static str
     }
 }
 
+/// The same, where they are in the build file of the one folder that is searched.
+fn one_file_help(role: Role) -> &'static str
+    ensures { result.now ≡ one_file_help role }
+{
+    match role {
+        Role::Project => "arg at FILE:LINE names the call on a line",
+        Role::Target | Role::Dependency => {
+            "use a variable as the id; arg at FILE:LINE names the call on a line"
+        }
+    }
+}
+
+fn ambiguous_help(role: Role, folder: Option<&Text>) -> &'static str
+    ensures { result.now ≡ ambiguous_help role (option_map (λ f. f.now) folder.entry) }
+{
+    match folder {
+        Some(_) => one_file_help(role),
+        None => folders_help(role),
+    }
+}
+
 /// Which calls an id names.
 fn ambiguous(
     alloc: Global,
     project: &Project,
     subject: Subject<'_>,
 ) -> Result<Explanation, AllocError>
-    ensures { IfOk result (λ e. e ≡ ambiguous project.now subject.entry.role subject.entry.name.id.now) }
+    ensures { IfOk result (λ e. e ≡ ambiguous project.now subject.entry.role (name_at subject.entry.name)) }
 {
-    let calls = calls_named(alloc, project, subject.role, subject.name.id)?;
+    let calls = calls_named(alloc, project, subject.role, subject.name)?;
     let telling = Telling {
         most: 5,
         more: "",
@@ -73,7 +96,11 @@ fn ambiguous(
     };
     let mut notes = Vec::new(alloc);
     add_few(alloc, &mut notes, telling, calls.get())?;
-    with_help(alloc, notes, ambiguous_help(subject.role))
+    with_help(
+        alloc,
+        notes,
+        ambiguous_help(subject.role, subject.name.folder),
+    )
 }
 
 /// The help where a key is not one that commands change.
@@ -158,6 +185,10 @@ fn not_there(alloc: Global, project: &Project, command: &Command) -> Result<Expl
         Command::SourcesRemove { target, sources } => {
             let items = sources_at(alloc, project, target.as_name())?;
             with_info(alloc, items.get(), sources.get())
+        }
+        Command::SourcesRename { target, old, .. } => {
+            let items = sources_at(alloc, project, target.as_name())?;
+            with_info(alloc, items.get(), slice::from_ref(old))
         }
         Command::ExtraRemove { target, sources } => {
             let items = extras_at(alloc, project, target.as_name())?;

@@ -12,6 +12,7 @@ use meson_plan::{Project, Role};
 use meson_splice::Text;
 use meson_steps::command::{Command, Setting};
 use std::alloc::{AllocError, Global};
+use std::slice;
 
 /// Whether a name is empty.
 fn is_empty_name(name: &str) -> bool
@@ -149,6 +150,13 @@ pub(crate) fn bad_name(command: &Command) -> Option<&str>
         | Command::SourcesRemove { sources, .. }
         | Command::ExtraAdd { sources, .. }
         | Command::ExtraRemove { sources, .. } => first_empty(sources.get()),
+        Command::SourcesRename { old, new, .. } => {
+            if is_empty_name(old.get()) {
+                Some(old.get())
+            } else {
+                first_empty(slice::from_ref(new))
+            }
+        }
         Command::TargetAdd {
             target,
             sources,
@@ -191,6 +199,10 @@ fn missing_name(
         Command::SourcesRemove { target, sources } => {
             let items = sources_at(alloc, project, target.as_name())?;
             copied(alloc, first_missing(items.get(), sources.get()))
+        }
+        Command::SourcesRename { target, old, .. } => {
+            let items = sources_at(alloc, project, target.as_name())?;
+            copied(alloc, first_missing(items.get(), slice::from_ref(old)))
         }
         Command::ExtraRemove { target, sources } => {
             let items = extras_at(alloc, project, target.as_name())?;

@@ -20,6 +20,7 @@ use meson_plan::Project;
 use meson_splice::{Many, Text};
 use meson_steps::command::Command;
 use std::alloc::{AllocError, Global};
+use std::slice;
 
 /// Why there is no call of the project.
 pub(crate) fn no_project(alloc: Global, project: &Project) -> Result<Explanation, AllocError>
@@ -105,7 +106,7 @@ fn calls_there(
     ensures { IfOk result (λ e. e ≡ calls_there project.now command.now telling.entry.most telling.entry.more.now telling.entry.others.now help.now) }
 {
     let subject = subject_of(command);
-    let calls = calls_named(alloc, project, subject.role, subject.name.id)?;
+    let calls = calls_named(alloc, project, subject.role, subject.name)?;
     let mut notes = Vec::new(alloc);
     add_few(alloc, &mut notes, telling, calls.get())?;
     with_help(alloc, notes, help)
@@ -208,7 +209,7 @@ pub(crate) fn in_use(
 {
     match command {
         Command::TargetRemove { target } => {
-            let notes = used_notes(alloc, project, target.id.get(), name)?;
+            let notes = used_notes(alloc, project, target.as_name(), name)?;
             with_help(
                 alloc,
                 notes,
@@ -234,6 +235,11 @@ pub(crate) fn not_removable(
             let notes = fixed_notes(alloc, items.get(), sources.get())?;
             with_help(alloc, notes, help)
         }
+        Command::SourcesRename { target, old, .. } => {
+            let items = sources_at(alloc, project, target.as_name())?;
+            let notes = fixed_notes(alloc, items.get(), slice::from_ref(old))?;
+            with_help(alloc, notes, help)
+        }
         Command::ExtraRemove { target, sources } => {
             let items = extras_at(alloc, project, target.as_name())?;
             let notes = fixed_notes(alloc, items.get(), sources.get())?;
@@ -257,8 +263,20 @@ pub(crate) fn unresolved(
             let lost = Lost {
                 target: target.as_name(),
                 key: "sources",
+                way: "arg remove at FILE:LINE . SOURCE removes it from the list that is set on that line",
                 items: items.get(),
                 names: sources.get(),
+            };
+            not_known(alloc, project, lost)
+        }
+        Command::SourcesRename { target, old, .. } => {
+            let items = sources_at(alloc, project, target.as_name())?;
+            let lost = Lost {
+                target: target.as_name(),
+                key: "sources",
+                way: "arg replace at FILE:LINE . OLD NEW renames it in the list that is set on that line",
+                items: items.get(),
+                names: slice::from_ref(old),
             };
             not_known(alloc, project, lost)
         }
@@ -267,6 +285,7 @@ pub(crate) fn unresolved(
             let lost = Lost {
                 target: target.as_name(),
                 key: "extra_files",
+                way: "arg remove at FILE:LINE . SOURCE removes it from the list that is set on that line",
                 items: items.get(),
                 names: sources.get(),
             };

@@ -28,11 +28,12 @@ const MOST_FIXED: usize = 3;
 /// The most calls of one function that are reported.
 const MOST_SETTERS: usize = 2;
 
-/// Names, and the known items of a target, which are of a key.
+/// Names, and the known items of a target, which are of a key; and what else changes the list in which a name is.
 #[derive(Clone, Copy)]
 pub(crate) struct Lost<'l> {
     pub target: BorrowedName<'l>,
     pub key: &'l str,
+    pub way: &'l str,
     pub items: &'l [SourceItem],
     pub names: &'l [Text],
 }
@@ -217,18 +218,11 @@ fn folder_help(root: bool) -> &'static str
 }
 
 /// What may be done where one of the names is not among the known items of a target.
-fn not_known_help(
-    alloc: Global,
-    project: &Project,
-    target: BorrowedName<'_>,
-) -> Result<Vec<Text>, AllocError>
-    ensures { IfOk result (λ help. help.items ≡ not_known_help project.now (name_at target.entry)) }
+fn not_known_help(alloc: Global, project: &Project, lost: Lost<'_>) -> Result<Vec<Text>, AllocError>
+    ensures { let lost = lost.entry in IfOk result (λ help. help.items ≡ not_known_help project.now (name_at lost.target) lost.way.now) }
 {
-    let root = is_in_root(alloc, project, target)?;
-    let mut help = one_line(
-        alloc,
-        "arg remove at FILE:LINE . SOURCE removes it from the list that is set on that line",
-    )?;
+    let root = is_in_root(alloc, project, lost.target)?;
+    let mut help = one_line(alloc, lost.way)?;
     help.push(Text::of(String::from_str(alloc, folder_help(root))?))?;
     Ok(help)
 }
@@ -240,10 +234,10 @@ pub(crate) fn not_known(
     lost: Lost<'_>,
 ) -> Result<Explanation, AllocError>
     ensures { let lost = lost.entry in
-        IfOk result (λ e. e ≡ not_known project.now (name_at lost.target) lost.key.now lost.items.now lost.names.now) }
+        IfOk result (λ e. e ≡ not_known project.now (name_at lost.target) lost.key.now lost.way.now lost.items.now lost.names.now) }
 {
     let notes = not_known_notes(alloc, project, lost)?;
-    let help = not_known_help(alloc, project, lost.target)?;
+    let help = not_known_help(alloc, project, lost)?;
     Ok(Explanation {
         notes: Many::of(notes),
         help: Many::of(help),

@@ -25,6 +25,7 @@ pub(crate) fn subject_of(command: &Command) -> Subject<'_>
     match command {
         Command::SourcesAdd { target, .. }
         | Command::SourcesRemove { target, .. }
+        | Command::SourcesRename { target, .. }
         | Command::ExtraAdd { target, .. }
         | Command::ExtraRemove { target, .. }
         | Command::TargetRemove { target }

@@ -5,15 +5,16 @@ ghost use Rattle.meson_lex.specs.declared.kinds.Span.{Span};
 ghost use Rattle.meson_calls.specs.Loading.{project as trees_of};
 ghost use Rattle.meson_calls.specs.Parts.{parts};
 ghost use Rattle.meson_calls.specs.Project.{expression_at};
+ghost use Rattle.meson_calls.specs.Searching.{name_at};
 ghost use Rattle.meson_calls.specs.Walks.{read_in};
 ghost use Rattle.meson_explaining.specs.Targets.{file_note, file_notes, folder_notes, read_note, read_notes, span_at, used_notes};
 
 use crate::bad_names::one_note;
 use crate::calls::{Telling, add_few, add_further, plain_note};
 use crate::explanation::{Note, Spot};
-use meson_calls::CallRef;
 use meson_calls::keeper::Keeper;
 use meson_calls::walk_statements::walk_files;
+use meson_calls::{BorrowedName, CallRef};
 use meson_edit::span_of;
 use meson_inventory::holdings::calls_named;
 use meson_lex::Span;
@@ -178,10 +179,10 @@ pub(crate) fn all_reads(
 pub(crate) fn used_notes(
     alloc: Global,
     project: &Project,
-    target: &str,
+    target: BorrowedName<'_>,
     name: &str,
 ) -> Result<Vec<Note>, AllocError>
-    ensures { IfOk result (λ notes. notes.items ≡ used_notes project.now target.now name.now) }
+    ensures { IfOk result (λ notes. notes.items ≡ used_notes project.now (name_at target.entry) name.now) }
 {
     let calls = calls_named(alloc, project, Role::Target, target)?;
     let telling = Telling {

@@ -1,11 +1,14 @@
 //! Commands that do what the operations of `kwargs` are refused for.
 
-ghost use Rattle.std.specs.Prelude.{◌≡◌, ◌++◌, IfOk, OnOk, option_map};
+ghost use Rattle.std.specs.Prelude.{◌≡◌, ◌++◌, IfOk, OnOk, option_map, string_bytes};
 ghost use Rattle.std.specs.List.{list_all};
-ghost use Rattle.meson_explaining.specs.Ways.{any_key_help, any_key_words, function_word, id_word, is_plain, lines_for, target_line, target_words, ways};
+ghost use Rattle.meson_calls.specs.Searching.{name_at};
+ghost use Rattle.meson_explaining.specs.Ways.{any_key_help, any_key_line, any_key_words, folder_word, function_word, id_word, is_plain, key_words, lines_for};
+ghost use Rattle.meson_explaining.specs.Ways.{program_words, target_line, target_words, ways};
 
 use crate::names::is_bad_variable;
 use crate::subject::Subject;
+use meson_calls::BorrowedName;
 use meson_plan::Role;
 use meson_splice::Text;
 use meson_steps::command::Command;
@@ -43,22 +46,70 @@ fn id_word(id: &str) -> &str
     if is_plain_word(id) { id } else { "ID" }
 }
 
-/// What `arg` does for an operation of `kwargs` with any key: the words before the place and after the key.
-fn any_key_words(command: &Command) -> Option<(&'static str, &'static str)>
-    ensures { option_map (λ words. (words.0.now, words.1.now)) result ≡ any_key_words command.now }
+/// A folder as a word of a command, or `FOLDER` where a shell does not take it as it is.
+fn folder_word(folder: &str) -> &str
+    ensures { result.now ≡ folder_word folder.entry.now }
+{
+    if is_plain_word(folder) {
+        folder
+    } else {
+        "FOLDER"
+    }
+}
+
+/// The program, with the folder whose build file alone it searches, if one is given.
+fn program_words(alloc: Global, folder: Option<&Text>) -> Result<String, AllocError>
+    ensures { IfOk result (λ words. string_bytes words ≡ program_words (option_map (λ f. f.now) folder.entry)) }
+{
+    match folder {
+        Some(folder) => {
+            let folder = folder_word(folder.get());
+            format!(in alloc; "meson_rewrite --in {folder}")
+        }
+        None => String::from_str(alloc, "meson_rewrite"),
+    }
+}
+
+/// What `arg` does for an operation of `kwargs` with any key, the operation that does it, and the words after the key.
+fn any_key_words(command: &Command) -> Option<(&'static str, &'static str, &'static str)>
+    ensures { option_map (λ words. (words.0.now, words.1.now, words.2.now)) result ≡ any_key_words command.now }
 {
     match command {
-        Command::KwargsSet { .. } => { Some(("arg sets any key: meson_rewrite arg set", " VALUE")) }
-        Command::KwargsAdd { .. } => {
-            Some(("arg adds to any list: meson_rewrite arg add", " VALUE"))
-        }
+        Command::KwargsSet { .. } => Some(("arg sets any key", "set", " VALUE")),
+        Command::KwargsAdd { .. } => Some(("arg adds to any list", "add", " VALUE")),
         Command::KwargsRemove { .. } => Some((
-            "arg deletes an element of any list, counted from 0: meson_rewrite arg delete",
+            "arg deletes an element of any list, counted from 0",
+            "delete",
             ".0",
         )),
-        Command::KwargsDelete { .. } => Some(("arg deletes any key: meson_rewrite arg delete", "")),
+        Command::KwargsDelete { .. } => Some(("arg deletes any key", "delete", "")),
         _ => None,
     }
+}
+
+/// A call by its function and its id, and a key.
+fn key_words(alloc: Global, role: Role, id: &str, key: &str) -> Result<String, AllocError>
+    ensures { IfOk result (λ words. string_bytes words ≡ key_words role id.now key.now) }
+{
+    let function = function_word(role);
+    let id = id_word(id);
+    format!(in alloc; "{function} {id} {key}")
+}
+
+/// The line of these words.
+fn any_key_line(
+    alloc: Global,
+    subject: Subject<'_>,
+    key: &str,
+    words: (&'static str, &'static str, &'static str),
+) -> Result<Text, AllocError>
+    ensures { let words = words.entry in IfOk result
+        (λ line. line ≡ any_key_line subject.entry.role (name_at subject.entry.name) key.now (words.0.now, words.1.now, words.2.now)) }
+{
+    let program = program_words(alloc, subject.name.folder)?;
+    let place = key_words(alloc, subject.role, subject.name.id, key)?;
+    let (does, operation, after) = words;
+    Ok(Text::of(format!(in alloc; "{does}: {program} arg {operation} {place}{after}")?))
 }
 
 /// Adds the line of these words.
@@ -67,16 +118,13 @@ fn add_line(
     help: &mut Vec<Text>,
     subject: Subject<'_>,
     key: &str,
-    words: Option<(&'static str, &'static str)>,
+    words: Option<(&'static str, &'static str, &'static str)>,
 ) -> Result<(), AllocError>
-    ensures { OnOk result (help.new.items
-        ≡ help.old.items ++ lines_for subject.entry.role subject.entry.name.id.now key.now (option_map (λ words. (words.0.now, words.1.now)) words.entry)) }
+    ensures { let words = option_map (λ words. (words.0.now, words.1.now, words.2.now)) words.entry in
+        OnOk result (help.new.items ≡ help.old.items ++ lines_for subject.entry.role (name_at subject.entry.name) key.now words) }
 {
-    if let Some((before, after)) = words {
-        let function = function_word(subject.role);
-        let id = id_word(subject.name.id);
-        let line = format!(in alloc; "{before} {function} {id} {key}{after}")?;
-        help.push(Text::of(line))?;
+    if let Some(words) = words {
+        help.push(any_key_line(alloc, subject, key, words)?)?;
     }
     Ok(())
 }
@@ -89,7 +137,7 @@ fn add_any_key(
     subject: Subject<'_>,
     key: &str,
 ) -> Result<(), AllocError>
-    ensures { OnOk result (help.new.items ≡ help.old.items ++ any_key_help command.now subject.entry.role subject.entry.name.id.now key.now) }
+    ensures { OnOk result (help.new.items ≡ help.old.items ++ any_key_help command.now subject.entry.role (name_at subject.entry.name) key.now) }
 {
     if !is_bad_variable(key) {
         add_line(alloc, help, subject, key, any_key_words(command))?;
@@ -118,15 +166,16 @@ fn target_words(role: Role, key: &str) -> Option<&'static str>
 /// The line of these operations.
 fn target_line(
     alloc: Global,
-    id: &str,
+    target: BorrowedName<'_>,
     words: Option<&'static str>,
 ) -> Result<Vec<Text>, AllocError>
-    ensures { IfOk result (λ help. help.items ≡ target_line id.now (option_map (λ words. words.now) words.entry)) }
+    ensures { IfOk result (λ help. help.items ≡ target_line (name_at target.entry) (option_map (λ words. words.now) words.entry)) }
 {
     let mut help = Vec::new(alloc);
     if let Some(words) = words {
-        let id = id_word(id);
-        let line = format!(in alloc; "target changes its files: meson_rewrite target {id}{words}")?;
+        let program = program_words(alloc, target.folder)?;
+        let id = id_word(target.id);
+        let line = format!(in alloc; "target changes its files: {program} target {id}{words}")?;
         help.push(Text::of(line))?;
     }
     Ok(help)
@@ -139,9 +188,9 @@ pub(crate) fn ways_for(
     subject: Subject<'_>,
     key: &str,
 ) -> Result<Vec<Text>, AllocError>
-    ensures { IfOk result (λ help. help.items ≡ ways command.now subject.entry.role subject.entry.name.id.now key.now) }
+    ensures { IfOk result (λ help. help.items ≡ ways command.now subject.entry.role (name_at subject.entry.name) key.now) }
 {
-    let mut help = target_line(alloc, subject.name.id, target_words(subject.role, key))?;
+    let mut help = target_line(alloc, subject.name, target_words(subject.role, key))?;
     add_any_key(alloc, &mut help, command, subject, key)?;
     Ok(help)
 }

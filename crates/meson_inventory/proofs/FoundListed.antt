@@ -18,10 +18,12 @@ use Rattle.meson_calls.specs.Parts.{Part, parts}
 use Rattle.meson_calls.specs.Parts as part
 use Rattle.meson_calls.specs.ChosenNotes.{call_with}
 use Rattle.meson_calls.specs.Project.{Project, Placed, placed, expression_at}
-use Rattle.meson_calls.specs.Naming.{assigned_values, found, named_or_assigned, or_else, part_set_to, project_ids, set_to, value_of_assignment, with_name}
-use Rattle.meson_calls.specs.Roles.{has_role, one_of, places, role_calls, targets, with_role}
+use Rattle.meson_calls.specs.Naming.{found, found_among, named_or_set, or_else, part_set_to, project_ids, set_to, value_of_assignment, values_among, with_name}
+use Rattle.meson_calls.specs.Roles.{has_role, one_of, places, role_calls, role_calls_among, targets, with_role}
+use Rattle.meson_calls.specs.Searching.{within}
 use Rattle.meson_calls.proofs.CallsReached.{InProject, every_chosen, every_part}
 use Rattle.meson_calls.proofs.ExpressionsAt.{assigned_stands, expression_stands}
+use Rattle.meson_calls.proofs.Searched.{every_within}
 use Rattle.meson_details.specs.Details.{head_of}
 use Rattle.meson_targets.specs.TargetEdits.{variable_of}
 use Rattle.meson_targets.proofs.VariableStatements.{value_has_variable}
@@ -167,12 +169,6 @@ module _ (p : Project Span) (r : Role) (id : List ℕ) where
         named = inl (ap (λ (d : Call Span). first_literal d) (sym b.1) ∙ is_there id (first_literal q.it) b.0);
       }
 
-  every_role : Every OfRole (role_calls p r)
-  every_role = every_chosen (Standing p) OfRole (with_role r) role_stands (calls p) (every_call_stands p)
-
-  every_named : Every Finds (all_chosen (with_name id) (role_calls p r))
-  every_named = every_chosen OfRole Finds (with_name id) name_finds (role_calls p r) every_role
-
   -- ---- by variable
 
   -- of an assignment, before its value has the value's place
@@ -208,18 +204,28 @@ module _ (p : Project Span) (r : Role) (id : List ℕ) where
   variable_finds : (q : Placed (Call Span)) (c : Call Span) → Set q → with_role r q.it ≡ Some c → Finds (placed q.place c)
   variable_finds q c s h = record { one = role_stands q c s.at h; named = inr s.set }
 
-  every_set : Every Finds (all_chosen (with_role r) (all_chosen call_of (assigned_values p id)))
-  every_set =
-      every_chosen Set Finds (with_role r) variable_finds (all_chosen call_of (assigned_values p id))
-      (every_chosen Value Set call_of call_set (assigned_values p id)
-      (every_value (all_chosen (part_set_to id) (parts p)) (every_chosen (InProject 0 p) Before (part_set_to id) assigned (parts p) (every_part 0 p))))
+  -- ---- among some parts
 
   either : (xs ys : List (Placed (Call Span))) → Every Finds xs → Every Finds ys → Every Finds (or_else xs ys)
   either [] ys a b = b
   either (x ∷ xs) ys a b = a
 
-  every_found : Every Finds (named_or_assigned p r id)
-  every_found = either _ _ every_named every_set
+  module _ (qs : List (Placed (Part Span))) (each : Every (InProject 0 p) qs) where
+    every_role : Every OfRole (role_calls_among qs r)
+    every_role =
+        every_chosen (Standing p) OfRole (with_role r) role_stands (all_chosen part_call qs) (every_chosen (InProject 0 p) (Standing p) part_call (part_stands p) qs each)
+
+    every_named : Every Finds (all_chosen (with_name id) (role_calls_among qs r))
+    every_named = every_chosen OfRole Finds (with_name id) name_finds (role_calls_among qs r) every_role
+
+    every_set : Every Finds (all_chosen (with_role r) (all_chosen call_of (values_among qs id)))
+    every_set =
+        every_chosen Set Finds (with_role r) variable_finds (all_chosen call_of (values_among qs id))
+        (every_chosen Value Set call_of call_set (values_among qs id)
+        (every_value (all_chosen (part_set_to id) qs) (every_chosen (InProject 0 p) Before (part_set_to id) assigned qs each)))
+
+    every_found : Every Finds (named_or_set qs r id)
+    every_found = either _ _ every_named every_set
 
 all_listed : (all : PartsAreAll) (l : Loaded) (id : List ℕ) (cs : List (Placed (Call Span))) → Every (Finds (project l) role.Target id) cs → All (IsListed l id) (places cs)
 all_listed all l id [] every = λ k d within. absurd (omega (arith, within))
@@ -230,7 +236,7 @@ all_listed all l id (c ∷ cs) every = at (all_listed all l id cs every.1)
     at rest (suc k) d within = let below : k < length (places cs) = omega (arith, within) in rest k d below
 
 pub found_are_listed : PartsAreAll → FoundAreListed
-found_are_listed all l id = all_listed all l id (found (project l) role.Target id) (every_found (project l) role.Target id)
+found_are_listed all l id = all_listed all l id (found (project l) role.Target id) (every_found (project l) role.Target id (parts (project l)) (every_part 0 (project l)))
 
 -- ---- and stands at its place
 
@@ -242,11 +248,17 @@ only_if : (p : Project Span) (b : Bool) (cs : List (Placed (Call Span))) → Eve
 only_if p true cs every = every
 only_if p false cs every = tt
 
-named_stand : (p : Project Span) (r : Role) (id : List ℕ) → Every (Standing p) (named_or_assigned p r id)
-named_stand p r id = standing p (Finds p r id) (λ c f. f.one.at) (named_or_assigned p r id) (every_found p r id)
+module _ (p : Project Span) (qs : List (Placed (Part Span))) (each : Every (InProject 0 p) qs) where
+  named_stand : (r : Role) (id : List ℕ) → Every (Standing p) (named_or_set qs r id)
+  named_stand r id = standing p (Finds p r id) (λ c f. f.one.at) (named_or_set qs r id) (every_found p r id qs each)
 
-pub found_stand : (p : Project Span) (r : Role) (id : List ℕ) → Every (Standing p) (found p r id)
-found_stand p role.Target id = named_stand p role.Target id
-found_stand p role.Dependency id = named_stand p role.Dependency id
-found_stand p role.Project id =
-    only_if p (one_of project_ids id) (role_calls p role.Project) (standing p (OfRole p role.Project id) (λ c o. o.at) (role_calls p role.Project) (every_role p role.Project id))
+  among_stand : (r : Role) (id : List ℕ) → Every (Standing p) (found_among qs r id)
+  among_stand role.Target id = named_stand role.Target id
+  among_stand role.Dependency id = named_stand role.Dependency id
+  among_stand role.Project id =
+      only_if p (one_of project_ids id) (role_calls_among qs role.Project)
+      (standing p (OfRole p role.Project id) (λ c o. o.at) (role_calls_among qs role.Project) (every_role p role.Project id qs each))
+
+-- in the files that are searched
+pub found_stand : (p : Project Span) (w : Option ℕ) (r : Role) (id : List ℕ) → Every (Standing p) (found_among (within w (parts p)) r id)
+found_stand p w r id = among_stand p (within w (parts p)) (every_within (InProject 0 p) w (parts p) (every_part 0 p)) r id

@@ -4,6 +4,7 @@ mod CallPlacesListed
 mod FoundListed
 mod AssignmentsStand
 mod CallsNamed
+mod NamedSearched
 mod NotEntered
 mod FileSteps
 mod LinesCounted

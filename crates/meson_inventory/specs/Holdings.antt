@@ -1,18 +1,20 @@
 -- What a project holds: the calls that make targets, and the `subdir` calls that enter none of its files.
-use Rattle.std.specs.Prelude.{ℕ, Bool, not, List, filter, codes, Option, Some, None, option_map, if◌then◌else◌}
+use Rattle.std.specs.Prelude.{ℕ, Bool, not, List, [], filter, codes, Option, Some, None, option_map, if◌then◌else◌, Result, Ok, Err}
 use Rattle.std.specs.List.{filter_map}
 use Rattle.meson_lex.specs.declared.kinds.Span.{Span}
 use Rattle.meson_splice.specs.declared.file_set.File.{File}
 use Rattle.meson_syntax.specs.Tree.{Expression, call}
+use Rattle.meson_calls.specs.declared.call.CallName.{CallName}
 use Rattle.meson_calls.specs.declared.call.CallRef.{CallRef}
 use Rattle.meson_calls.specs.declared.call.Role.{Role}
+use Rattle.meson_calls.specs.declared.refusal.Refusal.{Refusal}
 use Rattle.meson_calls.specs.Calls.{Call, all_chosen, calls, calls_function}
 use Rattle.meson_calls.specs.FileNames.{is_entered, meant_in}
 use Rattle.meson_calls.specs.Loading.{Loaded, project}
-use Rattle.meson_calls.specs.Naming.{found}
 use Rattle.meson_calls.specs.Project.{Project, expression_at}
 use Rattle.meson_calls.specs.Roles.{places, targets}
 use Rattle.meson_details.specs.Details.{head}
+use Rattle.meson_plan.specs.Named.{places_named}
 use Rattle.meson_targets.specs.TargetEdits.{variable_of}
 use Rattle.meson_inventory.specs.declared.holdings.HeldCall.{HeldCall}
 use Rattle.meson_inventory.specs.declared.holdings.Holdings.{Holdings}
@@ -42,9 +44,13 @@ calls_of p f = places (all_chosen (with_function f) (calls p))
 abbrev pub calls_held : Loaded → List ℕ → List HeldCall
 calls_held l f = held_calls l (calls_of (project l) f)
 
--- the calls that an id names, in file order and source order
-abbrev pub calls_named : Loaded → Role → List ℕ → List HeldCall
-calls_named l r id = held_calls l (places (found (project l) r id))
+-- the calls that are named, in file order and source order; none where the folder has no build file
+abbrev pub held_named : Loaded → Result (List CallRef) Refusal → List HeldCall
+held_named l (Err e) = []
+held_named l (Ok cs) = held_calls l cs
+
+abbrev pub calls_named : Loaded → Role → CallName → List HeldCall
+calls_named l r name = held_named l (places_named (project l) r name)
 
 -- ---- what a project holds
 

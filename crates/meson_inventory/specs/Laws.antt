@@ -1,21 +1,25 @@
 -- What is promised about the calls and assignments that are listed of a project, in the words of ids, of variables and of trees.
-use Rattle.std.specs.Prelude.{◌≡◌, ◌≢◌, ◌↔◌, ◌⊎◌, ℕ, false, List, [], filter, Option, Some, None, option_and_then, All}
+use Rattle.std.specs.Prelude.{◌≡◌, ◌≢◌, ◌↔◌, ◌⊎◌, ℕ, false, List, [], ◌∷◌, filter, Option, Some, None, Ok, option_and_then, All}
 use Rattle.std.specs.List.{Contains, list_any}
 use Rattle.meson_lex.specs.declared.kinds.Span.{Span}
 use Rattle.meson_syntax.specs.Paths.{Sort, of_expression, of_statement, of_block, Node, block_of, reach}
 use Rattle.meson_syntax.specs.Tree.{Statement}
+use Rattle.meson_calls.specs.declared.call.CallName.{CallName}
 use Rattle.meson_calls.specs.declared.call.CallRef.{CallRef}
+use Rattle.meson_calls.specs.declared.call.Role.{Role}
 use Rattle.meson_calls.specs.declared.call.Role.TheVariants as role
-use Rattle.meson_calls.specs.Calls.{calls}
+use Rattle.meson_calls.specs.Calls.{Call, calls}
+use Rattle.meson_calls.specs.Finding.{the_call}
 use Rattle.meson_calls.specs.Loading.{Loaded, IsProject, project}
 use Rattle.meson_calls.specs.Naming.{found}
 use Rattle.meson_calls.specs.Parts.{a_statement}
-use Rattle.meson_calls.specs.Project.{Project, nth_file}
+use Rattle.meson_calls.specs.Project.{Placed, Project, nth_file}
 use Rattle.meson_calls.specs.Roles.{places}
+use Rattle.meson_calls.specs.Searching.{project_names, searched_file}
 use Rattle.meson_variables.specs.Variables.{all_known}
 use Rattle.meson_calls.specs.Subdirs.{enters_unknown}
 use Rattle.meson_inventory.specs.Assignments.{assignment_of, assignments}
-use Rattle.meson_inventory.specs.Holdings.{held_call, held_calls, holdings}
+use Rattle.meson_inventory.specs.Holdings.{calls_named, held_call, held_calls, holdings}
 use Rattle.meson_inventory.specs.declared.assignments.HeldAssignment.{HeldAssignment}
 use Rattle.meson_inventory.specs.declared.holdings.HeldCall.{HeldCall}
 
@@ -29,6 +33,17 @@ pub record IsListed (l : Loaded) (id : List ℕ) (c : CallRef) : Type 0 where
 
 abbrev pub FoundAreListed : Type 0
 FoundAreListed = (l : Loaded) (id : List ℕ) → All (IsListed l id) (places (found (project l) role.Target id))
+
+-- ---- The calls that are named are those that a command may mean.
+
+-- Where a command finds one call, that call alone is named.
+abbrev pub OneIsNamed : Type 0
+OneIsNamed = (l : Loaded) (r : Role) (name : CallName) (c : Placed (Call Span)) → the_call (project l) r name ≡ Ok c → calls_named l r name ≡ held_calls l (c.place ∷ [])
+
+-- With a folder each of them is in its build file.
+abbrev pub NamedAreSearched : Type 0
+NamedAreSearched = (l : Loaded) (r : Role) (name : CallName) (file : ℕ) → searched_file (project_names (project l)) name.folder ≡ Ok (Some file)
+    → All (λ c. c.file ≡ file) (calls_named l r name)
 
 -- ---- What is not entered makes the value of every variable unknown.
 

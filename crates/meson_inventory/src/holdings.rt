@@ -5,6 +5,7 @@ ghost use Rattle.meson_calls.specs.FileNames.{AreFileNames};
 ghost use Rattle.meson_calls.specs.Loading.{HasFileName};
 ghost use Rattle.meson_calls.specs.Notes.{note_view, note_views};
 ghost use Rattle.meson_calls.specs.ChosenNotes.{places_that};
+ghost use Rattle.meson_calls.specs.Searching.{name_at};
 ghost use Rattle.meson_inventory.specs.Holdings.{calls_held, calls_named, enters_one, held_call, held_calls, holdings, not_entered, subdirs_held, targets_held};
 ghost use Rattle.meson_inventory.specs.inside.Holdings.{AreAllNotes, IsCall, note_calls};
 
@@ -15,7 +16,7 @@ use meson_calls::notes::notes_of;
 use meson_calls::place::place_of;
 use meson_calls::roles::text_of;
 use meson_details::called::call_at;
-use meson_plan::{CallRef, Head, Project, Role};
+use meson_plan::{BorrowedName, CallRef, Head, Project, Refusal, Role};
 use meson_splice::{FileSet, Many, Text};
 use meson_targets::variable::variable_of;
 use std::alloc::{AllocError, Global};
@@ -199,7 +200,7 @@ fn subdirs_held(
     not_entered(alloc, project.files(), calls)
 }
 
-/// The calls that an id names, in file order and source order.
+/// The calls that are named, in file order and source order; none where the folder has no build file.
 ///
 /// # Errors
 /// Out of memory.
@@ -207,13 +208,14 @@ pub fn calls_named(
     alloc: Global,
     project: &Project,
     role: Role,
-    id: &str,
+    name: BorrowedName<'_>,
 ) -> Result<Many<HeldCall>, AllocError>
-    ensures { IfOk result (λ calls. calls ≡ calls_named project.now role id.now) }
+    ensures { IfOk result (λ calls. calls ≡ calls_named project.now role (name_at name.entry)) }
 {
-    match project.find(alloc, role, id) {
+    match project.find(alloc, role, name) {
         Ok(places) => held_calls(alloc, project, places.as_slice()),
-        Err(_) => Err(AllocError),
+        Err(Refusal::OutOfMemory) => Err(AllocError),
+        Err(_) => Ok(Many::new(alloc)),
     }
 }
 

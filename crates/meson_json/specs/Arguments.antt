@@ -66,22 +66,29 @@ replaced_by (old ∷ new ∷ []) = Some (change.Replace old new)
 replaced_by (g ∷ h ∷ k ∷ gs) = None
 
 -- the change of an operation with its values, if there are as many as it takes
-abbrev pub change_to : ArgumentOperation → List Given → Option ValueChange
-change_to operation.Set gs = set_to gs
-change_to operation.Add [] = None
-change_to operation.Add (g ∷ gs) = Some (change.Add (g ∷ gs))
-change_to operation.Remove [] = None
-change_to operation.Remove (g ∷ gs) = Some (change.Remove (g ∷ gs))
-change_to operation.Replace gs = replaced_by gs
-change_to operation.Delete [] = Some change.Delete
-change_to operation.Delete (g ∷ gs) = None
-change_to operation.Info gs = None
+abbrev pub change_by : ArgumentOperation → List Given → Option ValueChange
+change_by operation.Set gs = set_to gs
+change_by operation.Add [] = None
+change_by operation.Add (g ∷ gs) = Some (change.Add (g ∷ gs))
+change_by operation.Remove [] = None
+change_by operation.Remove (g ∷ gs) = Some (change.Remove (g ∷ gs))
+change_by operation.Replace gs = replaced_by gs
+change_by operation.Delete [] = Some change.Delete
+change_by operation.Delete (g ∷ gs) = None
+change_by operation.Info gs = None
 
--- the command of an operation with the name of a value and further values, if there are as many as it takes; a report takes none
-abbrev pub command_to : ArgumentOperation → ValueName → List Given → Option Command
-command_to operation.Info name [] = Some (command.ArgumentInfo name)
-command_to operation.Info name (g ∷ gs) = None
-command_to o name gs = option_map (command.Argument name) (change_to o gs)
+-- the same, with the value after which values are added, if one is given; only `add` takes it
+abbrev pub change_to : ArgumentOperation → (after : Option Given) → List Given → Option ValueChange
+change_to o None gs = change_by o gs
+change_to operation.Add (Some it) (g ∷ gs) = Some (change.AddAfter it (g ∷ gs))
+change_to o (Some it) gs = None
+
+-- the command of an operation with the name of a value, the value after which values are added, and further values, if there are as many as it takes; a
+-- report takes none
+abbrev pub command_to : ArgumentOperation → ValueName → (after : Option Given) → List Given → Option Command
+command_to operation.Info name None [] = Some (command.ArgumentInfo name)
+command_to operation.Info name after gs = None
+command_to o name after gs = option_map (command.Argument name) (change_to o after gs)
 
 -- a report may leave the keys out: then it is of the place itself
 abbrev pub keys_left_out : ArgumentOperation → Option (List (List ℕ))

@@ -13,6 +13,8 @@ abbrev pub value_members : ValueChange → List (List ℕ)
 value_members (change.Set g) = codes "function" ∷ codes "id" ∷ codes "key" ∷ codes "in" ∷ codes "values" ∷ []
 value_members (change.SetAll gs) = codes "function" ∷ codes "id" ∷ codes "key" ∷ codes "in" ∷ codes "values" ∷ []
 value_members (change.Add gs) = codes "function" ∷ codes "id" ∷ codes "key" ∷ codes "in" ∷ codes "values" ∷ []
+value_members (change.AddAfter g gs) =
+    codes "function" ∷ codes "id" ∷ codes "key" ∷ codes "in" ∷ codes "values" ∷ codes "after" ∷ []
 value_members (change.Remove gs) = codes "function" ∷ codes "id" ∷ codes "key" ∷ codes "in" ∷ codes "values" ∷ []
 value_members (change.Replace old new) = codes "function" ∷ codes "id" ∷ codes "key" ∷ codes "in" ∷ codes "values" ∷ []
 value_members change.Delete = codes "function" ∷ codes "id" ∷ codes "key" ∷ codes "in" ∷ []
@@ -21,6 +23,7 @@ value_members change.Delete = codes "function" ∷ codes "id" ∷ codes "key" �
 abbrev pub used_members : Command → List (List ℕ)
 used_members (command.SourcesAdd target sources) = codes "target" ∷ codes "sources" ∷ codes "in" ∷ []
 used_members (command.SourcesRemove target sources) = codes "target" ∷ codes "sources" ∷ codes "in" ∷ []
+used_members (command.SourcesRename target old new) = codes "target" ∷ codes "sources" ∷ codes "in" ∷ []
 used_members (command.ExtraAdd target sources) = codes "target" ∷ codes "sources" ∷ codes "in" ∷ []
 used_members (command.ExtraRemove target sources) = codes "target" ∷ codes "sources" ∷ codes "in" ∷ []
 used_members (command.TargetAdd target kind subdir sources) = codes "target" ∷ codes "sources" ∷ codes "subdir" ∷ codes "target_type" ∷ []

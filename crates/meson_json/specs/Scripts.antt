@@ -1,5 +1,5 @@
 -- The commands of a JSON value, or the first fault.
-use Rattle.std.specs.Prelude.{ℕ, ◌+◌, List, [], ◌∷◌, codes, is_some, nat_lt, if◌then◌else◌, Option, Some, None, ok_or, option_and_then, option_map, Result, Ok, Err}
+use Rattle.std.specs.Prelude.{ℕ, ◌+◌, List, [], ◌∷◌, bytes_eq, codes, is_some, nat_lt, if◌then◌else◌, Option, Some, None, ok_or, option_and_then, option_map, Result, Ok, Err}
 use Rattle.serde_json.specs.Data.{Data, array, string, Items, no_items, item, Members, no_members}
 use Rattle.serde_json.specs.Events.{items_len}
 use Rattle.serde_json.specs.Find.{get, as_array, as_object, as_str}
@@ -10,7 +10,7 @@ use Rattle.meson_json.specs.Known.{unknown_in}
 use Rattle.meson_json.specs.Members.{member_text}
 use Rattle.meson_json.specs.Operations.{argument_operation, entry_type, target_operation, kwargs_operation, options_operation, role_of}
 use Rattle.meson_json.specs.Settings.{given_value, setting_of, option_value}
-use Rattle.meson_json.specs.Targets.{target_command}
+use Rattle.meson_json.specs.Targets.{renaming_of, target_command}
 use Rattle.meson_steps.specs.declared.argument.ValueName.{ValueName}
 use Rattle.meson_steps.specs.declared.command.Command.{Command}
 use Rattle.meson_steps.specs.declared.command.Command.TheVariants as command
@@ -69,10 +69,19 @@ target_members i operation d =
     then_ok (target_folder i operation d) (λ folder.
     Ok (record { target = target; folder = folder; sources = sources; subdir = subdir; target_kind = kind }))))))
 
+-- `rename`: the sources are the old name and the new one
+unfoldable pub rename_entry : ℕ → Data → Result Command ScriptFault
+rename_entry i d =
+    then_ok (required_text i (codes "target") d) (λ target.
+    then_ok (given (λ d. option_and_then (each_of as_str) (as_array d)) i (codes "sources") [] (get (codes "sources") d)) (λ sources.
+    then_ok (folder_at i d) (λ folder.
+    ok_or (renaming_of (record { id = target; folder = folder }) sources) (BadField i (codes "sources")))))
+
 unfoldable pub target_entry : ℕ → Data → Result Command ScriptFault
 target_entry i d =
     then_ok (required_text i (codes "operation") d) (λ word.
-    then_ok (ok_or (target_operation word) (UnknownOperation i)) (λ operation.
+    if bytes_eq word (codes "rename") then rename_entry i d
+    else then_ok (ok_or (target_operation word) (UnknownOperation i)) (λ operation.
     then_ok (target_members i operation d) (λ m. Ok (target_command operation m))))
 
 -- ---- entries of type `kwargs`
@@ -145,8 +154,15 @@ values_at i argument.Replace d = given (λ v. option_and_then (each_of given_val
 values_at i argument.Delete d = Ok []
 values_at i argument.Info d = Ok []
 
+-- the value after which values are added, if one is given; only `add` reads it
+abbrev pub after_at : ℕ → ArgumentOperation → Data → Result (Option Given) ScriptFault
+after_at i argument.Add d = given (λ v. option_map Some (given_value v)) i (codes "after") None (get (codes "after") d)
+after_at i operation d = Ok None
+
 abbrev pub value_command : ℕ → ArgumentOperation → ValueName → Data → Result Command ScriptFault
-value_command i operation name d = then_ok (values_at i operation d) (λ gs. ok_or (command_to operation name gs) (BadField i (codes "values")))
+value_command i operation name d =
+    then_ok (values_at i operation d) (λ gs.
+    then_ok (after_at i operation d) (λ after. ok_or (command_to operation name after gs) (BadField i (codes "values"))))
 
 unfoldable pub value_name : ℕ → ArgumentOperation → Data → Result ValueName ScriptFault
 value_name i operation d =

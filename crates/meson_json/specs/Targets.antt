@@ -1,4 +1,5 @@
 -- The command of an operation on a target.
+use Rattle.std.specs.Prelude.{ℕ, List, [], ◌∷◌, Option, Some, None}
 use Rattle.meson_calls.specs.declared.call.CallName.{CallName}
 use Rattle.meson_steps.specs.declared.command.Command.{Command}
 use Rattle.meson_steps.specs.declared.command.Command.TheVariants as command
@@ -18,3 +19,10 @@ target_command target.TargetAdd m = command.TargetAdd m.target m.target_kind m.s
 target_command target.ExtraAdd m = command.ExtraAdd (named_by m) m.sources
 target_command target.ExtraRemove m = command.ExtraRemove (named_by m) m.sources
 target_command target.Info m = command.TargetInfo (named_by m)
+
+-- the command that renames sources, if there are an old name and a new one and no other
+abbrev pub renaming_of : CallName → List (List ℕ) → Option Command
+renaming_of target [] = None
+renaming_of target (old ∷ []) = None
+renaming_of target (old ∷ new ∷ []) = Some (command.SourcesRename target old new)
+renaming_of target (old ∷ new ∷ more ∷ names) = None

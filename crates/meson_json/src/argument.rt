@@ -1,7 +1,7 @@
 //! What names a value, and the changes and reports of a value, by a script or on the command line.
 
 ghost use Rattle.std.specs.Prelude.{◌≡◌, IfOk};
-ghost use Rattle.meson_json.specs.Arguments.{callee_of, change_to, command_to, keys_in, keys_left_out, line_named, place_named, replaced_by, set_to};
+ghost use Rattle.meson_json.specs.Arguments.{callee_of, change_by, change_to, command_to, keys_in, keys_left_out, line_named, place_named, replaced_by, set_to};
 
 use crate::count::count_of;
 use crate::members::owned;
@@ -109,8 +109,8 @@ fn replaced_by(values: Vec<Given>) -> Option<ValueChange>
 
 /// The change that an operation and its values mean: one or more of `set`, `add` and `remove`, two of `replace`, none of `delete`.
 /// A report is no change.
-fn change_to(operation: ArgumentOperation, values: Vec<Given>) -> Option<ValueChange>
-    ensures { result ≡ change_to operation values.items }
+fn change_by(operation: ArgumentOperation, values: Vec<Given>) -> Option<ValueChange>
+    ensures { result ≡ change_by operation values.items }
 {
     match operation {
         ArgumentOperation::Set => set_to(values),
@@ -125,22 +125,42 @@ fn change_to(operation: ArgumentOperation, values: Vec<Given>) -> Option<ValueCh
     }
 }
 
-/// The command that an operation, the name of a value and further values mean, if there are as many as it takes. A report takes none.
+/// The same, with the value after which values are added, if one is given. Only `add` takes it.
+fn change_to(
+    operation: ArgumentOperation,
+    after: Option<Given>,
+    values: Vec<Given>,
+) -> Option<ValueChange>
+    ensures { result ≡ change_to operation after values.items }
+{
+    let Some(after) = after else {
+        return change_by(operation, values);
+    };
+    if values.is_empty() || !matches!(operation, ArgumentOperation::Add) {
+        return None;
+    }
+    let values = Many::of(values);
+    Some(ValueChange::AddAfter { after, values })
+}
+
+/// The command that an operation, the name of a value, the value after which values are added, and further values mean, if there are as many as it takes. A
+/// report takes none.
 pub fn command_to(
     operation: ArgumentOperation,
     name: ValueName,
+    after: Option<Given>,
     values: Vec<Given>,
 ) -> Option<Command>
-    ensures { result ≡ command_to operation name values.items }
+    ensures { result ≡ command_to operation name after values.items }
 {
     if let ArgumentOperation::Info = operation {
-        return if values.is_empty() {
+        return if after.is_none() && values.is_empty() {
             Some(Command::ArgumentInfo { name })
         } else {
             None
         };
     }
-    match change_to(operation, values) {
+    match change_to(operation, after, values) {
         Some(change) => Some(Command::Argument { name, change }),
         None => None,
     }

@@ -4,21 +4,21 @@ ghost use Rattle.std.specs.Prelude.{◌≡◌, ◌≢◌, Err, IfErr, IfOk, Ok, 
 ghost use Rattle.serde_json.specs.View.{members_view, view};
 ghost use Rattle.meson_json.specs.Operations.{kwargs_operation};
 ghost use Rattle.meson_json.specs.Arguments.{place_named};
-ghost use Rattle.meson_json.specs.Scripts.{argument_entry, entry_of, folder_at, keys_at, keys_of, kwargs_asked, kwargs_command, kwargs_entry, options_command, options_entry, role_at, target_entry, target_folder, target_members, value_command, value_name, values_at};
+ghost use Rattle.meson_json.specs.Scripts.{after_at, argument_entry, entry_of, folder_at, keys_at, keys_of, kwargs_asked, kwargs_command, kwargs_entry, options_command, options_entry, rename_entry, role_at, target_entry, target_folder, target_members, value_command, value_name, values_at};
 ghost use Rattle.meson_json.specs.declared.fault.ScriptFault.TheVariants.{BadField, OutOfMemory};
 ghost use Rattle.meson_json.specs.declared.names.ArgumentOperation.TheVariants as argument;
 
 use crate::argument::{command_to, keys_in, keys_left_out, place_named};
 use crate::fault::ScriptFault;
 use crate::members::{
-    bad_field, given_values, members_or, names, option_texts, owned, required_text, settings,
-    text_at, text_or, texts, texts_or_none,
+    bad_field, given_value, given_values, members_or, names, option_texts, owned, required_text,
+    settings, text_at, text_or, texts, texts_or_none,
 };
 use crate::names::{
     ArgumentOperation, EntryType, KwargsOperation, OptionsOperation, find_argument_operation,
     find_kwargs_operation, find_options_operation, find_role, find_target_operation, find_type,
 };
-use crate::target::{TargetMembers, TargetOperation, target_command};
+use crate::target::{TargetMembers, TargetOperation, renaming_of, target_command};
 use meson_calls::{CallName, Role};
 use meson_splice::{Many, Text};
 use meson_steps::argument::{PlaceName, Search, ValueName};
@@ -81,12 +81,30 @@ fn target_members(
     })
 }
 
+/// The command of an entry that renames sources of a target.
+#[tactic(auto, unfolding(crate::specs::Scripts::rename_entry))]
+fn rename_entry(alloc: Global, index: usize, entry: &Value) -> Result<Command, ScriptFault>
+    ensures ok { IfOk result (λ c. rename_entry index (view entry.now) ≡ Ok c) }
+    ensures refused { IfErr result (λ e. e ≢ OutOfMemory → rename_entry index (view entry.now) ≡ Err e) }
+{
+    let id = required_text(alloc, index, entry, "target")?;
+    let names = texts_or_none(alloc, index, entry, "sources")?;
+    let folder = folder_at(alloc, index, entry)?;
+    match renaming_of(CallName { id, folder }, names) {
+        Some(command) => Ok(command),
+        None => Err(bad_field(alloc, index, "sources")?),
+    }
+}
+
 #[tactic(auto, unfolding(crate::specs::Scripts::target_entry))]
 fn target_entry(alloc: Global, index: usize, entry: &Value) -> Result<Command, ScriptFault>
     ensures ok { IfOk result (λ c. target_entry index (view entry.now) ≡ Ok c) }
     ensures refused { IfErr result (λ e. e ≢ OutOfMemory → target_entry index (view entry.now) ≡ Err e) }
 {
     let word = required_text(alloc, index, entry, "operation")?;
+    if word.get() == "rename" {
+        return rename_entry(alloc, index, entry);
+    }
     let Some(operation) = find_target_operation(word.get()) else {
         return Err(ScriptFault::UnknownOperation(index));
     };
@@ -302,6 +320,40 @@ fn values_at(
     }
 }
 
+/// The value of the member `after` of an entry, if it has one.
+fn after_of(alloc: Global, index: usize, entry: &Value) -> Result<Option<Given>, ScriptFault>
+    ensures ok { IfOk result (λ g. after_at index argument.Add (view entry.now) ≡ Ok g) }
+    ensures refused { IfErr result (λ e. e ≢ OutOfMemory → after_at index argument.Add (view entry.now) ≡ Err e) }
+{
+    let Some(member) = entry.get("after") else {
+        return Ok(None);
+    };
+    match given_value(alloc, member)? {
+        Some(given) => Ok(Some(given)),
+        None => Err(bad_field(alloc, index, "after")?),
+    }
+}
+
+/// The value after which values are added, if one is given and the operation of the entry reads it.
+fn after_at(
+    alloc: Global,
+    index: usize,
+    operation: ArgumentOperation,
+    entry: &Value,
+) -> Result<Option<Given>, ScriptFault>
+    ensures ok { IfOk result (λ g. after_at index operation (view entry.now) ≡ Ok g) }
+    ensures refused { IfErr result (λ e. e ≢ OutOfMemory → after_at index operation (view entry.now) ≡ Err e) }
+{
+    match operation {
+        ArgumentOperation::Add => after_of(alloc, index, entry),
+        ArgumentOperation::Set => Ok(None),
+        ArgumentOperation::Remove => Ok(None),
+        ArgumentOperation::Replace => Ok(None),
+        ArgumentOperation::Delete => Ok(None),
+        ArgumentOperation::Info => Ok(None),
+    }
+}
+
 /// The command of an entry on the value of a name.
 fn value_command(
     alloc: Global,
@@ -314,7 +366,8 @@ fn value_command(
     ensures refused { IfErr result (λ e. e ≢ OutOfMemory → value_command index operation name (view entry.now) ≡ Err e) }
 {
     let values = values_at(alloc, index, operation, entry)?;
-    match command_to(operation, name, values) {
+    let after = after_at(alloc, index, operation, entry)?;
+    match command_to(operation, name, after, values) {
         Some(command) => Ok(command),
         None => Err(bad_field(alloc, index, "values")?),
     }

@@ -38,6 +38,7 @@ fn is_known_of_value(change: &ValueChange, name: &str) -> bool
         | ValueChange::Add(_)
         | ValueChange::Remove(_)
         | ValueChange::Replace { .. } => name == "values",
+        ValueChange::AddAfter { .. } => name == "values" || name == "after",
         ValueChange::Delete => false,
     }
 }
@@ -52,6 +53,7 @@ fn is_known(command: &Command, name: &str) -> bool
     match command {
         Command::SourcesAdd { .. }
         | Command::SourcesRemove { .. }
+        | Command::SourcesRename { .. }
         | Command::ExtraAdd { .. }
         | Command::ExtraRemove { .. } => name == "target" || name == "sources" || name == "in",
         Command::TargetAdd { .. } => {

@@ -142,7 +142,7 @@ fn setting(alloc: Global, value: &Value) -> Result<Option<Setting>, AllocError>
 }
 
 /// A value that is given: a text, `true`, `false`, or the code of an object's member `code`.
-fn given_value(alloc: Global, value: &Value) -> Result<Option<Given>, AllocError>
+pub(crate) fn given_value(alloc: Global, value: &Value) -> Result<Option<Given>, AllocError>
     ensures { IfOk result (λ o. o ≡ given_value (view value.now)) }
 {
     match value {

@@ -24,6 +24,7 @@ const TARGET_OPERATIONS: Choice = Choice {
     words: &[
         "src_add",
         "src_rm",
+        "rename",
         "extra_files_add",
         "extra_files_rm",
         "target_add",
@@ -98,6 +99,7 @@ fn argument_of(operation: &str, member: &str) -> &'static str {
         "id" => "a text; of at it is the name of a file, a colon and a line",
         "key" => "texts joined by dots, or an array of texts",
         "values" => "an array of texts, true, false and objects whose code is one expression",
+        "after" => "a text, true, false or an object whose code is one expression",
         _ => "a text",
     }
 }
@@ -108,6 +110,9 @@ fn value_of(entry: &Value, member: &str) -> &'static str {
         return argument_of(text_at(entry, "operation").unwrap_or(""), member);
     }
     match member {
+        "sources" if text_at(entry, "operation") == Some("rename") => {
+            "an array of two texts, the old name and the new one"
+        }
         "sources" => "an array of texts",
         "function" => "one of project, target, dependency",
         "kwargs" => "an object, whose values are texts, true, false or arrays of texts",

@@ -1,7 +1,7 @@
 //! Requests on a target, by a script or on the command line.
 
 ghost use Rattle.std.specs.Prelude.{◌≡◌};
-ghost use Rattle.meson_json.specs.Targets.{target_command};
+ghost use Rattle.meson_json.specs.Targets.{renaming_of, target_command};
 
 use meson_calls::CallName;
 use meson_splice::{Many, Text};
@@ -71,4 +71,17 @@ pub fn target_command(operation: TargetOperation, members: TargetMembers) -> Com
             target: CallName { id, folder },
         },
     }
+}
+
+/// The command that renames sources of a target, if the old name and the new one are given and no other.
+pub fn renaming_of(target: CallName, names: Many<Text>) -> Option<Command>
+    ensures { result ≡ renaming_of target names }
+{
+    let mut names = names.take();
+    if names.len() != 2 {
+        return None;
+    }
+    let new = names.pop()?;
+    let old = names.pop()?;
+    Some(Command::SourcesRename { target, old, new })
 }

@@ -24,6 +24,8 @@ use Rattle.meson_places.specs.Names.{the_place}
 use Rattle.meson_places.specs.Slots.{Child, absent_slot, at_number, elements_in, in_child, nth_child, number_in, slot_from, slot_in, the_slot}
 use Rattle.meson_places.specs.TargetNames.{checked_name}
 use Rattle.meson_places.proofs.OwnAssigned.{changed_text, changed_there, changes_one_value}
+use Rattle.meson_places.proofs.BetweenDoable.{insert_doable}
+use Rattle.meson_places.proofs.AssignedLone.{added_steps_doable, set_all_steps_doable}
 use Rattle.meson_places.proofs.NewElementsDoable.{add_doable}
 use Rattle.meson_places.proofs.SaidDoable.{remove_doable, replace_doable}
 use Rattle.meson_places.proofs.SeveralDoable.{set_all_doable}
@@ -67,8 +69,9 @@ ok_then (Err e) f y h = absurd (let no : ⊥ = cc in no)
 slot_doable : (old : Loaded) → IsProject old → (key : List ℕ) (c : ValueChange) (may : MayBeMade c) (s : Slot) → SlotIsThere (project old) s → KeyIsText s → (steps : List Step) → slot_steps old key c may s ≡ Ok steps
     → AreDoable steps (plain_trees old)
 slot_doable old is key (change.Set g) may s there text steps made = set_within_doable old is g may key s text steps made
-slot_doable old is key (change.SetAll gs) may s there text steps made = set_all_doable old is gs may key s text steps made
-slot_doable old is key (change.Add gs) may s there text steps made = add_doable old is gs may key s text steps made
+slot_doable old is key (change.SetAll gs) may s there text steps made = set_all_steps_doable old is gs may key s steps (λ h. set_all_doable old is gs may key s text steps h) made
+slot_doable old is key (change.Add gs) may s there text steps made = added_steps_doable old is gs may key s steps (λ h. add_doable old is gs may key s text steps h) made
+slot_doable old is key (change.AddAfter g gs) may s there text steps made = insert_doable old is g gs may key s steps made
 slot_doable old is key (change.Remove gs) may s there text steps made = remove_doable old is gs key s steps made
 slot_doable old is key (change.Replace was new) may s there text steps made = replace_doable old is was new may key s steps made
 slot_doable old is key change.Delete may s there text steps made = delete_doable old is s there steps made

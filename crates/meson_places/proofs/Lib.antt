@@ -1,9 +1,12 @@
 mod AddedValues
 mod ArgumentsDoable
 mod Around
+mod BetweenDoable
+mod BetweenLeft
 mod AssignedDepth
 mod AssignedDoable
 mod AssignedLeft
+mod AssignedLone
 mod AssignedRoom
 mod AssignedPlaces
 mod ArrayLeft
@@ -25,12 +28,14 @@ mod ListStands
 mod ListsEdited
 mod ListsThere
 mod LoneValues
+mod Marks
 mod Meant
 mod NewElementsDoable
 mod Numbers
 pub mod OneMeaning
 mod OnLines
 mod OwnAssigned
+mod OwnOperands
 mod OwnValues
 mod Pushed
 mod Refused

@@ -13,6 +13,8 @@ use Rattle.meson_edit.proofs.exchange.Standing.{line-text}
 use Rattle.meson_steps.specs.declared.given.Given.{Given}
 use Rattle.meson_steps.specs.declared.given.Given.TheVariants as given
 use Rattle.meson_steps.specs.GivenWords.{MayBeGiven}
+use Rattle.meson_steps.specs.Code.{IsValue}
+use Rattle.meson_places.specs.AssignedArrays.{is_line}
 use Rattle.meson_places.specs.AssignedValues.{is_one_line}
 use Rattle.meson_places.specs.Values.{given_bytes, given_node}
 use Rattle.meson_places.proofs.GivenWritten.{given_written}
@@ -92,6 +94,17 @@ one_written bytes w x = record {
   text = record { items = x.items; are_items = x.is_new.are_items; is_words = one_item x.items x.is_new.tight w x.is_words; tight = x.is_new.tight };
   utf8 = x.utf8;
 }
+
+-- ---- a value without a line feed
+
+pub value_line : (text : List ℕ) (x : IsValue text) → is_line text ≡ true → IsWrittenStatement text (expression_words x.node)
+value_line text x line =
+    let w = x.writes in
+    let none : list_any (λ b. nat_eq b 10) (joined w.items) ≡ false = ap (list_any (λ b. nat_eq b 10)) w.is_new.are_items.joins ∙ not_any (list_any (λ b. nat_eq b 10) text) line in
+    record {
+      text = line-text text w.items w.is_new.are_items (no_lines w.items [] w.is_new.are_items.each none) w.is_new.tight (expression_words x.node) w.is_words;
+      utf8 = w.utf8;
+    }
 
 -- ---- a value that is given
 

@@ -145,6 +145,16 @@ module _ (c : CallRef) (b : Bracket) (limit : ℕ) (trees : List Plain) (all : A
       list_step (Replace path n new) ys writes made (replacements-keep-levels path n new level s.tree (s.place.back (with_elements s.place.list ys)) tree_level made)
       (omega (arith, depth_append (take n xs) (with_value new.node it ∷ drop (suc n) xs), depth_take n xs, depth_drop (suc n) xs, value_depth it new.node, depth_nth xs n it is, old_depth, small))
 
+  -- an element comes after another one
+  pub insert_step : (m : ℕ) (it : Argument Nowhere) (new : Written (Argument Nowhere)) → nth xs m ≡ Some it → IsWritten new.bytes (argument_words new.node) → MayFollow b it (drop (suc m) xs) new.node
+      → suc (argument_depth new.node) ≤ limit → ListStep (After path m new) (take (suc m) xs ++ new.node ∷ drop (suc m) xs)
+  insert_step m it new is writes may small =
+      let ys = take (suc m) xs ++ new.node ∷ drop (suc m) xs in
+      let made = edited_there s.tree path s.place s.is_place (After path m new) ys (ap (option_map (element_added m new.node xs)) is) in
+      let low = subst (λ k. MayFollow k it (drop (suc m) xs) new.node) (sym s.is_bracket) may in
+      list_step (After path m new) ys writes made (insertions-keep-levels path m new s.tree (s.place.back (with_elements s.place.list ys)) s.place s.is_place it is low tree_level made)
+      (omega (arith, depth_append (take (suc m) xs) (new.node ∷ drop (suc m) xs), depth_take (suc m) xs, depth_drop (suc m) xs, old_depth, small))
+
   -- an element comes behind all others
   module _ (new : Written (Argument Nowhere)) (writes : IsWritten new.bytes (argument_words new.node)) (first : LevelArgument new.node b false) (follows : (m : ℕ) (it : Argument Nowhere) → length xs ≡ suc m → nth xs m ≡ Some it → MayFollow b it [] new.node)
       (small : suc (argument_depth new.node) ≤ limit) where

@@ -69,7 +69,7 @@ nth_passes test [] m it all is = absurd (let no : ⊥ = cc in no)
 nth_passes test (y ∷ ys) zero it all is = let same : y ≡ it = cc in ap test (sym same) ∙ (and_parts (test y) (list_all test ys) all).0
 nth_passes test (y ∷ ys) (suc m) it all is = nth_passes test ys m it (and_parts (test y) (list_all test ys) all).1 is
 
-follow_may : (b : Bracket) (ys : List (Argument Nowhere)) → IsOpen b ys → (m : ℕ) (it : Argument Nowhere) → nth ys m ≡ Some it → (e : Expression Nowhere) → LevelExpression e → MayFollow b it [] (plain e)
+pub follow_may : (b : Bracket) (ys : List (Argument Nowhere)) → IsOpen b ys → (m : ℕ) (it : Argument Nowhere) → nth ys m ≡ Some it → (e : Expression Nowhere) → LevelExpression e → MayFollow b it [] (plain e)
 follow_may bracket.Square ys opened m it is e level = level
 follow_may bracket.Round ys opened m it is e level = no_name it (nth_passes has_no_name ys m it opened is) e level
 follow_may bracket.Curly ys opened m it is e level = absurd opened
@@ -112,7 +112,7 @@ module _ (c : CallRef) (b : Bracket) (limit many : ℕ) where
 
 -- ---- the values that are not known
 
-fresh_fits : (limit : ℕ) (known : Given → Bool) (before gs : List Given) (mays : AllMayBeGiven gs) → AllLow (limit - 1) gs mays → 1 ≤ limit → AllFit limit (fresh_written known before gs mays)
+pub fresh_fits : (limit : ℕ) (known : Given → Bool) (before gs : List Given) (mays : AllMayBeGiven gs) → AllLow (limit - 1) gs mays → 1 ≤ limit → AllFit limit (fresh_written known before gs mays)
 fresh_fits limit known before [] mays low some = tt
 fresh_fits limit known before (g ∷ gs) mays low some = go (is_old known before g) (fresh_fits limit known (before ++ g ∷ []) gs mays.1 low.1 some)
   where
@@ -123,7 +123,7 @@ fresh_fits limit known before (g ∷ gs) mays low some = go (is_old known before
     go true fit = fit
     go false fit = let l = low.0 in (record { writes = given_written g mays.0; level = given_level g mays.0; small = omega (arith, l, some) }, fit)
 
-erased_open : (b : Bracket) (ys : List (Argument Span)) → IsOpen b ys → IsOpen b (map erase_argument ys)
+pub erased_open : (b : Bracket) (ys : List (Argument Span)) → IsOpen b ys → IsOpen b (map erase_argument ys)
 erased_open bracket.Square ys opened = tt
 erased_open bracket.Round ys opened = erased ys opened
   where

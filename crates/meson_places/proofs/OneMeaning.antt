@@ -1,5 +1,5 @@
 -- A change of a value means one thing: the tree of code is that of its text, and what is read of a project are its files and trees.
-use Rattle.std.proofs.Common.{◌≡◌, ℕ, List, [], ◌∷◌, ◌++◌, map, Option, Some, None, Result, Ok, Err, refl, sym, ap, ap₂, ◌∙◌}
+use Rattle.std.proofs.Common.{◌≡◌, ℕ, suc, List, [], ◌∷◌, ◌++◌, map, Option, Some, None, Result, Ok, Err, refl, sym, ap, ap₂, ◌∙◌}
 use Rattle.std.specs.Prelude.{Bool, length, not, ok_or, ◌&&◌, if◌then◌else◌}
 use Rattle.std.specs.List.{list_all}
 use Rattle.meson_lex.specs.declared.kinds.Span.{Span}
@@ -18,7 +18,7 @@ use Rattle.meson_calls.specs.declared.refusal.Refusal.TheVariants.{NoSuchValue, 
 use Rattle.meson_calls.specs.Finding.{only_one}
 use Rattle.meson_calls.specs.Loading.{Loaded, named_trees, project, trees}
 use Rattle.meson_calls.specs.Notes.{notes}
-use Rattle.meson_calls.specs.Project.{child, expression_at, nth_file}
+use Rattle.meson_calls.specs.Project.{Placed, child, expression_at, nth_file}
 use Rattle.meson_steps.specs.declared.argument.PlaceName.{PlaceName}
 use Rattle.meson_steps.specs.declared.argument.PlaceName.TheVariants as name
 use Rattle.meson_steps.specs.declared.argument.ValueChange.{ValueChange}
@@ -35,6 +35,7 @@ use Rattle.meson_steps.proofs.Bracketed.{complete}
 use Rattle.meson_places.specs.declared.slots.Slot.{Slot}
 use Rattle.meson_places.specs.declared.slots.Slot.TheVariants as slot
 use Rattle.meson_places.specs.Arguments.{MayBeMade, argument_steps, changed_steps, last_key, named_steps, set_within, slot_steps}
+use Rattle.meson_places.specs.AssignedArrays.{LoneValue, added_by, added_steps, array_assigned, array_beside, assigned_lone, assigned_text, lone_written, set_all_by, set_all_steps}
 use Rattle.meson_places.specs.Assignments.{changed_slot}
 use Rattle.meson_places.specs.TargetNames.{checked_name}
 use Rattle.meson_places.specs.Colons.{ends_among, ends_in_file}
@@ -43,6 +44,9 @@ use Rattle.meson_places.specs.Changes.{added_to, element_child, set_assigned, se
 use Rattle.meson_places.specs.NamedValues.{value_place}
 use Rattle.meson_places.specs.Names.{found_by_id, found_within, numbered_file, places_by_id, places_on, beginning_among, lists_among, project_there, searched, searched_file, the_place}
 use Rattle.meson_places.specs.Equality.{is_old, lists_say, says}
+use Rattle.meson_places.specs.declared.insertions.Mark.{Mark}
+use Rattle.meson_places.specs.Behind.{placed_value}
+use Rattle.meson_places.specs.Insertions.{find_mark, insert_at, insert_by, insert_into, insert_steps}
 use Rattle.meson_places.specs.NewElements.{add_steps, add_there, add_to_last, add_to_lone, add_to_value, add_to_whole, array_with, beside, fresh_written, lone_token}
 use Rattle.meson_places.specs.Removals.{remove_by, remove_from, remove_steps, remove_there, remove_whole, says_other}
 use Rattle.meson_places.specs.Replacements.{Exchange, exchange, exchange_steps, replace_by, replace_in, replace_there, replace_whole, if_assigned, replace_assigned}
@@ -145,10 +149,39 @@ module _ (l : Loaded) (gs : List Given) (m k : AllMayBeGiven gs) (key : List ℕ
   add_one (slot.Absent list absent) = added_one l gs m k absent list
   add_one (slot.Whole c) = add_whole_one c (expression_at (project l) c)
 
+insert_at_one : (l : Loaded) (key : List ℕ) (known : Given → Bool) (gs : List Given) (m k : AllMayBeGiven gs) (o : Option Mark) → insert_at l key known gs m o ≡ insert_at l key known gs k o
+insert_at_one l key known gs m k None = refl
+insert_at_one l key known gs m k (Some x) =
+    ap₂ (λ (ws fs : Values). if list_all (λ w. has_room w.node (list_in_trees (plain_trees l) x.list)) ws then Ok (put_each x.list (suc x.number) (suc x.number) fs) else Err TooDeep)
+    (all_one gs m k) (fresh_one known [] gs m k)
+
+insert_one : (l : Loaded) (key : List ℕ) (g : Given) (gs : List Given) (m k : AllMayBeGiven gs) (o : Option (Placed (Expression Span))) → insert_into l key g gs m o ≡ insert_into l key g gs k o
+insert_one l key g gs m k None = refl
+insert_one l key g gs m k (Some v) = go (lists_of v.place v.it)
+  where
+    go : (ls : List (ValueList Span)) → insert_by l key (bytes_at v.place.file l.files) g gs m v.it ls ≡ insert_by l key (bytes_at v.place.file l.files) g gs k v.it ls
+    go [] = refl
+    go (one ∷ more) = insert_at_one l key (lists_say (bytes_at v.place.file l.files) (one ∷ more)) gs m k (find_mark (bytes_at v.place.file l.files) g (one ∷ more))
+
+set_all_steps_one : (l : Loaded) (gs : List Given) (m k : AllMayBeGiven gs) (key : List ℕ) (s : Slot) → set_all_steps l gs m key s ≡ set_all_steps l gs k key s
+set_all_steps_one l gs m k key s = go (assigned_text (project l) s)
+  where
+    go : (o : Option CallRef) → set_all_by l gs m key s o ≡ set_all_by l gs k key s o
+    go None = set_all_one l gs m k key s
+    go (Some c) = ap (λ (ws : Values). array_assigned key c (record { bytes = array_bytes gs; node = array_node ws })) (all_one gs m k)
+
+added_steps_one : (l : Loaded) (gs : List Given) (m k : AllMayBeGiven gs) (key : List ℕ) (s : Slot) → added_steps l gs m key s ≡ added_steps l gs k key s
+added_steps_one l gs m k key s = go (assigned_lone (project l) s)
+  where
+    go : (o : Option LoneValue) → added_by l gs m key s o ≡ added_by l gs k key s o
+    go None = add_one l gs m k key s
+    go (Some v) = ap (array_beside key v.place (lone_written v)) (fresh_one (λ g. says (bytes_at v.place.file l.files) g v.value) [] gs m k)
+
 steps_one : (l : Loaded) (key : List ℕ) (c : ValueChange) (m k : MayBeMade c) (s : Slot) → slot_steps l key c m s ≡ slot_steps l key c k s
 steps_one l key (change.Set g) m k s = ap (λ w. set_within l g w key s) (one_written g m k)
-steps_one l key (change.SetAll gs) m k s = set_all_one l gs m k key s
-steps_one l key (change.Add gs) m k s = add_one l gs m k key s
+steps_one l key (change.SetAll gs) m k s = set_all_steps_one l gs m k key s
+steps_one l key (change.Add gs) m k s = added_steps_one l gs m k key s
+steps_one l key (change.AddAfter g gs) m k s = insert_one l key g gs m k (placed_value (project l) s)
 steps_one l key (change.Remove gs) m k s = refl
 steps_one l key (change.Replace old new) m k s = ap (λ w. exchange_steps l (record { old = old; new = new; written = w }) key s) (one_written new m k)
 steps_one l key change.Delete m k s = refl
@@ -258,6 +291,41 @@ module _ (p q : Loaded) (same_files : p.files ≡ q.files) (same_trees : trees p
   add_same gs may key (slot.Whole c) =
       ap (add_to_whole p gs may key c) (alike (λ fs ts. expression_at (named_trees fs ts) c)) ∙ add_whole_same gs may key c (expression_at (project q) c)
 
+  insert_at_same : (key : List ℕ) (known : Given → Bool) (gs : List Given) (may : AllMayBeGiven gs) (o : Option Mark) → insert_at p key known gs may o ≡ insert_at q key known gs may o
+  insert_at_same key known gs may None = refl
+  insert_at_same key known gs may (Some x) =
+      alike (λ fs ts. if list_all (λ w. has_room w.node (list_in_trees (map erase ts) x.list)) (all_written gs may)
+      then Ok (put_each x.list (suc x.number) (suc x.number) (fresh_written known [] gs may)) else Err TooDeep)
+
+  insert_by_same : (key : List ℕ) (g : Given) (gs : List Given) (may : AllMayBeGiven gs) (c : CallRef) (e : Expression Span) (ls : List (ValueList Span))
+      → insert_by p key (bytes_at c.file p.files) g gs may e ls ≡ insert_by q key (bytes_at c.file q.files) g gs may e ls
+  insert_by_same key g gs may c e [] = refl
+  insert_by_same key g gs may c e (one ∷ more) =
+      let ls = one ∷ more in
+      ap (λ fs. insert_at p key (lists_say (bytes_at c.file fs) ls) gs may (find_mark (bytes_at c.file fs) g ls)) same_files
+      ∙ insert_at_same key (lists_say (bytes_at c.file q.files) ls) gs may (find_mark (bytes_at c.file q.files) g ls)
+
+  insert_same : (key : List ℕ) (g : Given) (gs : List Given) (may : AllMayBeGiven gs) (s : Slot) → insert_steps p g gs may key s ≡ insert_steps q g gs may key s
+  insert_same key g gs may s = ap (insert_into p key g gs may) (alike (λ fs ts. placed_value (named_trees fs ts) s)) ∙ go (placed_value (project q) s)
+    where
+      go : (o : Option (Placed (Expression Span))) → insert_into p key g gs may o ≡ insert_into q key g gs may o
+      go None = refl
+      go (Some v) = insert_by_same key g gs may v.place v.it (lists_of v.place v.it)
+
+  set_all_steps_same : (gs : List Given) (may : AllMayBeGiven gs) (key : List ℕ) (s : Slot) → set_all_steps p gs may key s ≡ set_all_steps q gs may key s
+  set_all_steps_same gs may key s = ap (set_all_by p gs may key s) (alike (λ fs ts. assigned_text (named_trees fs ts) s)) ∙ go (assigned_text (project q) s)
+    where
+      go : (o : Option CallRef) → set_all_by p gs may key s o ≡ set_all_by q gs may key s o
+      go None = all_same gs may key s
+      go (Some c) = refl
+
+  added_steps_same : (gs : List Given) (may : AllMayBeGiven gs) (key : List ℕ) (s : Slot) → added_steps p gs may key s ≡ added_steps q gs may key s
+  added_steps_same gs may key s = ap (added_by p gs may key s) (alike (λ fs ts. assigned_lone (named_trees fs ts) s)) ∙ go (assigned_lone (project q) s)
+    where
+      go : (o : Option LoneValue) → added_by p gs may key s o ≡ added_by q gs may key s o
+      go None = add_same gs may key s
+      go (Some v) = ap (λ fs. array_beside key v.place (lone_written v) (fresh_written (λ g. says (bytes_at v.place.file fs) g v.value) [] gs may)) same_files
+
   from_same : (gs : List Given) (key : List ℕ) (gone : Result (List Step) Refusal) (c : CallRef) (e : Expression Span) → remove_from p key gs gone c e ≡ remove_from q key gs gone c e
   from_same gs key gone c e = ap (λ fs. remove_by key (bytes_at c.file fs) gs gone e (lists_of c e)) same_files
 
@@ -306,8 +374,9 @@ module _ (p q : Loaded) (same_files : p.files ≡ q.files) (same_trees : trees p
 
   slot_same : (key : List ℕ) (c : ValueChange) (may : MayBeMade c) (s : Slot) → slot_steps p key c may s ≡ slot_steps q key c may s
   slot_same key (change.Set g) may s = set_same g (written_given g may) key s
-  slot_same key (change.SetAll gs) may s = all_same gs may key s
-  slot_same key (change.Add gs) may s = add_same gs may key s
+  slot_same key (change.SetAll gs) may s = set_all_steps_same gs may key s
+  slot_same key (change.Add gs) may s = added_steps_same gs may key s
+  slot_same key (change.AddAfter g gs) may s = insert_same key g gs may s
   slot_same key (change.Remove gs) may s = remove_same gs key s
   slot_same key (change.Replace old new) may s = exchange_same (exchange old new may) key s
   slot_same key change.Delete may s = refl

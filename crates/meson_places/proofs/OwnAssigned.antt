@@ -23,27 +23,16 @@ use Rattle.meson_steps.specs.declared.argument.ValueName.{ValueName}
 use Rattle.meson_steps.specs.declared.given.Given.{Given}
 use Rattle.meson_places.specs.declared.slots.Slot.{Slot}
 use Rattle.meson_places.specs.declared.slots.Slot.TheVariants as slot
-use Rattle.meson_places.specs.Assignments.{added_beside, added_values, assigned_value, changed_slot, changed_value, first_that, has_lists, or_first, says_all_at, says_all_in, slot_at_value, whole_variable}
-use Rattle.meson_places.specs.Behind.{lists_in, says_one_at, says_one_in, slot_behind}
+use Rattle.meson_places.specs.Assignments.{added_beside, added_values, assigned_value, changed_slot, changed_value, whole_variable}
+use Rattle.meson_places.specs.Behind.{first_that, has_lists, lists_in, or_first, says_all_at, says_all_in, says_one_at, says_one_in, slot_at_value}
+use Rattle.meson_places.specs.Operands.{followed_slot}
 use Rattle.meson_places.specs.BehindLaws.{ChangesOneValue, IsBehind, IsChanged}
 use Rattle.meson_places.specs.Laws.{SlotIsThere}
 use Rattle.meson_places.specs.Names.{is_searched, searched}
 use Rattle.meson_places.proofs.Found.{Among, contained, kept_by}
-use Rattle.meson_places.proofs.OwnValues.{changes_own_value, single_there}
+use Rattle.meson_places.proofs.OwnOperands.{first_among, follows_own_value}
+use Rattle.meson_places.proofs.OwnValues.{single_there}
 use Rattle.meson_places.proofs.SlotsDoable.{KeyIsText}
-
--- ---- the first place that passes a test
-
-first_among : {X : Type 0} (test : X → Bool) (xs : List X) (x : X) → first_that test xs ≡ Some x → (test x ≡ true) × Among xs x
-first_among test [] x is = absurd (let no : ⊥ = cc in no)
-first_among {X} test (y ∷ ys) x is = go (test y) refl is (first_among test ys x)
-  where
-    later : (test x ≡ true) × Among ys x → (test x ≡ true) × Among (y ∷ ys) x
-    later k = (k.0, inr k.1)
-
-    go : (b : Bool) → test y ≡ b → (if b then Some y else first_that test ys) ≡ Some x → (first_that test ys ≡ Some x → (test x ≡ true) × Among ys x) → (test x ≡ true) × Among (y ∷ ys) x
-    go true passes h rest = let same : y ≡ x = cc in (ap test (sym same) ∙ passes, inl same)
-    go false passes h rest = later (rest h)
 
 -- ---- a value that has lists is there
 
@@ -89,6 +78,7 @@ module _ (files : List File) (p : Project Span) where
           let same : c ≡ d = cc in
           let f = first_among (says_all_at files p gs) cs d (all ∙ ap Some same) in
           (with_all gs d f.0, f.1)
+  changed_found (change.AddAfter g gs) cs d is = one_found (g ∷ []) cs d is
   changed_found (change.Remove gs) cs d is = one_found gs cs d is
   changed_found (change.Replace old new) cs d is = one_found (old ∷ []) cs d is
   changed_found change.Delete cs d is = absurd (let no : ⊥ = cc in no)
@@ -135,15 +125,15 @@ module _ (l : Loaded) (n : ValueName) (c : ValueChange) (s t : Slot) where
   abbrev p : Project Span
   p = project l
 
-  own : slot_behind l.files p c s ≡ Ok t → IsChanged l n s t
-  own is = go (changes_own_value l c s t is)
+  own : followed_slot l.files p c s ≡ Ok t → IsChanged l n s t
+  own is = go (follows_own_value l c s t is)
     where
       go : (t ≡ s) ⊎ IsBehind l s t → IsChanged l n s t
       go (inl same) = inl same
       go (inr b) = inr (inl b)
 
   module _ (v : List ℕ × CallRef) (whole : whole_variable n.place.name n.keys s ≡ Some v) where
-    at_value : (ds : List CallRef) → added_beside n.place.folder v.1 (added_values v.0 (notes p)) ≡ Ok ds → (o : Option CallRef) → changed_value l.files p c (v.1 ∷ ds) ≡ o → slot_at_value (slot_behind l.files p c s) o ≡ Ok t
+    at_value : (ds : List CallRef) → added_beside n.place.folder v.1 (added_values v.0 (notes p)) ≡ Ok ds → (o : Option CallRef) → changed_value l.files p c (v.1 ∷ ds) ≡ o → slot_at_value (followed_slot l.files p c s) o ≡ Ok t
         → IsChanged l n s t
     at_value ds beside_is None found h = own h
     at_value ds beside_is (Some d) found h = go (changed_found l.files p c (v.1 ∷ ds) d found)
@@ -172,14 +162,14 @@ module _ (l : Loaded) (n : ValueName) (c : ValueChange) (s t : Slot) where
             }))
 
     at_beside : (r : Result (List CallRef) Refusal) → added_beside n.place.folder v.1 (added_values v.0 (notes p)) ≡ r
-        → then_ok (then_ok r (λ ds. Ok (changed_value l.files p c (v.1 ∷ ds)))) (slot_at_value (slot_behind l.files p c s)) ≡ Ok t → IsChanged l n s t
+        → then_ok (then_ok r (λ ds. Ok (changed_value l.files p c (v.1 ∷ ds)))) (slot_at_value (followed_slot l.files p c s)) ≡ Ok t → IsChanged l n s t
     at_beside (Err e) is h = absurd (let no : ⊥ = cc in no)
     at_beside (Ok ds) is h = at_value ds is (changed_value l.files p c (v.1 ∷ ds)) refl h
 
   pub changes_one : changed_slot l.files p n c s ≡ Ok t → IsChanged l n s t
   changes_one is = go (whole_variable n.place.name n.keys s) refl is
     where
-      go : (o : Option (List ℕ × CallRef)) → whole_variable n.place.name n.keys s ≡ o → then_ok (assigned_value l.files p n.place.folder c o) (slot_at_value (slot_behind l.files p c s)) ≡ Ok t → IsChanged l n s t
+      go : (o : Option (List ℕ × CallRef)) → whole_variable n.place.name n.keys s ≡ o → then_ok (assigned_value l.files p n.place.folder c o) (slot_at_value (followed_slot l.files p c s)) ≡ Ok t → IsChanged l n s t
       go None whole h = own h
       go (Some v) whole h = at_beside v whole (added_beside n.place.folder v.1 (added_values v.0 (notes p))) refl h
 

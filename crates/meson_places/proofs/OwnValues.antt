@@ -12,7 +12,6 @@ use Rattle.meson_splice.specs.declared.file_set.File.{File}
 use Rattle.meson_splice.specs.Files.{bytes_at}
 use Rattle.meson_syntax.specs.Tree.{Expression, evaluate, assign, selection, iteration, breaks, continues}
 use Rattle.meson_syntax.specs.View.{text_at}
-use Rattle.meson_edit.specs.Edits.{is_empty}
 use Rattle.meson_calls.specs.declared.call.CallRef.{CallRef}
 use Rattle.meson_calls.specs.declared.refusal.Refusal.{Refusal}
 use Rattle.meson_calls.specs.declared.refusal.Refusal.TheVariants.{Shared}
@@ -31,8 +30,8 @@ use Rattle.meson_steps.specs.declared.given.Given.{Given}
 use Rattle.meson_steps.specs.declared.given.Given.TheVariants as given
 use Rattle.meson_places.specs.declared.slots.Slot.{Slot}
 use Rattle.meson_places.specs.declared.slots.Slot.TheVariants as slot
-use Rattle.meson_places.specs.Behind.{Behind, added_slot, behind, behind_slot, behind_value, lists_at, placed_at, said_slot, says_one_at, set_slot, variable_of, word_slot}
-use Rattle.meson_places.specs.BehindLaws.{ChangesOwnValue, IsBehind, ReadByNobodyElse}
+use Rattle.meson_places.specs.Behind.{Behind, added_slot, behind, behind_slot, behind_value, has_lists, placed_at, said_slot, says_one_at, set_slot, variable_of, word_slot}
+use Rattle.meson_places.specs.BehindLaws.{ChangesOwnValue, IsBehind, IsOperandOf, ReadByNobodyElse}
 use Rattle.meson_places.specs.Changes.{slot_place}
 use Rattle.meson_places.specs.Equality.{says}
 use Rattle.meson_places.specs.TargetNames.{is_same}
@@ -152,7 +151,7 @@ module _ (p : Project Span) (x : List ℕ) where
 
 module _ (l : Loaded) (s : Slot) where
   -- what is behind a slot is a variable, and the value that it is set to
-  record Is (b : Behind) : Type 0 where
+  pub record Is (b : Behind) : Type 0 where
     pub value : Expression Span
     pub is_place : slot_place (project l) s ≡ Some b.read_at
     pub is_value : expression_at (project l) b.read_at ≡ Some value
@@ -161,7 +160,7 @@ module _ (l : Loaded) (s : Slot) where
     pub is_set : single (project l) b.variable ≡ Some set_to
     pub is_set_at : b.value_at ≡ set_to.place
 
-  is_behind : (gs : List Given) (b : Behind) → behind_slot l.files (project l) gs s ≡ Some b → Is b
+  pub is_behind : (gs : List Given) (b : Behind) → behind_slot l.files (project l) gs s ≡ Some b → Is b
   is_behind gs b is = at_place (slot_place (project l) s) refl is
     where
       at_single : (c : CallRef) (e : Expression Span) (x : List ℕ) → slot_place (project l) s ≡ Some c → expression_at (project l) c ≡ Some e → variable_of e ≡ Some x → (o : Option (Placed (Expression Span))) → single (project l) x ≡ o
@@ -187,10 +186,12 @@ module _ (l : Loaded) (s : Slot) where
       at_place None place h = absurd (let no : ⊥ = cc in no)
       at_place (Some c) place h = at_value c place (expression_at (project l) c) refl h
 
-  owned : (b : Behind) (t : Slot) → Is b → is_read_once l.files (project l) b.variable b.read_at ≡ true → slot.Whole b.value_at ≡ t → IsBehind l s t
-  owned b t i once same = record {
+  -- of a slot that reads the variable
+  pub owned_by : (u : Slot) (b : Behind) (t : Slot) → Is b → (slot_place (project l) u ≡ Some b.read_at) ⊎ IsOperandOf (project l) u b.read_at → is_read_once l.files (project l) b.variable b.read_at ≡ true → slot.Whole b.value_at ≡ t
+      → IsBehind l u t
+  owned_by u b t i read once same = record {
     read_at = b.read_at;
-    is_place = i.is_place;
+    is_read = read;
     value = i.value;
     is_value = i.is_value;
     variable = b.variable;
@@ -201,9 +202,12 @@ module _ (l : Loaded) (s : Slot) where
     nobody_else = read_by_nobody_else l b.variable b.read_at once;
   }
 
+  owned : (b : Behind) (t : Slot) → Is b → is_read_once l.files (project l) b.variable b.read_at ≡ true → slot.Whole b.value_at ≡ t → IsBehind l s t
+  owned b t i once same = owned_by s b t i (inl i.is_place) once same
+
   added : (gs : List Given) (t : Slot) (o : Option Behind) → behind_slot l.files (project l) gs s ≡ o → added_slot l.files (project l) s o ≡ Ok t → (t ≡ s) ⊎ IsBehind l s t
   added gs t None is h = inl (let same : s ≡ t = cc in sym same)
-  added gs t (Some b) is h = go (not (is_empty (lists_at (project l) b.value_at))) (is_read_once l.files (project l) b.variable b.read_at) refl h
+  added gs t (Some b) is h = go (has_lists (project l) b.value_at) (is_read_once l.files (project l) b.variable b.read_at) refl h
     where
       slot_by : Bool → Result Slot Refusal
       slot_by passes = Ok (if passes then slot.Whole b.value_at else s)
@@ -245,6 +249,7 @@ pub changes_own_value : ChangesOwnValue
 changes_own_value l (change.Set g) s t h = set l s g t h
 changes_own_value l (change.SetAll gs) s t h = inl (let same : s ≡ t = cc in sym same)
 changes_own_value l (change.Add gs) s t h = added l s gs t (behind_slot l.files (project l) gs s) refl h
+changes_own_value l (change.AddAfter g gs) s t h = said l s (g ∷ []) t (behind_slot l.files (project l) (g ∷ []) s) refl h
 changes_own_value l (change.Remove gs) s t h = said l s gs t (behind_slot l.files (project l) gs s) refl h
 changes_own_value l (change.Replace old new) s t h = said l s (old ∷ []) t (behind_slot l.files (project l) (old ∷ []) s) refl h
 changes_own_value l change.Delete s t h = inl (let same : s ≡ t = cc in sym same)

@@ -7,8 +7,11 @@ use Rattle.meson_calls.specs.Loading.{Loaded}
 use Rattle.meson_steps.specs.Steps.{Step}
 use Rattle.meson_steps.specs.declared.given.Given.{Given}
 use Rattle.meson_places.specs.declared.value_lists.FoundList.{FoundList}
+use Rattle.meson_places.specs.Equality.{lists_say}
+use Rattle.meson_places.specs.Insertions.{find_mark, insert_at, insert_by}
 use Rattle.meson_places.specs.Removals.{remove_by, remove_lone, remove_said}
 use Rattle.meson_places.specs.Replacements.{Exchange, replace_by, replace_said}
+use Rattle.meson_places.specs.Several.{AllMayBeGiven}
 use Rattle.meson_places.specs.ValueLists.{ValueList}
 use Rattle.meson_places.specs.inside.Found.{found_lists}
 
@@ -40,5 +43,16 @@ module _ (source : List ℕ) (fs : List FoundList) (ls : List (ValueList Span)) 
     replace_some some = ap (replace_by l key source x otherwise) (sym found) ∙ go fs some
       where
         go : (ys : List FoundList) → (length ys ≡ 0 → ⊥) → replace_by l key source x otherwise (found_lists source ys) ≡ replace_said l key source x (found_lists source ys)
+        go [] is = absurd (is refl)
+        go (y ∷ ys) is = refl
+
+  module _ (l : Loaded) (key : List ℕ) (it : Given) (gs : List Given) (may : AllMayBeGiven gs) (e : Expression Span) where
+    abbrev Is : List (ValueList Span) → Type 0
+    Is ys = insert_by l key source it gs may e ys ≡ insert_at l key (lists_say source ys) gs may (find_mark source it ys)
+
+    pub insert_some : (length fs ≡ 0 → ⊥) → insert_by l key source it gs may e ls ≡ insert_at l key (lists_say source (found_lists source fs)) gs may (find_mark source it (found_lists source fs))
+    insert_some some = ap (insert_by l key source it gs may e) (sym found) ∙ go fs some
+      where
+        go : (ys : List FoundList) → (length ys ≡ 0 → ⊥) → Is (found_lists source ys)
         go [] is = absurd (is refl)
         go (y ∷ ys) is = refl

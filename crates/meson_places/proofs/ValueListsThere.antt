@@ -1,8 +1,10 @@
 -- The lists of a value that stands in a project stand there, each open for elements without a name.
-use Rattle.std.proofs.Common.{◌≡◌, ℕ, zero, suc, ◌+◌, ◌-◌, ◌≤◌, ◌<◌, true, false, List, [], ◌∷◌, get_or, length, map, Some, None, refl, sym, ap, ◌∙◌, subst, arith}
-use Rattle.std.specs.Prelude.{Bool, bytes_eq, codes, if◌then◌else◌}
+use Rattle.std.proofs.Common.{◌≡◌, ℕ, zero, suc, ◌+◌, ◌-◌, ◌<◌, true, false, List, [], ◌∷◌, get_or, length, map, Some, None, refl, sym, ap, ◌∙◌, subst, arith}
+use Rattle.std.specs.Prelude.{Bool, bytes_eq, codes, if◌then◌else◌, option_map, slice_get}
 use Rattle.std.specs.List.{list_all}
 use Rattle.std.proofs.lemmas.Bool.{and_parts}
+use Rattle.std.proofs.lemmas.List.{length-map}
+use Rattle.std.proofs.lemmas.Option.{slice_get-map}
 use Rattle.meson_lex.specs.declared.kinds.Span.{Span}
 use Rattle.meson_syntax.specs.declared.operator.Bracket.{Bracket}
 use Rattle.meson_syntax.specs.declared.operator.Bracket.TheVariants as bracket
@@ -84,12 +86,15 @@ module _ (p : Project Span) where
   last_there (x ∷ y ∷ more) all l is = last_there (y ∷ more) all.1 l is
 
 -- the last of some lists as the code has it
-pub last_as : {X Y : Type 0} (f : X → Y) (xs : List X) (d : X) → 1 ≤ length xs → last_of (map f xs) ≡ Some (f (get_or xs (length xs - 1) d))
-last_as f [] d some = absurd (omega (arith, some))
-last_as f (x ∷ []) d some = refl
-last_as f (x ∷ y ∷ more) d some =
+pub last_at : {X : Type 0} (xs : List X) → last_of xs ≡ slice_get xs (length xs - 1)
+last_at [] = refl
+last_at (x ∷ []) = refl
+last_at (x ∷ y ∷ more) =
     let next : length (x ∷ y ∷ more) - 1 ≡ suc (length (y ∷ more) - 1) = omega arith in
-    last_as f (y ∷ more) d (omega arith) ∙ ap (λ n. Some (f (get_or (x ∷ y ∷ more) n d))) (sym next)
+    last_at (y ∷ more) ∙ ap (slice_get (x ∷ y ∷ more)) (sym next)
+
+pub last_got : {X Y : Type 0} (f : X → Y) (xs : List X) → last_of (map f xs) ≡ option_map f (slice_get xs (length xs - 1))
+last_got f xs = last_at (map f xs) ∙ ap (λ n. slice_get (map f xs) (n - 1)) (length-map xs f) ∙ slice_get-map f xs (length xs - 1)
 
 -- the elements of one of some lists
 pub good_list : (source : List ℕ) (ls : List FoundList) (i : ℕ) (d : FoundList) → i < length ls → AreGoodLists source ls → GoodArgs source (get_or ls i d).elements.now

@@ -24,9 +24,11 @@ use Rattle.meson_places.specs.Arguments.{MayBeMade, argument_steps, changed_step
 use Rattle.meson_places.specs.TargetNames.{checked_name}
 use Rattle.meson_places.specs.Changes.{element_child, set_steps, set_there}
 use Rattle.meson_places.specs.Equality.{lists_say, says}
-use Rattle.meson_places.specs.Effects.{AddedBeside, AddedTo, AssignedSet, ElementAdded, IsBeside, SetLeft, SlotLeft, ValueLeft, WholeAdded}
+use Rattle.meson_places.specs.AssignedArrays.{added_steps}
+use Rattle.meson_places.specs.Effects.{AddedBeside, AddedTo, AssignedBeside, AssignedSet, ElementAdded, IsBeside, SetLeft, SlotLeft, ValueLeft, WholeAdded}
 use Rattle.meson_places.specs.AssignedValues.{assigned_room}
 use Rattle.meson_places.proofs.AssignedLeft.{assigned_set}
+use Rattle.meson_places.proofs.AssignedLone.{added_left, assigned_array_left}
 use Rattle.meson_places.specs.Assignments.{changed_slot}
 use Rattle.meson_places.specs.Names.{the_place}
 use Rattle.meson_places.specs.NewElements.{add_steps, add_there, add_to_last, add_to_lone, add_to_value, add_to_whole, array_with, beside, fresh_written, lone_token}
@@ -37,6 +39,7 @@ use Rattle.meson_places.specs.ValueLists.{ValueList, last_of, lists_of}
 use Rattle.meson_places.specs.Values.{written_given}
 use Rattle.meson_places.proofs.AddedValues.{adds_to_one_list}
 use Rattle.meson_places.proofs.ArgumentsDoable.{ok_then}
+use Rattle.meson_places.proofs.BetweenLeft.{values_put_behind}
 use Rattle.meson_places.proofs.ListsThere.{element_there}
 use Rattle.meson_places.proofs.SaidLeft.{element_removed, element_replaced, whole_removed, whole_replaced}
 use Rattle.meson_places.proofs.ElementsLeft.{text_alone}
@@ -130,7 +133,14 @@ module _ (l : Loaded) (gs : List Given) (may : AllMayBeGiven gs) (key : List ℕ
 
       go : (o : Option (Expression Span)) → expression_at (project l) c ≡ o → add_to_whole l gs may key c o ≡ Ok steps → WholeAdded l gs c (plain_trees l) after
       go None is m = absurd (let no : ⊥ = cc in no)
-      go (Some e) is m = record { may = may; value = e; is_value = is; added = one e (to_value c e is (Err (NotLiteral key)) ⊥ (λ h. let no : ⊥ = cc in no) m) }
+      go (Some e) is m = record { may = may; value = e; is_value = is; added = inl (one e (to_value c e is (Err (NotLiteral key)) ⊥ (λ h. let no : ⊥ = cc in no) m)) }
+
+  whole_added : (c : CallRef) → added_steps l gs may key (slot.Whole c) ≡ Ok steps → WholeAdded l gs c (plain_trees l) after
+  whole_added c made = go (added_left l gs may key steps after done c (WholeAdded l gs c (plain_trees l) after) (whole_left c) made)
+    where
+      go : WholeAdded l gs c (plain_trees l) after ⊎ ((e : Expression Span) × (expression_at (project l) c ≡ Some e) × AssignedBeside l gs may c e (plain_trees l) after) → WholeAdded l gs c (plain_trees l) after
+      go (inl w) = w
+      go (inr b) = record { may = may; value = b.0; is_value = b.1; added = inr b.2 }
 
 slot_left : (l : Loaded) → IsProject l → (key : List ℕ) (c : ValueChange) (may : MayBeMade c) (s : Slot) (steps : List Step) (after : List Plain) → slot_steps l key c may s ≡ Ok steps
     → all_stepped steps (plain_trees l) ≡ Some after → SlotLeft l c s (plain_trees l) after
@@ -139,10 +149,11 @@ slot_left l is key (change.Set g) may (slot.Absent list k) steps after made done
 slot_left l is key (change.Set g) may (slot.Whole p) steps after made done = assigned_set_left l g may key p steps after made done
 slot_left l is key (change.SetAll gs) may (slot.Element list n) steps after made done = array_set l gs may steps after done key list n made
 slot_left l is key (change.SetAll gs) may (slot.Absent list k) steps after made done = array_added l gs may steps after done list k made
-slot_left l is key (change.SetAll gs) may (slot.Whole p) steps after made done = tt
+slot_left l is key (change.SetAll gs) may (slot.Whole p) steps after made done = assigned_array_left l gs may key steps after done p made
 slot_left l is key (change.Add gs) may (slot.Element list n) steps after made done = element_left l gs may key steps after done list n made
 slot_left l is key (change.Add gs) may (slot.Absent list k) steps after made done = array_added l gs may steps after done list k made
-slot_left l is key (change.Add gs) may (slot.Whole c) steps after made done = whole_left l gs may key steps after done c made
+slot_left l is key (change.Add gs) may (slot.Whole c) steps after made done = whole_added l gs may key steps after done c made
+slot_left l is key (change.AddAfter g gs) may s steps after made done = values_put_behind l g gs may key s steps after made done
 slot_left l is key (change.Remove gs) may (slot.Element list n) steps after made done = element_removed l is steps after done gs key list n made
 slot_left l is key (change.Remove gs) may (slot.Absent list k) steps after made done = tt
 slot_left l is key (change.Remove gs) may (slot.Whole c) steps after made done = whole_removed l is steps after done gs key c made

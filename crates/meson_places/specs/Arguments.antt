@@ -14,15 +14,16 @@ use Rattle.meson_steps.specs.declared.argument.ValueName.{ValueName}
 use Rattle.meson_places.specs.declared.slots.Slot.{Slot}
 use Rattle.meson_places.specs.declared.slots.Slot.TheVariants as slot
 use Rattle.meson_steps.specs.declared.given.Given.{Given}
+use Rattle.meson_places.specs.AssignedArrays.{added_steps, set_all_steps}
 use Rattle.meson_places.specs.AssignedValues.{assigned_room}
 use Rattle.meson_places.specs.Assignments.{changed_slot}
 use Rattle.meson_places.specs.Changes.{delete_steps, set_steps}
 use Rattle.meson_places.specs.Names.{the_place}
-use Rattle.meson_places.specs.NewElements.{add_steps}
+use Rattle.meson_places.specs.Insertions.{insert_steps}
 use Rattle.meson_places.specs.Removals.{remove_steps}
 use Rattle.meson_places.specs.Replacements.{exchange, exchange_steps}
 use Rattle.meson_places.specs.Room.{has_room, list_in_trees}
-use Rattle.meson_places.specs.Several.{AllMayBeGiven, set_all}
+use Rattle.meson_places.specs.Several.{AllMayBeGiven}
 use Rattle.meson_places.specs.Slots.{the_slot}
 use Rattle.meson_places.specs.TargetNames.{checked_name}
 use Rattle.meson_steps.specs.GivenWords.{MayBeGiven}
@@ -51,14 +52,16 @@ abbrev pub MayBeMade : ValueChange → Type 0
 MayBeMade (change.Set g) = MayBeGiven g
 MayBeMade (change.SetAll gs) = AllMayBeGiven gs
 MayBeMade (change.Add gs) = AllMayBeGiven gs
+MayBeMade (change.AddAfter g gs) = AllMayBeGiven gs
 MayBeMade (change.Remove gs) = Unit {0}
 MayBeMade (change.Replace old new) = MayBeGiven new
 MayBeMade change.Delete = Unit {0}
 
 abbrev pub slot_steps : Loaded → (key : List ℕ) → (c : ValueChange) → MayBeMade c → Slot → Result (List Step) Refusal
 slot_steps l key (change.Set g) may s = set_within l g (written_given g may) key s
-slot_steps l key (change.SetAll gs) may s = set_all l gs may key s
-slot_steps l key (change.Add gs) may s = add_steps l gs may key s
+slot_steps l key (change.SetAll gs) may s = set_all_steps l gs may key s
+slot_steps l key (change.Add gs) may s = added_steps l gs may key s
+slot_steps l key (change.AddAfter g gs) may s = insert_steps l g gs may key s
 slot_steps l key (change.Remove gs) may s = remove_steps l gs key s
 slot_steps l key (change.Replace old new) may s = exchange_steps l (exchange old new may) key s
 slot_steps l key change.Delete may s = delete_steps s

@@ -1,29 +1,24 @@
 -- The assignments of a variable: a change of its whole value is made to what one of them assigns.
-use Rattle.std.specs.Prelude.{ℕ, Bool, false, not, ◌&&◌, List, [], ◌∷◌, bytes_eq, if◌then◌else◌, Option, Some, None, Result, Ok, Err}
+use Rattle.std.specs.Prelude.{not, ◌&&◌, ℕ, List, [], ◌∷◌, bytes_eq, if◌then◌else◌, Option, Some, None, Result, Ok, Err}
 use Rattle.std.specs.List.{filter_map, list_all}
 use Rattle.meson_lex.specs.declared.kinds.Span.{Span}
 use Rattle.meson_splice.specs.declared.file_set.File.{File}
-use Rattle.meson_splice.specs.Files.{bytes_at}
 use Rattle.meson_splice.specs.Patch.{then_ok}
-use Rattle.meson_syntax.specs.Tree.{Expression}
-use Rattle.meson_edit.specs.Edits.{is_empty}
 use Rattle.meson_calls.specs.declared.call.CallRef.{CallRef}
 use Rattle.meson_calls.specs.declared.refusal.Refusal.{Refusal}
 use Rattle.meson_calls.specs.declared.refusal.Refusal.TheVariants.{Ambiguous}
 use Rattle.meson_calls.specs.Notes.{Note, a_call, an_assignment, a_loop, notes}
-use Rattle.meson_calls.specs.Project.{Placed, Project, child, expression_at}
+use Rattle.meson_calls.specs.Project.{Placed, Project, child}
 use Rattle.meson_steps.specs.declared.argument.PlaceName.{PlaceName}
 use Rattle.meson_steps.specs.declared.argument.PlaceName.TheVariants as name
 use Rattle.meson_steps.specs.declared.argument.ValueChange.{ValueChange}
 use Rattle.meson_steps.specs.declared.argument.ValueChange.TheVariants as change
 use Rattle.meson_steps.specs.declared.argument.ValueName.{ValueName}
-use Rattle.meson_steps.specs.declared.given.Given.{Given}
 use Rattle.meson_places.specs.declared.slots.Slot.{Slot}
 use Rattle.meson_places.specs.declared.slots.Slot.TheVariants as slot
-use Rattle.meson_places.specs.Behind.{lists_at, says_one_at, slot_behind}
-use Rattle.meson_places.specs.Equality.{lists_say}
+use Rattle.meson_places.specs.Behind.{first_that, has_lists, or_first, says_all_at, says_one_at, slot_at_value}
+use Rattle.meson_places.specs.Operands.{followed_slot}
 use Rattle.meson_places.specs.Names.{is_searched, searched}
-use Rattle.meson_places.specs.ValueLists.{lists_of}
 
 -- ---- what `+=` adds
 
@@ -46,35 +41,14 @@ added_beside (Some folder) c ds = Ok (searched (Some c.file) ds)
 
 -- ---- which one is changed
 
-abbrev pub first_that : {X : Type 0} → (X → Bool) → List X → Option X
-first_that test [] = None
-first_that test (x ∷ xs) = if test x then Some x else first_that test xs
-
-abbrev pub or_first : {X : Type 0} → Option X → Option X → Option X
-or_first None o = o
-or_first (Some x) o = Some x
-
-abbrev pub has_lists : Project Span → CallRef → Bool
-has_lists p c = not (is_empty (lists_at p c))
-
--- whether elements of the lists of a value say each of some values
-abbrev pub says_all_in : (source : List ℕ) → List Given → CallRef → Option (Expression Span) → Bool
-says_all_in source gs c None = false
-says_all_in source gs c (Some e) = list_all (lists_say source (lists_of c e)) gs
-
-abbrev pub says_all_at : List File → Project Span → List Given → CallRef → Bool
-says_all_at files p gs c = says_all_in (bytes_at c.file files) gs c (expression_at p c)
-
--- Values are added to the first value that has a list; unless another one has them all. They are removed or replaced in the first one that has one of them.
+-- Values are added to the first value that has a list; unless another one has them all. They are removed or replaced in the first one that has one of them,
+-- and put after a value in the first one that has it.
 abbrev pub changed_value : List File → Project Span → ValueChange → List CallRef → Option CallRef
 changed_value files p (change.Add gs) cs = or_first (first_that (says_all_at files p gs) cs) (first_that (has_lists p) cs)
+changed_value files p (change.AddAfter g gs) cs = first_that (says_one_at files p (g ∷ [])) cs
 changed_value files p (change.Remove gs) cs = first_that (says_one_at files p gs) cs
 changed_value files p (change.Replace old new) cs = first_that (says_one_at files p (old ∷ [])) cs
 changed_value files p _ cs = None
-
-abbrev pub slot_at_value : (otherwise : Result Slot Refusal) → Option CallRef → Result Slot Refusal
-slot_at_value otherwise None = otherwise
-slot_at_value otherwise (Some c) = Ok (slot.Whole c)
 
 -- the variable whose whole value is named, and the place of what `=` assigns
 abbrev pub whole_variable : PlaceName → (keys : List (List ℕ)) → Slot → Option (List ℕ × CallRef)
@@ -89,4 +63,4 @@ assigned_value files p folder ch (Some v) =
 -- the slot whose value is changed, of one that is named
 abbrev pub changed_slot : List File → Project Span → ValueName → ValueChange → Slot → Result Slot Refusal
 changed_slot files p n ch s =
-    then_ok (assigned_value files p n.place.folder ch (whole_variable n.place.name n.keys s)) (slot_at_value (slot_behind files p ch s))
+    then_ok (assigned_value files p n.place.folder ch (whole_variable n.place.name n.keys s)) (slot_at_value (followed_slot files p ch s))

@@ -12,7 +12,7 @@ use Rattle.meson_calls.specs.Calls.{Call, calls}
 use Rattle.meson_calls.specs.Loading.{Loaded, project}
 use Rattle.meson_calls.specs.Notes.{notes}
 use Rattle.meson_calls.specs.Parts.{Part, parts}
-use Rattle.meson_calls.specs.Project.{Placed, expression_at}
+use Rattle.meson_calls.specs.Project.{Placed, Project, expression_at}
 use Rattle.meson_calls.specs.Walks.{part_reads}
 use Rattle.meson_variables.specs.Variables.{single}
 use Rattle.meson_steps.specs.declared.argument.PlaceName.TheVariants as name
@@ -23,6 +23,7 @@ use Rattle.meson_places.specs.declared.slots.Slot.TheVariants as slot
 use Rattle.meson_places.specs.Assignments.{added_values, changed_slot}
 use Rattle.meson_places.specs.Behind.{slot_behind, variable_of}
 use Rattle.meson_places.specs.Changes.{slot_place}
+use Rattle.meson_places.specs.Operands.{followed_slot, operands_at}
 use Rattle.meson_places.specs.Uses.{call_names, is_format, is_read_once, occurs, placeholder}
 
 -- Nobody else: of all that is in the files only the identifier at this place is the variable; no call names it, or gets a variable by a name that is computed;
@@ -37,10 +38,16 @@ pub record NobodyElse (l : Loaded) (x : List ℕ) (c : CallRef) : Type 0 where
 abbrev pub ReadByNobodyElse : Type 0
 ReadByNobodyElse = (l : Loaded) (x : List ℕ) (c : CallRef) → is_read_once l.files (project l) x c ≡ true → NobodyElse l x c
 
--- The value of a slot is a variable that nobody else reads, and another slot is the one value that the variable is set to.
+-- A place is that of an operand of the sum that the value of a slot is.
+pub record IsOperandOf (p : Project Span) (s : Slot) (c : CallRef) : Type 0 where
+  pub sum : CallRef
+  pub is_sum : slot_place p s ≡ Some sum
+  pub is_operand : Contains (operands_at p sum) c
+
+-- The value of a slot, or an operand of the sum that it is, is a variable that nobody else reads. Another slot is the one value that the variable is set to.
 pub record IsBehind (l : Loaded) (s t : Slot) : Type 0 where
   pub read_at : CallRef
-  pub is_place : slot_place (project l) s ≡ Some read_at
+  pub is_read : (slot_place (project l) s ≡ Some read_at) ⊎ IsOperandOf (project l) s read_at
   pub value : Expression Span
   pub is_value : expression_at (project l) read_at ≡ Some value
   pub variable : List ℕ
@@ -53,6 +60,10 @@ pub record IsBehind (l : Loaded) (s t : Slot) : Type 0 where
 -- the law: a change is made to the value that is named, or to that of a variable that nobody else reads
 abbrev pub ChangesOwnValue : Type 0
 ChangesOwnValue = (l : Loaded) (c : ValueChange) (s t : Slot) → slot_behind l.files (project l) c s ≡ Ok t → (t ≡ s) ⊎ IsBehind l s t
+
+-- the law: so it is where operands of a sum are looked at too
+abbrev pub FollowsOwnValue : Type 0
+FollowsOwnValue = (l : Loaded) (c : ValueChange) (s t : Slot) → followed_slot l.files (project l) c s ≡ Ok t → (t ≡ s) ⊎ IsBehind l s t
 
 -- A slot is the value of an assignment to the variable that is named, and another one is what `+=` adds to it in the same file.
 pub record IsAlsoAssigned (l : Loaded) (n : ValueName) (s t : Slot) : Type 0 where

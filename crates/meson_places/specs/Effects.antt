@@ -1,13 +1,14 @@
 -- What is there after a change of one value: the value that was named, and all else as it was.
-use Rattle.std.specs.Prelude.{◌≡◌, ◌⊎◌, ℕ, true, false, List, [], ◌∷◌, map, Some, None, Ok}
+use Rattle.std.specs.Prelude.{◌≡◌, ◌⊎◌, ℕ, true, false, List, [], ◌∷◌, map, is_some, Some, None, Ok}
 use Rattle.std.specs.List.{list_all}
 use Rattle.meson_lex.specs.declared.kinds.Span.{Span}
 use Rattle.meson_splice.specs.Files.{bytes_at}
 use Rattle.meson_syntax.specs.Tree.{Expression, Nowhere, Plain, erase_expression}
 use Rattle.meson_edit.specs.Edits.{Written}
 use Rattle.meson_calls.specs.declared.call.CallRef.{CallRef}
+use Rattle.meson_calls.specs.Calls.{literal_of}
 use Rattle.meson_calls.specs.Loading.{Loaded, project}
-use Rattle.meson_calls.specs.Project.{child, expression_at}
+use Rattle.meson_calls.specs.Project.{Placed, child, expression_at}
 use Rattle.meson_steps.specs.declared.argument.ValueChange.{ValueChange}
 use Rattle.meson_steps.specs.declared.argument.ValueChange.TheVariants as change
 use Rattle.meson_steps.specs.declared.argument.ValueName.{ValueName}
@@ -16,17 +17,18 @@ use Rattle.meson_steps.specs.GivenWords.{MayBeGiven}
 use Rattle.meson_places.specs.declared.slots.Slot.{Slot}
 use Rattle.meson_places.specs.declared.slots.Slot.TheVariants as slot
 use Rattle.meson_places.specs.ArrayEffects.{HasValues}
+use Rattle.meson_places.specs.Behind.{placed_value}
 use Rattle.meson_places.specs.BehindLaws.{IsChanged}
 use Rattle.meson_places.specs.Changes.{element_child, replaces_texts}
 use Rattle.meson_places.specs.Equality.{lists_say, says}
 use Rattle.meson_places.specs.Expressions.{ExpressionIs}
 use Rattle.meson_places.specs.KeyEffects.{ArrayAdded, ArraySet, GivenAdded}
 use Rattle.meson_places.specs.AssignedValues.{is_assigned, statement_of}
-use Rattle.meson_places.specs.Laws.{AssignedIs, HasAlso, IsWithout, MaySet, SlotIs, SlotIsThere}
+use Rattle.meson_places.specs.Laws.{AssignedIs, HasAlso, IsWithout, MaySet, PutBehind, SlotIs, SlotIsThere}
 use Rattle.meson_places.specs.Names.{the_place}
 use Rattle.meson_places.specs.NewElements.{array_with, fresh_written, lone_token}
 use Rattle.meson_places.specs.SaidElements.{elements_left, says_one, value_left}
-use Rattle.meson_places.specs.Several.{AllMayBeGiven}
+use Rattle.meson_places.specs.Several.{AllMayBeGiven, written_array}
 use Rattle.meson_places.specs.Slots.{Child, the_slot}
 use Rattle.meson_places.specs.ValueLists.{ValueList, last_of, lists_of}
 use Rattle.meson_places.specs.Values.{given_node, keeps_kind}
@@ -76,12 +78,40 @@ pub record ElementAdded (old : Loaded) (gs : List Given) (list : CallRef) (n : �
   pub is_value : element_child (project old) list n ≡ Some value
   pub added : AddedTo old gs may (child list value.number) value.value before after ⊎ AddedBeside old gs may list n value.value before after
 
--- and of the expression at a place, which has a list
+-- an assignment assigns the array of its value and the new ones now, or nothing is changed where there are none
+abbrev pub IsAssignedBeside : CallRef → Written (Expression Nowhere) → List (Written (Expression Nowhere)) → (before after : List Plain) → Type 0
+IsAssignedBeside c old [] before after = after ≡ before
+IsAssignedBeside c old (w ∷ ws) before after = AssignedIs (statement_of c) (array_with old (w ∷ ws)).node before after
+
+-- So it is of a literal or an identifier that is assigned.
+pub record AssignedBeside (old : Loaded) (gs : List Given) (may : AllMayBeGiven gs) (c : CallRef) (e : Expression Span) (before after : List Plain) : Type 0 where
+  pub assigned : is_assigned (project old) c ≡ true
+  pub token : List ℕ
+  pub is_token : lone_token e ≡ Some token
+  pub now : IsAssignedBeside c (record { bytes = token; node = erase_expression e }) (fresh_written (λ g. says (bytes_at c.file old.files) g e) [] gs may) before after
+
+-- of the expression at a place, which has a list, or is assigned
 pub record WholeAdded (old : Loaded) (gs : List Given) (c : CallRef) (before after : List Plain) : Type 0 where
   pub may : AllMayBeGiven gs
   pub value : Expression Span
   pub is_value : expression_at (project old) c ≡ Some value
-  pub added : AddedTo old gs may c value before after
+  pub added : AddedTo old gs may c value before after ⊎ AssignedBeside old gs may c value before after
+
+-- A literal that was assigned has become the array of several values.
+pub record AssignedArray (old : Loaded) (gs : List Given) (c : CallRef) (before after : List Plain) : Type 0 where
+  pub may : AllMayBeGiven gs
+  pub value : Expression Span
+  pub is_value : expression_at (project old) c ≡ Some value
+  pub assigned : is_assigned (project old) c ≡ true
+  pub literal : is_some (literal_of value) ≡ true
+  pub now : AssignedIs (statement_of c) (written_array gs may).node before after
+
+-- The value of a slot was there, and the values were put after the first element of its lists that said another one.
+pub record ValuesPutBehind (old : Loaded) (it : Given) (gs : List Given) (s : Slot) (before after : List Plain) : Type 0 where
+  pub may : AllMayBeGiven gs
+  pub value : Placed (Expression Span)
+  pub is_value : placed_value (project old) s ≡ Some value
+  pub put : PutBehind old it gs may value.place value.it before after
 
 -- ---- removed
 
@@ -144,9 +174,11 @@ SlotLeft old (change.Set g) (slot.Absent list key) before after = GivenAdded old
 SlotLeft old (change.Set g) (slot.Whole c) before after = AssignedSet old g c before after
 SlotLeft old (change.SetAll gs) (slot.Element list n) before after = ArraySet old gs list n before after
 SlotLeft old (change.SetAll gs) (slot.Absent list key) before after = ArrayAdded old gs list key before after
+SlotLeft old (change.SetAll gs) (slot.Whole c) before after = AssignedArray old gs c before after
 SlotLeft old (change.Add gs) (slot.Element list n) before after = ElementAdded old gs list n before after
 SlotLeft old (change.Add gs) (slot.Absent list key) before after = ArrayAdded old gs list key before after
 SlotLeft old (change.Add gs) (slot.Whole c) before after = WholeAdded old gs c before after
+SlotLeft old (change.AddAfter g gs) s before after = ValuesPutBehind old g gs s before after
 SlotLeft old (change.Remove gs) (slot.Element list n) before after = ElementRemoved old gs list n before after
 SlotLeft old (change.Remove gs) (slot.Whole c) before after = WholeRemoved old gs c before after
 SlotLeft old (change.Replace was new) (slot.Element list n) before after = ElementReplaced old was new list n before after

@@ -1,6 +1,6 @@
 -- What a search finds and what a slot is, in terms of the calls of a project and of what is at a place.
-use Rattle.std.specs.Prelude.{◌≡◌, ◌⊎◌, ℕ, suc, Bool, true, not, List, [], ◌∷◌, ◌++◌, map, take, drop, Option, Some, None, Result, Ok, All}
-use Rattle.std.specs.List.{Contains, list_all}
+use Rattle.std.specs.Prelude.{◌≡◌, ◌⊎◌, ℕ, suc, Bool, false, true, not, List, [], ◌∷◌, ◌++◌, map, take, drop, Option, Some, None, Result, Ok, All}
+use Rattle.std.specs.List.{Contains, list_all, list_any}
 use Rattle.std.specs.Str.{IsUtf8}
 use Rattle.meson_lex.specs.declared.kinds.Span.{Span}
 use Rattle.meson_syntax.specs.Paths.{ListAt, list_at, nth}
@@ -28,8 +28,10 @@ use Rattle.meson_places.specs.declared.slots.Slot.TheVariants as slot
 use Rattle.meson_steps.specs.declared.given.Given.{Given}
 use Rattle.meson_places.specs.Arguments.{MayBeMade, argument_steps}
 use Rattle.meson_places.specs.Changes.{delete_steps, replaces_texts, set_steps, slot_value}
-use Rattle.meson_places.specs.Equality.{fresh, lists_say}
+use Rattle.meson_places.specs.Equality.{element_says, fresh, lists_say}
 use Rattle.meson_places.specs.Expressions.{ExpressionIs}
+use Rattle.meson_places.specs.declared.insertions.Mark.{Mark}
+use Rattle.meson_places.specs.Insertions.{insert_into}
 use Rattle.meson_places.specs.NamedValues.{value_place}
 use Rattle.meson_places.specs.NewElements.{add_to_value, fresh_written}
 use Rattle.meson_places.specs.Removals.{remove_said}
@@ -185,6 +187,51 @@ NewAreUnknown = (known : Given → Bool) (before gs : List Given) → list_all (
 abbrev pub NewAreWritten : Type 0
 NewAreWritten = (known : Given → Bool) (before gs : List Given) (may : AllMayBeGiven gs)
     → (new : AllMayBeGiven (fresh known before gs)) × (fresh_written known before gs may ≡ all_written (fresh known before gs) new)
+
+-- ---- elements that are added after another one
+
+-- Elements with these values are after the first n of the list there, and all else in the trees is as it was.
+pub record HasBetween (list : CallRef) (n : ℕ) (new : List (Expression Nowhere)) (before after : List Plain) : Type 0 where
+  pub tree : Plain
+  pub is_tree : nth before list.file ≡ Some tree
+  pub place : ListAt Nowhere
+  pub is_place : list_at tree list.path.steps ≡ Some place
+  pub is_after : changed_at list.file (λ t. Some (place.back (with_elements place.list (take n (elements place.list)
+      ++ (map plain new ++ drop n (elements place.list)))))) before
+      ≡ Some after
+
+-- the same, and nothing is changed where there are none
+abbrev pub AlsoBetween : CallRef → ℕ → (new : List (Expression Nowhere)) → (before after : List Plain) → Type 0
+AlsoBetween list n [] before after = after ≡ before
+AlsoBetween list n (e ∷ es) before after = HasBetween list n (e ∷ es) before after
+
+-- of some lists the first element that says a value: no list before says it, and none of the elements before
+pub record IsFirstSaying (source : List ℕ) (g : Given) (ls : List (ValueList Span)) (m : Mark) : Type 0 where
+  pub front : List (ValueList Span)
+  pub list : ValueList Span
+  pub back : List (ValueList Span)
+  pub are : ls ≡ front ++ list ∷ back
+  pub is_place : list.place ≡ m.list
+  pub none_in_front : lists_say source front g ≡ false
+  pub element : Argument Span
+  pub is_element : nth list.elements m.number ≡ Some element
+  pub says_it : element_says source g element ≡ true
+  pub none_before : list_any (element_says source g) (take m.number list.elements) ≡ false
+
+-- the values are after the first element that said another one, in their order
+pub record PutBehind (l : Loaded) (it : Given) (gs : List Given) (may : AllMayBeGiven gs) (c : CallRef) (e : Expression Span) (before after : List Plain)
+    : Type 0 where
+  pub mark : Mark
+  pub is_first : IsFirstSaying (bytes_at c.file l.files) it (lists_of c e) mark
+  pub now : AlsoBetween mark.list (suc mark.number) (map (λ w. w.node) (fresh_written (lists_say (bytes_at c.file l.files) (lists_of c e)) [] gs may))
+      before after
+
+-- the law: so it is of the values that no element of a list of the value said
+abbrev pub PutsBehindFirst : Type 0
+PutsBehindFirst = (l : Loaded) (it : Given) (gs : List Given) (may : AllMayBeGiven gs) (key : List ℕ) (c : CallRef) (e : Expression Span)
+    → expression_at (project l) c ≡ Some e → (steps : List Step) → insert_into l key it gs may (Some (placed c e)) ≡ Ok steps
+    → (after : List Plain) → all_stepped steps (plain_trees l) ≡ Some after
+    → PutBehind l it gs may c e (plain_trees l) after
 
 -- ---- elements that are removed or replaced
 

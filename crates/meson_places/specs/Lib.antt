@@ -1,3 +1,4 @@
+pub mod AssignedArrays
 pub mod AssignedValues
 pub mod Arguments
 pub mod ArrayEffects
@@ -9,9 +10,11 @@ pub mod Colons
 pub mod ColonLaws
 pub mod Equality
 pub mod Expressions
+pub mod Insertions
 pub mod NamedValues
 pub mod Names
 pub mod NewElements
+pub mod Operands
 pub mod Removals
 pub mod Replacements
 pub mod Room

@@ -13,15 +13,15 @@ ghost use Rattle.meson_steps.specs.GivenWords.{MayBeGiven};
 ghost use Rattle.meson_places.specs.Values.{given_node, written_given};
 
 use crate::assigned::assigned_room;
+use crate::assigned_arrays::{added_steps, set_all_steps};
 use crate::assignments::changed_slot;
 use crate::changes::{delete_steps, set_steps};
+use crate::insertions::{Insertion, insert_steps};
 use crate::lookup::find_place;
 use crate::name::Sources;
-use crate::new_elements::add_steps;
 use crate::removals::remove_steps;
 use crate::replacements::{Pair, replace_steps};
 use crate::room::has_room;
-use crate::several::set_all;
 use crate::slots::{Slot, find_slot};
 use crate::target_names::checked_name;
 use meson_calls::Refusal;
@@ -63,6 +63,7 @@ fn reads_change(change: &ValueChange)
         ValueChange::Set(given) => reads(given),
         ValueChange::SetAll(values) => reads_all(values.get()),
         ValueChange::Add(values) => reads_all(values.get()),
+        ValueChange::AddAfter { values, .. } => reads_all(values.get()),
         ValueChange::Remove(_) => {}
         ValueChange::Replace { new, .. } => reads(new),
         ValueChange::Delete => {}
@@ -125,7 +126,7 @@ fn set_within(
 /// The steps that change the value of a slot.
 ///
 /// # Errors
-/// The faults of `set_within`, `set_all`, `add_steps`, `remove_steps`, `replace_steps` or `delete_steps`.
+/// The faults of `set_within`, `set_all_steps`, `added_steps`, `insert_steps`, `remove_steps`, `replace_steps` or `delete_steps`.
 fn slot_steps(
     alloc: Global,
     sources: Sources<'_>,
@@ -139,8 +140,12 @@ fn slot_steps(
 {
     match change {
         ValueChange::Set(given) => set_within(alloc, sources, given, key, slot),
-        ValueChange::SetAll(values) => set_all(alloc, sources, values.get(), key, slot),
-        ValueChange::Add(values) => add_steps(alloc, sources, values.get(), key, slot),
+        ValueChange::SetAll(values) => set_all_steps(alloc, sources, values.get(), key, slot),
+        ValueChange::Add(values) => added_steps(alloc, sources, values.get(), key, slot),
+        ValueChange::AddAfter { after, values } => {
+            let values = values.get();
+            insert_steps(alloc, sources, Insertion { after, values }, key, slot)
+        }
         ValueChange::Remove(values) => remove_steps(alloc, sources, values.get(), key, slot),
         ValueChange::Replace { old, new } => {
             replace_steps(alloc, sources, Pair { old, new }, key, slot)

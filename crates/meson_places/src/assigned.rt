@@ -6,7 +6,7 @@ ghost use Rattle.meson_syntax.specs.Grammar.{expression_depth};
 ghost use Rattle.meson_syntax.specs.Tree.{Expression, Nowhere};
 ghost use Rattle.meson_calls.specs.Loading.{AreParsed, project};
 ghost use Rattle.meson_calls.specs.Refusals.{RefusedAs};
-ghost use Rattle.meson_steps.specs.Code.{IsExpression};
+ghost use Rattle.meson_steps.specs.Code.{IsValue};
 ghost use Rattle.meson_steps.specs.GivenWords.{MayBeGiven};
 ghost use Rattle.meson_steps.specs.Meanings.{AreMeant};
 ghost use Rattle.meson_places.specs.AssignedValues.{around, assigned_if, assigned_room, is_assigned, is_one_line, statement_of};
@@ -28,7 +28,7 @@ use meson_syntax::{Bracket, MAX_DEPTH, parse_list_within};
 use std::alloc::{AllocError, Global};
 
 /// The place of the statement whose first child is at a place.
-fn statement_of(alloc: Global, place: &CallRef) -> Result<CallRef, AllocError>
+pub(crate) fn statement_of(alloc: Global, place: &CallRef) -> Result<CallRef, AllocError>
     ensures { IfOk result (λ p. p ≡ statement_of place.now) }
 {
     let path = place.path.steps.get();
@@ -88,13 +88,22 @@ pub(crate) fn assign_steps(
 /// Whether code nests no deeper than this.
 fn nests_within(alloc: Global, code: &[u8], depth: usize) -> Result<bool, AllocError>
     requires { depth + 2 < 2 ^ 64 }
-    ensures { (x : IsExpression code.now) → IfOk result (λ b. b ≡ nat_le (expression_depth x.node) depth) }
+    ensures { (x : IsValue code.now) → IfOk result (λ b. b ≡ nat_le (expression_depth x.node) depth) }
 {
     let whole = in_brackets(alloc, code)?;
     match parse_list_within(alloc, whole.as_slice(), Bracket::Square, depth + 1) {
         Ok(_) => Ok(true),
         Err(fault) => not_list(fault),
     }
+}
+
+/// Whether the statement around a place, with the value of a text assigned there, nests no deeper than a file may.
+pub(crate) fn has_room_at(alloc: Global, place: &CallRef, text: &[u8]) -> Result<bool, AllocError>
+    ensures { (x : IsValue text.now) → IfOk result (λ b. b ≡ assigned_room place.now x.node) }
+{
+    let above = place.path.steps.get().len().saturating_sub(1);
+    let around = above / 2;
+    nests_within(alloc, text, MAX_DEPTH.saturating_sub(around))
 }
 
 /// Whether the statement around a place, with a value assigned there, nests no deeper than a file may.
@@ -108,14 +117,6 @@ pub(crate) fn assigned_room(
     match given {
         Given::Text(_) => Ok(true),
         Given::Switch(_) => Ok(true),
-        Given::Code(code) => {
-            let above = place.path.steps.get().len().saturating_sub(1);
-            let around = above / 2;
-            nests_within(
-                alloc,
-                code.get().as_bytes(),
-                MAX_DEPTH.saturating_sub(around),
-            )
-        }
+        Given::Code(code) => has_room_at(alloc, place, code.get().as_bytes()),
     }
 }

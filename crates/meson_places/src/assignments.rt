@@ -5,16 +5,15 @@ ghost use Rattle.std.specs.List.{list_all};
 ghost use Rattle.meson_calls.specs.Loading.{AreParsed, IsProject, project};
 ghost use Rattle.meson_calls.specs.Notes.{note_view, note_views, notes};
 ghost use Rattle.meson_calls.specs.Refusals.{RefusedAs};
-ghost use Rattle.meson_places.specs.Assignments.{added_beside, added_value, added_values, assigned_value, changed_slot, changed_value, first_that, has_lists, or_first, says_all_at, whole_variable};
-ghost use Rattle.meson_places.specs.Behind.{says_one_at, slot_behind};
+ghost use Rattle.meson_places.specs.Assignments.{added_beside, added_value, added_values, assigned_value, changed_slot, changed_value, whole_variable};
+ghost use Rattle.meson_places.specs.Behind.{first_that, has_lists, or_first, says_all_at};
 ghost use Rattle.meson_places.specs.Names.{is_searched, loaded_in};
 
-use crate::known::{Known, are_known};
+use crate::list_search::{first_list, first_with_all, first_with_one};
 use crate::lookup::{is_searched, searched};
 use crate::name::Sources;
+use crate::operands::followed_slot;
 use crate::slots::Slot;
-use crate::value_lists::lists_of;
-use crate::variables::{find_value, lists_at, says_one_at, slot_behind};
 use meson_calls::note::{Note, What};
 use meson_calls::notes::notes_of;
 use meson_calls::place::{child_place, copy_place};
@@ -101,86 +100,6 @@ fn added_beside(
     }
 }
 
-/// Whether the value at a place has a list.
-fn has_lists(alloc: Global, sources: Sources<'_>, place: &CallRef) -> Result<bool, AllocError>
-    requires { AreParsed sources.files.now sources.trees.now }
-    ensures { IfOk result (λ b. b ≡ has_lists (project (loaded_in sources.entry)) place.now) }
-{
-    Ok(!lists_at(alloc, sources, place)?.is_empty())
-}
-
-/// Whether elements of the lists of the value at a place say each of some values.
-fn says_all_at(
-    alloc: Global,
-    sources: Sources<'_>,
-    values: &[Given],
-    place: &CallRef,
-) -> Result<bool, AllocError>
-    requires { AreParsed sources.files.now sources.trees.now }
-    ensures { IfOk result (λ b. b ≡ says_all_at sources.entry.files.now (project (loaded_in sources.entry)) values.now place.now) }
-{
-    match find_value(sources, place) {
-        Some(found) => {
-            let lists = lists_of(alloc, found.source, place, found.value)?;
-            are_known(alloc, found.source, Known::Lists(lists.as_slice()), values)
-        }
-        None => Ok(false),
-    }
-}
-
-/// The first of some places whose value has a list.
-fn first_list(
-    alloc: Global,
-    sources: Sources<'_>,
-    places: &[CallRef],
-) -> Result<Option<CallRef>, AllocError>
-    requires { AreParsed sources.files.now sources.trees.now }
-    ensures { IfOk result (λ o. o ≡ first_that (has_lists (project (loaded_in sources.entry))) places.now) }
-{
-    for i in 0..places.len() {
-        if has_lists(alloc, sources, &places[i])? {
-            return Ok(Some(copy_place(alloc, &places[i])?));
-        }
-    }
-    Ok(None)
-}
-
-/// The first of some places whose value has all of some values.
-fn first_with_all(
-    alloc: Global,
-    sources: Sources<'_>,
-    values: &[Given],
-    places: &[CallRef],
-) -> Result<Option<CallRef>, AllocError>
-    requires { AreParsed sources.files.now sources.trees.now }
-    ensures { IfOk result (λ o. o ≡ first_that (says_all_at sources.entry.files.now (project (loaded_in sources.entry)) values.now) places.now) }
-{
-    for i in 0..places.len() {
-        if says_all_at(alloc, sources, values, &places[i])? {
-            return Ok(Some(copy_place(alloc, &places[i])?));
-        }
-    }
-    Ok(None)
-}
-
-/// The first of some places whose value has one of some values.
-fn first_with_one(
-    alloc: Global,
-    sources: Sources<'_>,
-    values: &[Given],
-    places: &[CallRef],
-) -> Result<Option<CallRef>, AllocError>
-    requires { AreParsed sources.files.now sources.trees.now }
-    ensures { IfOk result (λ o. o ≡ first_that (says_one_at sources.entry.files.now (project (loaded_in sources.entry)) values.now) places.now) }
-{
-    for i in 0..places.len() {
-        if says_one_at(alloc, sources, values, &places[i])? {
-            return Ok(Some(copy_place(alloc, &places[i])?));
-        }
-    }
-    Ok(None)
-}
-
 /// The first of some places whose value has all of some values; else the first whose value has a list.
 fn gaining_value(
     alloc: Global,
@@ -210,6 +129,9 @@ fn changed_value(
 {
     match change {
         ValueChange::Add(values) => gaining_value(alloc, sources, values.get(), places),
+        ValueChange::AddAfter { after, .. } => {
+            first_with_one(alloc, sources, slice::from_ref(after), places)
+        }
         ValueChange::Remove(values) => first_with_one(alloc, sources, values.get(), places),
         ValueChange::Replace { old, .. } => {
             first_with_one(alloc, sources, slice::from_ref(old), places)
@@ -317,5 +239,5 @@ pub(crate) fn changed_slot(
             return Ok(Slot::Whole(place));
         }
     }
-    slot_behind(alloc, sources, change, slot)
+    followed_slot(alloc, sources, change, slot)
 }

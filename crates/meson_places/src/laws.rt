@@ -1,7 +1,7 @@
 //! Laws of places. The functions do nothing: what they ensure is the law.
 
-ghost use Rattle.meson_places.specs.Laws.{AddsToOneList, ArgumentStepsAreDoable, DeletesOneElement, FindsOneCall, KeepsKind, NewAreUnknown, NewAreWritten, RemovesWhatIsSaid, ReplacesWhatIsSaid, SetsOneValue, SlotsAreThere, ValuesAreThere};
-ghost use Rattle.meson_places.specs.BehindLaws.{ChangesOneValue, ChangesOwnValue, ReadByNobodyElse};
+ghost use Rattle.meson_places.specs.Laws.{AddsToOneList, ArgumentStepsAreDoable, DeletesOneElement, FindsOneCall, KeepsKind, NewAreUnknown, NewAreWritten, PutsBehindFirst, RemovesWhatIsSaid, ReplacesWhatIsSaid, SetsOneValue, SlotsAreThere, ValuesAreThere};
+ghost use Rattle.meson_places.specs.BehindLaws.{ChangesOneValue, ChangesOwnValue, FollowsOwnValue, ReadByNobodyElse};
 ghost use Rattle.meson_places.specs.ColonLaws.{TakesLastColon};
 ghost use Rattle.meson_places.specs.LineLaws.{FindsOnLine};
 
@@ -62,6 +62,11 @@ pub fn new_are_written()
     ensures { NewAreWritten }
 {}
 
+/// Values are put after the first element of the lists of a value that says another one, in their order, and all other elements stay in theirs.
+pub fn puts_behind_first()
+    ensures { PutsBehindFirst }
+{}
+
 /// From the lists of a value exactly those elements are removed that say one of some values.
 pub fn removes_what_is_said()
     ensures { RemovesWhatIsSaid }
@@ -85,6 +90,11 @@ pub fn read_by_nobody_else()
 /// A change for a call is made to the value that the call has, or to the one value of a variable that nobody else reads.
 pub fn changes_own_value()
     ensures { ChangesOwnValue }
+{}
+
+/// So it is of a sum too: of its operands, those variables are followed that nobody else reads.
+pub fn follows_own_value()
+    ensures { FollowsOwnValue }
 {}
 
 /// A change is made to the value that is named, to that of a variable that nobody else reads, or to what is added to the variable that is named.

@@ -34,7 +34,7 @@ use meson_syntax::Expr;
 use std::alloc::{AllocError, Global};
 
 /// The text that is written for the array of a value, by its text, and others.
-fn beside_bytes(alloc: Global, old: &[u8], values: &[&Given]) -> Result<Bytes, Refusal>
+pub(crate) fn beside_bytes(alloc: Global, old: &[u8], values: &[&Given]) -> Result<Bytes, Refusal>
     ensures done { IfOk result (λ b. b ≡ 91 ∷ (comma_between (old.now ∷ map given_bytes (map (λ x. x.now) values.now)) ++ 93 ∷ [])) }
     ensures refused { IfErr result (λ e. e ≡ OutOfMemory) }
 {

@@ -1,6 +1,6 @@
 //! Whether what is noted of a file is what a name finds.
 
-ghost use Rattle.std.specs.Prelude.{◌≡◌, IfOk};
+ghost use Rattle.std.specs.Prelude.{◌≡◌, IfOk, not};
 ghost use Rattle.meson_syntax.specs.View.{expr_view, list_view, text_at};
 ghost use Rattle.meson_syntax.specs.Grammar.{expression_words, listing_words};
 ghost use Rattle.meson_calls.specs.Calls.{call_of, first_literal, is};
@@ -49,6 +49,13 @@ fn has_text(alloc: Global, source: &[u8], arguments: &List, text: &Text) -> Resu
     }
 }
 
+/// Whether a call is another one than that of a name, where it may have that name.
+fn is_other(named: bool) -> bool
+    ensures { result ≡ not named }
+{
+    !named
+}
+
 /// Whether an expression is a call of the function whose first argument without a name is not a literal of this text.
 fn calls_other(
     alloc: Global,
@@ -68,7 +75,7 @@ fn calls_other(
         } => {
             if calls_callee(source, callee, *name, arguments) {
                 let named = has_text(alloc, source, arguments, id)?;
-                Ok(!named)
+                Ok(is_other(named))
             } else {
                 Ok(false)
             }

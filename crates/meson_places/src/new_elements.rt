@@ -1,6 +1,6 @@
 //! The steps that add values to the lists of a value.
 
-ghost use Rattle.std.specs.Prelude.{◌≡◌, ◌≢◌, ◌++◌, ◌∷◌, [], Err, IfErr, IfOk, List, MatchOption, MatchResult, OnOk, Result, Some, length, map, option_map};
+ghost use Rattle.std.specs.Prelude.{◌≡◌, ◌≢◌, ◌<◌, ◌^◌, ◌++◌, ◌∷◌, [], Err, IfErr, IfOk, List, MatchOption, MatchResult, OnOk, Result, Some, length, map, option_map};
 ghost use Rattle.meson_edit.specs.Edits.{Replace, Written};
 ghost use Rattle.meson_splice.specs.Files.{bytes_at};
 ghost use Rattle.meson_syntax.specs.Grammar.{expression_words};
@@ -30,7 +30,7 @@ use crate::lone_values::add_to_lone;
 use crate::name::Sources;
 use crate::several::{Held, add_array, has_room_for_all, put_at};
 use crate::slots::Slot;
-use crate::value_lists::{FoundList, lists_of};
+use crate::value_lists::{FoundList, last_list, lists_of};
 use crate::values::given_bytes;
 use meson_calls::place::child_place;
 use meson_calls::{CallRef, Refusal};
@@ -40,8 +40,29 @@ use meson_steps::step::{ListEdit, ListStep};
 use meson_syntax::{Arg, Expr};
 use std::alloc::{AllocError, Global};
 
-/// The steps that add values behind all elements of the list at a place.
-fn put_behind(
+/// The steps that put values after this many elements of the list at a place, one after another.
+pub(crate) fn put_behind(
+    alloc: Global,
+    list: &CallRef,
+    many: usize,
+    values: &[&Given],
+) -> Result<Vec<ListStep>, Refusal>
+    requires { many < 2 ^ 63 }
+    ensures done { (ws : List (Written (Expression Nowhere)))
+        → map (λ w. w.bytes) ws ≡ map given_bytes (map (λ x. x.now) values.now) → IfOk result (λ steps. AreBare (put_each list.now many many ws) steps.items) }
+    ensures refused { IfErr result (λ e. e ≡ OutOfMemory) }
+{
+    let mut steps = Vec::new(alloc);
+    for i in 0..values.len() {
+        let new = given_bytes(alloc, values[i])?;
+        let edit = put_at(many, many + i, new);
+        push_edit(alloc, list, edit, &mut steps)?;
+    }
+    Ok(steps)
+}
+
+/// The steps that put values after all elements of the list at a place.
+fn put_behind_all(
     alloc: Global,
     list: &CallRef,
     elements: &[Arg],
@@ -51,13 +72,7 @@ fn put_behind(
         → map (λ w. w.bytes) ws ≡ map given_bytes (map (λ x. x.now) values.now) → IfOk result (λ steps. AreBare (put_each list.now many many ws) steps.items) }
     ensures refused { IfErr result (λ e. e ≡ OutOfMemory) }
 {
-    let mut steps = Vec::new(alloc);
-    for i in 0..values.len() {
-        let new = given_bytes(alloc, values[i])?;
-        let edit = put_at(elements.len(), elements.len() + i, new);
-        push_edit(alloc, list, edit, &mut steps)?;
-    }
-    Ok(steps)
+    put_behind(alloc, list, elements.len(), values)
 }
 
 /// A list among the files: the source, and what says values already.
@@ -89,7 +104,7 @@ fn add_to_list(
         return Err(Refusal::TooDeep);
     }
     let new = fresh(alloc, to.source, to.known, values)?;
-    put_behind(alloc, place, to.list.elements, new.as_slice())
+    put_behind_all(alloc, place, to.list.elements, new.as_slice())
 }
 
 /// The steps that add values to the last list of the expression at a place, if it has one.
@@ -113,9 +128,8 @@ fn add_to_value(
 {
     let lists = lists_of(alloc, source, place, value)?;
     let all = lists.as_slice();
-    match all {
-        [] => Ok(None),
-        [.., list] => {
+    match last_list(all) {
+        Some(list) => {
             let known = Known::Lists(all);
             let to = Receiver {
                 source,
@@ -125,6 +139,7 @@ fn add_to_value(
             let steps = add_to_list(alloc, sources, to, values)?;
             Ok(Some(steps))
         }
+        None => Ok(None),
     }
 }
 

@@ -1,6 +1,6 @@
 //! The steps that set a value to several ones.
 
-ghost use Rattle.std.specs.Prelude.{◌≡◌, ◌++◌, ◌∷◌, [], ◌+◌, ◌<◌, ◌^◌, IfErr, IfOk, List, OnOk, Some, length, map, not, ◌&&◌};
+ghost use Rattle.std.specs.Prelude.{◌≡◌, ◌++◌, ◌∷◌, [], ◌+◌, ◌-◌, ◌<◌, ◌^◌, IfErr, IfOk, List, OnOk, Some, length, map, not, ◌&&◌};
 ghost use Rattle.std.specs.List.{list_all};
 ghost use Rattle.meson_edit.specs.Edits.{Written};
 ghost use Rattle.meson_syntax.specs.Grammar.{expression_words};
@@ -119,6 +119,13 @@ pub(crate) fn put_each(
     Ok(())
 }
 
+/// How many elements of an array are past a number of values.
+fn surplus(many: usize, count: usize) -> usize
+    ensures { result ≡ many - count }
+{
+    many.saturating_sub(count)
+}
+
 /// The steps after which the elements of an array with this number of elements are these values.
 fn put_all(
     alloc: Global,
@@ -132,7 +139,7 @@ fn put_all(
     let mut steps = Vec::new(alloc);
     put_each(alloc, list, many, 0, values, &mut steps)?;
     let count = values.len();
-    remove_rest(alloc, list, count, many.saturating_sub(count), &mut steps)?;
+    remove_rest(alloc, list, count, surplus(many, count), &mut steps)?;
     Ok(steps)
 }
 

@@ -1,6 +1,6 @@
 //! The lists of a value: an array, a call of `files`, or those of the operands of a sum.
 
-ghost use Rattle.std.specs.Prelude.{◌≡◌, ◌++◌, [], IfOk, OnOk};
+ghost use Rattle.std.specs.Prelude.{◌≡◌, ◌++◌, [], ◌-◌, IfOk, OnOk, length, option_copied, slice_get};
 ghost use Rattle.std.specs.List.{list_all};
 ghost use Rattle.meson_syntax.specs.Grammar.{expression_words};
 ghost use Rattle.meson_syntax.specs.Tree.{operands_of};
@@ -25,6 +25,13 @@ use std::alloc::{AllocError, Global};
 pub(crate) struct FoundList<'t> {
     pub place: CallRef,
     pub elements: &'t [Arg],
+}
+
+/// The last of some lists.
+pub(crate) fn last_list<'l, 't>(lists: &'l [FoundList<'t>]) -> Option<&'l FoundList<'t>>
+    ensures { option_copied result ≡ slice_get lists.now (length lists.now - 1) }
+{
+    lists.last()
 }
 
 /// Whether an element has no name and no key.
@@ -91,7 +98,7 @@ fn is_plus(operand: &Operand) -> bool
 }
 
 /// Whether all operators of a row are `+`.
-fn are_plus(rest: &[Operand]) -> bool
+pub(crate) fn are_plus(rest: &[Operand]) -> bool
     ensures { (source : Source) → result ≡ are_plus (operands_of (operands_view source rest.now)) }
 {
     for i in 0..rest.len() {

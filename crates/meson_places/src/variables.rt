@@ -9,7 +9,7 @@ ghost use Rattle.meson_calls.specs.Project.{expression_at, placed};
 ghost use Rattle.meson_calls.specs.Refusals.{RefusedAs};
 ghost use Rattle.meson_variables.specs.CodeValues.{value_view};
 ghost use Rattle.meson_variables.specs.Variables.{single};
-ghost use Rattle.meson_places.specs.Behind.{added_slot, behind_slot, behind_value, lists_at, own_slot, said_slot, says_one_at, set_slot, slot_behind, variable_of};
+ghost use Rattle.meson_places.specs.Behind.{added_slot, behind_slot, behind_value, gains, lists_at, own_slot, said_slot, says_one_at, set_slot, slot_behind, variable_of};
 ghost use Rattle.meson_places.specs.Names.{loaded_in};
 ghost use Rattle.meson_places.specs.Uses.{is_read_once};
 ghost use Rattle.meson_places.specs.inside.Found.{AreGoodLists, found_lists};
@@ -42,10 +42,10 @@ pub(crate) struct FoundValue<'t> {
 
 /// A variable that is the value at a place, and the place of the one value that it is set to.
 #[derive(Drop)]
-struct Variable<'t> {
-    name: &'t [u8],
-    read_at: CallRef,
-    value_at: CallRef,
+pub(crate) struct Variable<'t> {
+    pub name: &'t [u8],
+    pub read_at: CallRef,
+    pub value_at: CallRef,
 }
 
 /// The value at a place.
@@ -104,7 +104,7 @@ fn single_place(
 }
 
 /// The variable that the value at a place is, unless the value says one of some others itself.
-fn behind_value<'p>(
+pub(crate) fn behind_value<'p>(
     alloc: Global,
     sources: Sources<'p>,
     values: &[Given],
@@ -191,14 +191,13 @@ pub(crate) fn says_one_at(
 }
 
 /// Whether the value that a variable is set to has a list, and nothing else reads the variable.
-fn has_own_lists(
+pub(crate) fn has_own_lists(
     alloc: Global,
     sources: Sources<'_>,
     variable: &Variable<'_>,
 ) -> Result<bool, AllocError>
     requires { AreParsed sources.files.now sources.trees.now }
-    ensures { let p = project (loaded_in sources.entry) in let b = behind_view variable.now in
-        IfOk result (λ own. own ≡ (not (is_empty (lists_at p b.value_at)) && is_read_once sources.entry.files.now p b.variable b.read_at)) }
+    ensures { IfOk result (λ own. own ≡ gains sources.entry.files.now (project (loaded_in sources.entry)) (behind_view variable.now)) }
 {
     let lists = lists_at(alloc, sources, &variable.value_at)?;
     if lists.is_empty() {
@@ -298,7 +297,8 @@ fn set_slot(alloc: Global, sources: Sources<'_>, given: &Given, slot: Slot) -> R
 /// The slot whose value a change is made to: the slot itself, or that of the value of the variable that its value is.
 ///
 /// # Errors
-/// A value would be set, or an element of a list removed or replaced, that is the value of a variable which something else reads. Or out of memory.
+/// A value would be set, an element of a list removed or replaced, or values put after one, that is the value of a variable which something else reads. Or out
+/// of memory.
 pub(crate) fn slot_behind(
     alloc: Global,
     sources: Sources<'_>,
@@ -312,6 +312,9 @@ pub(crate) fn slot_behind(
     match change {
         ValueChange::Set(given) => set_slot(alloc, sources, given, slot),
         ValueChange::Add(values) => added_slot(alloc, sources, values.get(), slot),
+        ValueChange::AddAfter { after, .. } => {
+            said_slot(alloc, sources, slice::from_ref(after), slot)
+        }
         ValueChange::Remove(values) => said_slot(alloc, sources, values.get(), slot),
         ValueChange::Replace { old, .. } => said_slot(alloc, sources, slice::from_ref(old), slot),
         _ => Ok(slot),

@@ -23,18 +23,19 @@ use Rattle.meson_steps.specs.declared.argument.ValueName.{ValueName}
 use Rattle.meson_steps.specs.declared.command.Done.{Done}
 use Rattle.meson_steps.specs.ResultLimits.{plain_trees}
 use Rattle.meson_steps.specs.Steps.{Step, all_stepped}
-use Rattle.meson_sources.specs.SourceEdits.{extra_added, extra_removed, sources_added, sources_removed}
+use Rattle.meson_sources.specs.SourceEdits.{extra_added, extra_removed, sources_added, sources_removed, sources_renamed}
 use Rattle.meson_sources.proofs.AllExtras.{all-extras-grow}
 use Rattle.meson_sources.proofs.AllSources.{all-sources-grow}
 use Rattle.meson_sources.proofs.ExtraAdded.{extra-is-added}
 use Rattle.meson_sources.proofs.ShrunkFiles.{all-extras-shrink, all-sources-shrink}
 use Rattle.meson_sources.proofs.SourcesAdded.{sources-are-added}
 use Rattle.meson_sources.proofs.SourcesGone.{extra-is-removed, sources-are-removed}
+use Rattle.meson_sources.proofs.SourcesRenamed.{sources-are-renamed}
 use Rattle.meson_steps.proofs.WentWell.{then_was}
 use Rattle.meson_targets.specs.TargetEdits.{target_added, target_removed}
 use Rattle.meson_targets.proofs.AddedTargets.{added-targets-are-named}
 use Rattle.meson_targets.proofs.RemovedTargets.{removed-targets-are-gone}
-use Rattle.meson_plan.specs.Effects.{CommandsLeave, ExtrasCome, ExtrasGo, LeavesOf, SourcesCome, SourcesGo, TargetComes, TargetGoes}
+use Rattle.meson_plan.specs.Effects.{CommandsLeave, ExtrasCome, ExtrasGo, LeavesOf, SourcesCome, SourcesGo, SourcesRenamed, TargetComes, TargetGoes}
 use Rattle.meson_places.specs.Effects.{ValueLeft}
 use Rattle.meson_places.proofs.ValuesLeft.{values_left}
 use Rattle.meson_plan.specs.Performing.{Performs}
@@ -80,6 +81,11 @@ module _ (old new : Loaded) (c : Command) (done : Done) (is : IsProject old) (p 
         whole = all-sources-shrink old new is same_names id k.0 k.1 names p.made.steps k.2 stepped;
       }
 
+  sources_renamed_there : (id : CallName) (was now : List ℕ) → then_ok (the_call (project old) role.Target id) (λ k. sources_renamed (project old) k was now) ≡ Ok p.made.steps → SourcesRenamed old id was now new
+  sources_renamed_there id was now made =
+      let k = one id (λ q k. sources_renamed q k was now) made in
+      record { call = k.0; is_call = k.1; changes = sources-are-renamed old is id k.0 k.1 was now p.made.steps (plain_trees new) k.2 stepped }
+
   extras_come : (id : CallName) (names : List (List ℕ)) → then_ok (the_call (project old) role.Target id) (λ k. extra_added (project old) k names) ≡ Ok p.made.steps → ExtrasCome old id names new
   extras_come id names made =
       let k = one id (λ q k. extra_added q k names) made in
@@ -117,6 +123,7 @@ pub commands-leave : CommandsLeave
 commands-leave old new (command.SourcesAdd id names) done is p = sources_come old new (command.SourcesAdd id names) done is p id names p.made.are_planned
 commands-leave old new (command.TargetAdd name kind folder sources) done is p = λ utf8. target_comes old new (command.TargetAdd name kind folder sources) done is p name kind folder sources p.made.are_planned utf8
 commands-leave old new (command.SourcesRemove id names) done is p = sources_go old new (command.SourcesRemove id names) done is p id names p.made.are_planned
+commands-leave old new (command.SourcesRename id was now) done is p = sources_renamed_there old new (command.SourcesRename id was now) done is p id was now p.made.are_planned
 commands-leave old new (command.ExtraAdd id names) done is p = extras_come old new (command.ExtraAdd id names) done is p id names p.made.are_planned
 commands-leave old new (command.ExtraRemove id names) done is p = extras_go old new (command.ExtraRemove id names) done is p id names p.made.are_planned
 commands-leave old new (command.TargetRemove id) done is p = target_goes old new (command.TargetRemove id) done is p id p.made.are_planned

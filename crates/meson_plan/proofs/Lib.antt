@@ -2,6 +2,7 @@ mod Performed
 pub mod SplicesDone
 pub mod PlacesFound
 mod DetailsThere
+mod NamedThere
 mod CommandsLeave
 mod NamesKept
 pub mod OneMeaning

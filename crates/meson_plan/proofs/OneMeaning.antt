@@ -11,6 +11,7 @@ use Rattle.meson_plan.specs.Planning.{Means, planned}
 pub means-one : (l : Loaded) (c : Command) (r s : Meaning) → Means l c r → Means l c s → r ≡ s
 means-one l (command.SourcesAdd target sources) m n p q = sym p ∙ q
 means-one l (command.SourcesRemove target sources) m n p q = sym p ∙ q
+means-one l (command.SourcesRename target was now) m n p q = sym p ∙ q
 means-one l (command.ExtraAdd target sources) m n p q = sym p ∙ q
 means-one l (command.ExtraRemove target sources) m n p q = sym p ∙ q
 means-one l (command.TargetAdd target kind subdir sources) m n p q = sym p ∙ q
@@ -33,6 +34,7 @@ module _ (l k : Loaded) (same_files : l.files ≡ k.files) (same_trees : trees l
   pub means-same : (c : Command) (m : Meaning) → Means l c m → Means k c m
   means-same (command.SourcesAdd target sources) m is = same-plan (command.SourcesAdd target sources) m is
   means-same (command.SourcesRemove target sources) m is = same-plan (command.SourcesRemove target sources) m is
+  means-same (command.SourcesRename target was now) m is = same-plan (command.SourcesRename target was now) m is
   means-same (command.ExtraAdd target sources) m is = same-plan (command.ExtraAdd target sources) m is
   means-same (command.ExtraRemove target sources) m is = same-plan (command.ExtraRemove target sources) m is
   means-same (command.TargetAdd target kind subdir sources) m is = same-plan (command.TargetAdd target kind subdir sources) m is

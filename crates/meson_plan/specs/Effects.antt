@@ -1,5 +1,5 @@
--- What is there after a command: the arguments of the call that it changes, the lists that get or lose sources or extra files, the calls that a name names, and
--- the value that is changed.
+-- What is there after a command: the arguments of the call that it changes, the lists that get or lose sources or extra files, the sources that get another name,
+-- the calls that a name names, and the value that is changed.
 -- Meson manual, Rewriter.
 use Rattle.std.specs.Prelude.{◌≡◌, ℕ, List, ◌∷◌, All, codes, Ok}
 use Rattle.std.specs.Str.{IsUtf8}
@@ -17,7 +17,7 @@ use Rattle.meson_steps.specs.declared.command.Command.{Command}
 use Rattle.meson_steps.specs.declared.command.Command.TheVariants as command
 use Rattle.meson_steps.specs.declared.command.Done.{Done}
 use Rattle.meson_places.specs.Effects.{ValueLeft}
-use Rattle.meson_sources.specs.Effects.{ExtraComes, ListGets, NamesGo, extra_home}
+use Rattle.meson_sources.specs.Effects.{ExtraComes, ListGets, NameChanges, NamesGo, extra_home}
 use Rattle.meson_sources.specs.SourceEdits.{extra_marks, new_names}
 use Rattle.meson_sources.specs.WholeExtras.{ExtrasGrow, ExtrasShrink}
 use Rattle.meson_sources.specs.WholeSources.{SourcesGrow, SourcesShrink}
@@ -49,6 +49,12 @@ pub record SourcesGo (old : Loaded) (target : CallName) (names : List (List ℕ)
   pub go : NamesGo (source_marks (project old) call) names (plain_trees old) (plain_trees new)
   pub whole : SourcesShrink names target call (project old) (project new)
 
+-- No source had the new name. Each source of the old one has the new one, in its place: each list has as many elements, and all else is as it was.
+pub record SourcesRenamed (old : Loaded) (target : CallName) (was now : List ℕ) (new : Loaded) : Type 0 where
+  pub call : Placed (Call Span)
+  pub is_call : the_call (project old) role.Target target ≡ Ok call
+  pub changes : NameChanges (source_marks (project old) call) was now (plain_trees old) (plain_trees new)
+
 -- Each new extra file is there once. All extra files of the target are those that it had and these.
 pub record ExtrasCome (old : Loaded) (target : CallName) (names : List (List ℕ)) (new : Loaded) : Type 0 where
   pub call : Placed (Call Span)
@@ -78,6 +84,7 @@ pub record TargetComes (old : Loaded) (name kind folder : List ℕ) (sources : L
 abbrev pub HasEffect : Loaded → Command → Loaded → Type 0
 HasEffect old (command.SourcesAdd target names) new = SourcesCome old target names new
 HasEffect old (command.SourcesRemove target names) new = SourcesGo old target names new
+HasEffect old (command.SourcesRename target was now) new = SourcesRenamed old target was now new
 HasEffect old (command.ExtraAdd target names) new = ExtrasCome old target names new
 HasEffect old (command.ExtraRemove target names) new = ExtrasGo old target names new
 HasEffect old (command.TargetRemove target) new = TargetGoes old target new

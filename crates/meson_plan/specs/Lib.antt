@@ -1,6 +1,7 @@
 pub mod Planning
 pub mod Performing
 pub mod Details
+pub mod Named
 pub mod Listing
 pub mod ListingLaws
 pub mod Effects

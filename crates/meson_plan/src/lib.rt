@@ -6,6 +6,7 @@ mod details;
 mod kept;
 pub mod laws;
 pub mod listing;
+mod named;
 mod order;
 mod planning;
 mod project;

@@ -8,10 +8,11 @@ ghost use Rattle.meson_keywords.specs.Changing.{request_steps};
 ghost use Rattle.meson_keywords.specs.Tasking.{asked, request_view};
 ghost use Rattle.meson_plan.specs.Listing.{asks};
 ghost use Rattle.meson_plan.specs.inside.Orders.{IsOrder, plan_steps, sought};
-ghost use Rattle.meson_sources.specs.Targeted.{target_steps};
+ghost use Rattle.meson_sources.specs.Targeted.{renamed_steps, target_steps};
 
 use meson_calls::{BorrowedName, CallName, Role};
 use meson_keywords::request::{AskedWords, Request};
+use meson_sources::renaming::Renaming;
 use meson_sources::targeting::TargetChange;
 use meson_sources::targeting::TargetChange::{
     ExtraAdded, ExtraRemoved, SourcesAdded, SourcesRemoved,
@@ -26,6 +27,8 @@ use meson_targets::target_adding::NewTarget;
 pub(crate) enum Plan<'c> {
     /// Names are added to a target or removed from it.
     OnTarget(BorrowedName<'c>, TargetChange, &'c Many<Text>),
+    /// Sources of a target get another name.
+    RenameSources(BorrowedName<'c>, Renaming<'c>),
     /// A target is added at the end of its file.
     AddTarget(NewTarget<'c>),
     /// A target is removed, with its statement.
@@ -39,6 +42,7 @@ impl<'c> Plan<'c> {
     {
         match self {
             Plan::OnTarget(target, _, _) => (Role::Target, target.id),
+            Plan::RenameSources(target, _) => (Role::Target, target.id),
             Plan::AddTarget(new) => (Role::Target, new.name.get()),
             Plan::RemoveTarget(target) => (Role::Target, target.id),
         }
@@ -59,6 +63,13 @@ fn on_target<'c>(target: &'c CallName, change: TargetChange, names: &'c Many<Tex
     ensures { (p : Project lex.Span) → plan_steps p result ≡ target_steps p target.entry.now change names.entry.now }
 {
     Plan::OnTarget(target.as_name(), change, names)
+}
+
+/// A renaming of sources.
+fn on_sources<'c>(target: &'c CallName, old: &'c Text, new: &'c Text) -> Plan<'c>
+    ensures { (p : Project lex.Span) → plan_steps p result ≡ renamed_steps p target.entry.now old.entry.now new.entry.now }
+{
+    Plan::RenameSources(target.as_name(), Renaming { old, new })
 }
 
 /// A change of a call.
@@ -97,6 +108,9 @@ pub(crate) fn order_of(command: &Command) -> Order<'_>
         }
         Command::SourcesRemove { target, sources } => {
             Order::Planned(on_target(target, SourcesRemoved, sources))
+        }
+        Command::SourcesRename { target, old, new } => {
+            Order::Planned(on_sources(target, old, new))
         }
         Command::ExtraAdd { target, sources } => {
             Order::Planned(on_target(target, ExtraAdded, sources))

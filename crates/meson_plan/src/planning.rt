@@ -20,6 +20,7 @@ use meson_calls::notes::notes_for;
 use meson_keywords::changing::changed;
 use meson_places::Sources;
 use meson_places::arguments::argument_steps;
+use meson_sources::renaming::on_sources;
 use meson_sources::targeting::on_target;
 use meson_splice::FileSet;
 use meson_steps::command::Command;
@@ -44,6 +45,7 @@ fn keep_for(
 {
     match plan {
         Plan::OnTarget(_, _, _) => keep(alloc, files, trees, kept),
+        Plan::RenameSources(_, _) => keep(alloc, files, trees, kept),
         _ => Ok(()),
     }
 }
@@ -90,6 +92,7 @@ fn steps_of(alloc: Global, noted: &Noted<'_>, plan: Plan<'_>) -> Result<Vec<List
 {
     match plan {
         Plan::OnTarget(target, change, names) => on_target(alloc, noted, target, change, names),
+        Plan::RenameSources(target, names) => on_sources(alloc, noted, target, names),
         Plan::AddTarget(new) => target_added(alloc, noted, new),
         Plan::RemoveTarget(target) => target_removed(alloc, noted, target),
     }

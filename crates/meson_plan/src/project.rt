@@ -8,25 +8,25 @@ ghost use Rattle.meson_calls.specs.Setters.{AreKept};
 ghost use Rattle.meson_calls.specs.Spelling.{AreNotesWith, sought_words};
 ghost use Rattle.meson_plan.specs.Listing.{asks};
 ghost use Rattle.meson_plan.specs.Performing.{MayRefuse, Performs};
-ghost use Rattle.meson_calls.specs.Roles.{targets, is_target, places};
-ghost use Rattle.meson_calls.specs.Naming.{found};
+ghost use Rattle.meson_calls.specs.Roles.{targets, is_target};
 ghost use Rattle.meson_calls.specs.Finding.{the_call};
 ghost use Rattle.meson_calls.specs.Refusals.{IfRefused, RefusedAs};
 ghost use Rattle.meson_calls.specs.Searching.{name_at};
 ghost use Rattle.meson_variables.specs.TargetSources.{sources};
 ghost use Rattle.meson_details.specs.Details.{head, is_call, keywords};
 ghost use Rattle.meson_plan.specs.Details.{AreDetails, NoTarget, place_found, target_place};
+ghost use Rattle.meson_plan.specs.Named.{places_named};
 ghost use Rattle.meson_sources.specs.Extras.{extra_files};
 
 use crate::details::{TargetDetails, details_at};
 use crate::kept::{forget_changed, keep};
+use crate::named::calls_named;
 use crate::planning::performed;
 use meson_calls::chosen_notes::with_role;
 use meson_calls::finding::the_call;
 use meson_calls::kept::Kept;
 use meson_calls::loading::{copy_trees, loaded};
 use meson_calls::looking::is_target;
-use meson_calls::naming::found;
 use meson_calls::note::Note;
 use meson_calls::noted::Noted;
 use meson_calls::notes::{notes_for, notes_of};
@@ -179,16 +179,23 @@ impl Project {
         Ok(calls)
     }
 
-    /// The calls that an id names, in file order and source order.
-    pub fn find(&self, alloc: Global, role: Role, id: &str) -> Result<Vec<CallRef>, Refusal>
-        ensures all { IfOk result (λ calls. calls.items ≡ places (found (project self.now) role id.now)) }
-        ensures refused { IfErr result (λ e. e ≡ Refusal.OutOfMemory) }
+    /// The calls that are named, in file order and source order.
+    ///
+    /// # Errors
+    /// The folder has no build file, or out of memory.
+    pub fn find(
+        &self,
+        alloc: Global,
+        role: Role,
+        name: BorrowedName<'_>,
+    ) -> Result<Vec<CallRef>, Refusal>
+        ensures all { IfOk result (λ calls. places_named (project self.now) role (name_at name.entry) ≡ Ok calls.items) }
+        ensures refused { RefusedAs result (places_named (project self.now) role (name_at name.entry)) }
     {
-        let taken = self.notes_for(alloc, role, id)?;
+        let taken = self.notes_for(alloc, role, name.id)?;
         let notes = taken.all(alloc)?;
         let noted = self.noted(notes.as_slice());
-        let calls = found(alloc, None, role, id, noted.notes)?;
-        Ok(calls)
+        calls_named(alloc, role, name, noted.files, noted.notes)
     }
 
     /// The one call that is named.

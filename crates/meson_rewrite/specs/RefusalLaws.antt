@@ -6,7 +6,7 @@ use Rattle.serde_json.specs.Find.{get}
 use Rattle.meson_calls.specs.Loading.{Loaded}
 use Rattle.meson_calls.specs.declared.refusal.Refusal.{Refusal}
 use Rattle.meson_steps.specs.declared.command.Command.{Command}
-use Rattle.meson_steps.specs.declared.command.Command.TheVariants.{SourcesAdd, SourcesRemove, ExtraAdd, ExtraRemove, TargetAdd, TargetRemove, TargetInfo, KwargsSet, KwargsAdd, KwargsRemove, KwargsDelete, KwargsInfo, OptionsSet, OptionsDelete, Argument, ArgumentInfo}
+use Rattle.meson_steps.specs.declared.command.Command.TheVariants.{SourcesAdd, SourcesRemove, SourcesRename, ExtraAdd, ExtraRemove, TargetAdd, TargetRemove, TargetInfo, KwargsSet, KwargsAdd, KwargsRemove, KwargsDelete, KwargsInfo, OptionsSet, OptionsDelete, Argument, ArgumentInfo}
 use Rattle.meson_rewrite.specs.Codes.{memory_code, stop_code}
 use Rattle.meson_rewrite.specs.Lines.{stop_text}
 use Rattle.meson_rewrite.specs.Refused.{stop_command, stop_entry, stop_members}
@@ -47,6 +47,7 @@ id_and (Some id) more = id ∷ more
 abbrev pub words_of : Command → List (List ℕ)
 words_of (SourcesAdd target sources) = target.id ∷ sources
 words_of (SourcesRemove target sources) = target.id ∷ sources
+words_of (SourcesRename target old new) = target.id ∷ old ∷ new ∷ []
 words_of (ExtraAdd target sources) = target.id ∷ sources
 words_of (ExtraRemove target sources) = target.id ∷ sources
 words_of (TargetAdd target kind subdir sources) = target ∷ subdir ∷ sources

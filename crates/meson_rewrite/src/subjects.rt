@@ -27,6 +27,7 @@ fn id_of(command: &Command) -> Option<&Text>
     match command {
         Command::SourcesAdd { target, .. }
         | Command::SourcesRemove { target, .. }
+        | Command::SourcesRename { target, .. }
         | Command::ExtraAdd { target, .. }
         | Command::ExtraRemove { target, .. }
         | Command::TargetRemove { target }

@@ -50,6 +50,7 @@ told-same p q s (command.ArgumentInfo name) = ap only (values-same p q name s.fi
 told-same p q s (command.KwargsInfo role id) = ap only (calls-same p q role id s.files s.trees)
 told-same p q s (command.SourcesAdd target sources) = refl
 told-same p q s (command.SourcesRemove target sources) = refl
+told-same p q s (command.SourcesRename target old new) = refl
 told-same p q s (command.ExtraAdd target sources) = refl
 told-same p q s (command.ExtraRemove target sources) = refl
 told-same p q s (command.TargetAdd target kind subdir sources) = refl

@@ -3,6 +3,7 @@ pub mod ExtraAdded
 pub mod KeyTexts
 pub mod SourcesAdded
 pub mod SourcesGone
+pub mod SourcesRenamed
 pub mod AllSources
 pub mod ShrunkFiles
 pub mod AllExtras
@@ -11,4 +12,5 @@ mod trees
 mod met
 mod gone
 mod added
+mod renamed
 mod commands

@@ -1,3 +1,4 @@
 pub mod Meant
 pub mod Targets
+pub mod Renamed
 pub mod Removals

@@ -1,4 +1,4 @@
--- What is there after sources or extra files are added or removed, as to the lists that get or lose them.
+-- What is there after sources or extra files are added or removed, or sources get another name, as to the lists that hold them.
 use Rattle.std.specs.Prelude.{◌≡◌, ℕ, Bool, true, false, not, ◌&&◌, nat_eq, List, [], ◌∷◌, ◌++◌, length, map, Option, Some, None, Ok, option_and_then, option_map}
 use Rattle.std.specs.List.{AllByRecursion, filter, list_any}
 use Rattle.meson_lex.specs.declared.kinds.Span.{Span}
@@ -17,8 +17,9 @@ use Rattle.meson_steps.specs.Names.{distinct}
 use Rattle.meson_steps.specs.ResultLimits.{plain_trees}
 use Rattle.meson_steps.specs.Steps.{Step, all_stepped}
 use Rattle.meson_steps.specs.WrittenTexts.{string_of}
+use Rattle.meson_sources.specs.Exchanged.{each_with}
 use Rattle.meson_sources.specs.Without.{each_without}
-use Rattle.meson_sources.specs.SourceEdits.{Spot, extra_added, extra_key, extra_marks, extra_removed, has_text, is_path, is_plain, new_names, sources_added, sources_removed, spots_named}
+use Rattle.meson_sources.specs.SourceEdits.{Spot, extra_added, extra_key, extra_marks, extra_removed, has_text, is_known, is_path, is_plain, items_of, new_names, sources_added, sources_removed, sources_renamed, spots_named}
 use Rattle.meson_calls.specs.declared.call.CallName.{CallName}
 
 -- the elements of the list at a place
@@ -154,3 +155,29 @@ ExtraIsRemoved = (old : Loaded) → IsProject old → (target : CallName) (c : P
     → (names : List (List ℕ)) (steps : List Step) (after : List Plain)
     → extra_removed (project old) c names ≡ Ok steps → all_stepped steps (plain_trees old) ≡ Some after
     → NamesGo (extra_marks (project old) c) names (plain_trees old) after
+
+-- ---- sources that get another name
+
+-- whether a place is one of these
+abbrev pub is_one_of : List CallRef → CallRef → Bool
+is_one_of places c = list_any (λ q. nat_eq q.file c.file && is_path q.path.steps c.path.steps) places
+
+-- the trees with the expression in each of these places, and all else as it was
+abbrev pub trees_with : Expression Nowhere → List CallRef → List Plain → List Plain
+trees_with w places trees = each_with w (λ file path. is_one_of places (place file path)) trees
+
+-- where the items of a name stand
+abbrev pub places_named : List ℕ → List (Mark Span) → List CallRef
+places_named name marks = map (λ i. i.place) (items_of name marks)
+
+-- No item had the new name. In the place of each item of the old one is a string of the new one, and all else is as it was: so each list has as many elements.
+pub record NameChanges (marks : List (Mark Span)) (old new : List ℕ) (before after : List Plain) : Type 0 where
+  pub fresh : is_known marks new ≡ false
+  pub now : after ≡ trees_with (string_of new) (places_named old marks) before
+
+-- the law: each source of the target that has the old name has the new one, in its place
+abbrev pub SourcesAreRenamed : Type 0
+SourcesAreRenamed = (l : Loaded) → IsProject l → (target : CallName) (c : Placed (Call Span)) → the_call (project l) role.Target target ≡ Ok c
+    → (old new : List ℕ) (steps : List Step) (after : List Plain)
+    → sources_renamed (project l) c old new ≡ Ok steps → all_stepped steps (plain_trees l) ≡ Some after
+    → NameChanges (source_marks (project l) c) old new (plain_trees l) after

@@ -2,6 +2,7 @@ pub mod SourceEdits
 pub mod Extras
 pub mod Targeted
 pub mod Without
+pub mod Exchanged
 pub mod Effects
 pub mod MetOnce
 pub mod WholeSources

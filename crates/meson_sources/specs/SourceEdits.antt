@@ -1,16 +1,16 @@
 -- Sources added to a target and removed from it, and the same for its extra files. Meson manual, Rewriter: `target add`, `target rm`, `target add_extra_files`,
--- `target rm_extra_files`.
-use Rattle.std.specs.Prelude.{ℕ, zero, suc, ◌-◌, Bool, true, false, not, ◌&&◌, nat_eq, nat_lt, List, [], ◌∷◌, ◌++◌, length, codes, bytes_eq, Option, Some, None, ok_or, option_map, option_and_then, Result, Ok, Err}
+-- `target rm_extra_files`. And sources that get another name.
+use Rattle.std.specs.Prelude.{ℕ, zero, suc, ◌-◌, Bool, true, false, not, ◌&&◌, nat_eq, nat_lt, List, [], ◌∷◌, ◌++◌, length, map, codes, bytes_eq, if◌then◌else◌, Option, Some, None, ok_or, option_map, option_and_then, Result, Ok, Err}
 use Rattle.std.specs.List.{count_by, filter, list_any}
 use Rattle.std.specs.Option.{option_map_or}
 use Rattle.meson_lex.specs.Literals.{literal}
 use Rattle.meson_splice.specs.Patch.{then_ok}
 use Rattle.meson_syntax.specs.Tree.{bare_name, Nowhere, Expression, array, listing, Argument, plain, named, arguments_of}
 use Rattle.meson_syntax.specs.Paths.{list_in}
-use Rattle.meson_edit.specs.Edits.{Written, First, After, Remove, Wrap, elements}
+use Rattle.meson_edit.specs.Edits.{Written, First, After, Remove, Replace, Wrap, elements}
 use Rattle.meson_calls.specs.declared.call.CallRef.{CallRef}
 use Rattle.meson_calls.specs.declared.refusal.Refusal.{Refusal}
-use Rattle.meson_calls.specs.declared.refusal.Refusal.TheVariants.{NotLiteral, SourceNotFound, Unresolved, NotRemovable}
+use Rattle.meson_calls.specs.declared.refusal.Refusal.TheVariants.{NotLiteral, SourceNotFound, ThereAlready, Unresolved, NotRemovable}
 use Rattle.meson_calls.specs.Project.{Project, Placed, child, place, expression_at}
 use Rattle.meson_calls.specs.Calls.{Call, Numbered, keyword}
 use Rattle.meson_calls.specs.Calls as calls
@@ -18,7 +18,7 @@ use Rattle.meson_variables.specs.Expansion.{Slot, in_list, fixed, Item, Mark}
 use Rattle.meson_calls.specs.NamedArguments.{sources_key, kwargs_key, once, not_hidden}
 use Rattle.meson_variables.specs.TargetSources.{expand_arguments, source_marks, items, opaque_count, first_list, first_empty, or_option, home}
 use Rattle.meson_steps.specs.Names.{checked_names, distinct}
-use Rattle.meson_steps.specs.WrittenTexts.{string_of}
+use Rattle.meson_steps.specs.WrittenTexts.{string_of, written_text}
 use Rattle.meson_steps.specs.Steps.{Step, step_in}
 
 abbrev pub extra_key : List ℕ
@@ -132,6 +132,17 @@ removal_steps spots = removals_after [] spots
 abbrev pub removed_at : Result (List Spot) Refusal → Result (List Step) Refusal
 removed_at found = then_ok found (λ spots. Ok (removal_steps spots))
 
+-- ---- renaming
+
+-- a name in the place of the string at a spot
+abbrev pub renaming : List ℕ → Spot → Step
+renaming name s = step_in s.list (Replace s.list.path.steps s.number (written_text name))
+
+-- the steps that give all items of a name another one, which none may have
+abbrev pub renamed_at : {S : Type 0} → List (Mark S) → (old new : List ℕ) → Result (List Step) Refusal
+renamed_at marks old new =
+    then_ok (spots_named marks (old ∷ [])) (λ spots. if is_known marks new then Err ThereAlready else Ok (map (renaming new) spots))
+
 -- ---- sources
 
 abbrev pub sources_added : {S : Type 0} → Project S → Placed (Call S) → List (List ℕ) → Result (List Step) Refusal
@@ -143,6 +154,11 @@ abbrev pub sources_removed : {S : Type 0} → Project S → Placed (Call S) → 
 sources_removed p c names =
     then_ok (checked_names names) (λ _. then_ok (once sources_key (keyword sources_key c.it) (source_marks p c))
     (λ marks. removed_at (spots_named marks (distinct names))))
+
+-- each source of one name gets another one in its place
+abbrev pub sources_renamed : {S : Type 0} → Project S → Placed (Call S) → (old new : List ℕ) → Result (List Step) Refusal
+sources_renamed p c old new =
+    then_ok (checked_names (old ∷ new ∷ [])) (λ _. then_ok (once sources_key (keyword sources_key c.it) (source_marks p c)) (λ marks. renamed_at marks old new))
 
 -- ---- extra files
 

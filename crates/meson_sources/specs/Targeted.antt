@@ -10,7 +10,7 @@ use Rattle.meson_calls.specs.declared.call.Role.TheVariants as role
 use Rattle.meson_calls.specs.Project.{Project, Placed}
 use Rattle.meson_calls.specs.Finding.{the_call}
 use Rattle.meson_steps.specs.Steps.{Step}
-use Rattle.meson_sources.specs.SourceEdits.{sources_added, sources_removed, extra_added, extra_removed}
+use Rattle.meson_sources.specs.SourceEdits.{sources_added, sources_removed, sources_renamed, extra_added, extra_removed}
 
 -- the steps that a change of a target means
 abbrev pub change_steps : {S : Type 0} → Project S → TargetChange → List (List ℕ) → Placed (Call S) → Result (List Step) Refusal
@@ -21,3 +21,7 @@ change_steps p ExtraRemoved names c = extra_removed p c names
 
 abbrev pub target_steps : {S : Type 0} → Project S → CallName → TargetChange → List (List ℕ) → Result (List Step) Refusal
 target_steps p target change names = then_ok (the_call p role.Target target) (change_steps p change names)
+
+-- the steps that rename the sources of a target
+abbrev pub renamed_steps : {S : Type 0} → Project S → CallName → (old new : List ℕ) → Result (List Step) Refusal
+renamed_steps p target old new = then_ok (the_call p role.Target target) (λ c. sources_renamed p c old new)

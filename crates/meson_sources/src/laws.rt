@@ -1,6 +1,6 @@
 //! Laws of sources. The functions do nothing: what they ensure is the law.
 
-ghost use Rattle.meson_sources.specs.Effects.{ExtraIsAdded, ExtraIsRemoved, SourcesAreAdded, SourcesAreRemoved};
+ghost use Rattle.meson_sources.specs.Effects.{ExtraIsAdded, ExtraIsRemoved, SourcesAreAdded, SourcesAreRemoved, SourcesAreRenamed};
 ghost use Rattle.meson_sources.specs.InTurn.{ExtrasGoInTurn, SourcesGoInTurn};
 ghost use Rattle.meson_sources.specs.MetOnce.{ItemsAreMetOnce};
 ghost use Rattle.meson_sources.specs.WholeExtras.{AllExtrasGrow, AllExtrasShrink};
@@ -37,6 +37,12 @@ pub fn sources_are_removed()
 /// The same for the extra files of a target.
 pub fn extra_is_removed()
     ensures { ExtraIsRemoved }
+{}
+
+/// After sources are renamed the trees are those before, but that a string of the new name is in the place of each source of the old one. So each list has as
+/// many elements as before. No source had the new name.
+pub fn sources_are_renamed()
+    ensures { SourcesAreRenamed }
 {}
 
 /// After a removal the id of the target names one target, by a call of the same function. All its sources, in whatever list they are, are those that it had, in

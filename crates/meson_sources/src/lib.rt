@@ -1,4 +1,4 @@
-//! Sources and extra files added to a target and removed from it.
+//! Sources and extra files added to a target and removed from it, and sources renamed.
 #![tactic(auto)]
 
 mod editing;
@@ -7,4 +7,5 @@ pub mod extra_files;
 mod inserting;
 pub mod laws;
 mod removing;
+pub mod renaming;
 pub mod targeting;

@@ -49,6 +49,8 @@ pub enum ValueChange {
     SetAll(Many<Given>),
     /// Those of these values that it does not have yet are added to its last list.
     Add(Many<Given>),
+    /// Those of these values that it does not have yet are added after the first element of its lists that says a value.
+    AddAfter { after: Given, values: Many<Given> },
     /// What says one of these values is removed: elements of its lists, or all of it.
     Remove(Many<Given>),
     /// What says the old value becomes the new one: elements of its lists, or all of it.
@@ -86,6 +88,10 @@ impl Drop for ValueChange {
             ValueChange::Set(_) => {}
             ValueChange::SetAll(_) => {}
             ValueChange::Add(_) => {}
+            ValueChange::AddAfter {
+                after: _,
+                values: _,
+            } => {}
             ValueChange::Remove(_) => {}
             ValueChange::Replace { old: _, new: _ } => {}
             ValueChange::Delete => {}

@@ -23,6 +23,12 @@ pub enum Command {
         target: CallName,
         sources: Many<Text>,
     },
+    /// Each source of the old name gets the new one, in its place.
+    SourcesRename {
+        target: CallName,
+        old: Text,
+        new: Text,
+    },
     ExtraAdd {
         target: CallName,
         sources: Many<Text>,
@@ -106,6 +112,11 @@ impl Drop for Command {
                 target: _,
                 sources: _,
             } => {}
+            Command::SourcesRename {
+                target: _,
+                old: _,
+                new: _,
+            } => {}
             Command::ExtraAdd {
                 target: _,
                 sources: _,
@@ -168,6 +179,7 @@ impl Command {
         match self {
             Command::SourcesAdd { .. } => "SourcesAdd",
             Command::SourcesRemove { .. } => "SourcesRemove",
+            Command::SourcesRename { .. } => "SourcesRename",
             Command::ExtraAdd { .. } => "ExtraAdd",
             Command::ExtraRemove { .. } => "ExtraRemove",
             Command::TargetAdd { .. } => "TargetAdd",
@@ -195,6 +207,9 @@ impl fmt::Debug for Command {
             | Command::SourcesRemove { target, sources }
             | Command::ExtraAdd { target, sources }
             | Command::ExtraRemove { target, sources } => shown.field(target).field(sources),
+            Command::SourcesRename { target, old, new } => {
+                shown.field(target).field(old).field(new)
+            }
             Command::TargetAdd {
                 target,
                 target_kind,

@@ -72,7 +72,7 @@ fn help_tells_words_and_an_example(rt: HostRuntime) {
         ),
         (
             "T arg --help",
-            "Usage: meson_rewrite arg <OPERATION> <FUNCTION> <ID> [KEY] [VALUE]...",
+            "Usage: meson_rewrite arg [OPTIONS] <OPERATION> <FUNCTION> <ID> [KEY] [VALUE]...",
         ),
         (
             "T default-options --help",

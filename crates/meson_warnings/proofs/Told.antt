@@ -70,15 +70,15 @@ each_distinct names = All-distinct (Contains names) [] names (All-contains_itsel
 
 -- ---- names that no build file sets
 
-module _ (l : Loaded) (r : Role) (id : List ℕ) (names : List (List ℕ)) (known : setters_known l ≡ true) where
+module _ (l : Loaded) (r : Role) (meant : CallName) (names : List (List ℕ)) (known : setters_known l ≡ true) where
   abbrev setters : List HeldCall
   setters = calls_held l (codes "set_variable")
 
   abbrev named : List HeldCall
-  named = calls_named l r id
+  named = calls_named l r meant
 
   unset_said : (x : List ℕ) → Contains names x → is_set setters (notes (project l)) x ≡ false → (c : HeldCall) → Contains named c
-      → IsUnset l r id names (call_note (unset_words x) c)
+      → IsUnset l r meant names (call_note (unset_words x) c)
   unset_said x written unset c called =
       let parts = or_parts (list_any (λ n. assigns x n.it) (notes (project l))) (names_one x setters) unset in
       record {
@@ -92,30 +92,30 @@ module _ (l : Loaded) (r : Role) (id : List ℕ) (names : List (List ℕ)) (know
         is_said = refl;
       }
 
-  unset_of : (x : List ℕ) → Contains names x → All (IsUnset l r id names) (unset_note named setters (notes (project l)) x)
+  unset_of : (x : List ℕ) → Contains names x → All (IsUnset l r meant names) (unset_note named setters (notes (project l)) x)
   unset_of x written = go (is_set setters (notes (project l)) x) refl
     where
-      go : (b : Bool) → is_set setters (notes (project l)) x ≡ b → All (IsUnset l r id names) (if b then [] else map (call_note (unset_words x)) named)
-      go true is = All-nil (IsUnset l r id names)
+      go : (b : Bool) → is_set setters (notes (project l)) x ≡ b → All (IsUnset l r meant names) (if b then [] else map (call_note (unset_words x)) named)
+      go true is = All-nil (IsUnset l r meant names)
       go false is =
-          All-map (IsUnset l r id names) (call_note (unset_words x)) named
-          (All-weaker (Contains named) (λ c. IsUnset l r id names (call_note (unset_words x) c)) (unset_said x written is) named (All-contains_itself named))
+          All-map (IsUnset l r meant names) (call_note (unset_words x)) named
+          (All-weaker (Contains named) (λ c. IsUnset l r meant names (call_note (unset_words x) c)) (unset_said x written is) named (All-contains_itself named))
 
-  pub unset_at_all : All (IsUnset l r id names) (unset_at l r id (take 100 (distinct names)))
+  pub unset_at_all : All (IsUnset l r meant names) (unset_at l r meant (take 100 (distinct names)))
   unset_at_all =
-      All-made (IsUnset l r id names) (unset_note named setters (notes (project l))) (Contains names) (take 100 (distinct names))
+      All-made (IsUnset l r meant names) (unset_note named setters (notes (project l))) (Contains names) (take 100 (distinct names))
       (All-take (Contains names) 100 (distinct names) (each_distinct names)) unset_of
 
-unset_among_are : (l : Loaded) (r : Role) (id : List ℕ) (names : List (List ℕ)) → All (IsUnset l r id names) (unset_among l r id names)
-unset_among_are l r id [] = All-nil (IsUnset l r id [])
-unset_among_are l r id (x ∷ more) = go (setters_known l) refl
+unset_among_are : (l : Loaded) (r : Role) (meant : CallName) (names : List (List ℕ)) → All (IsUnset l r meant names) (unset_among l r meant names)
+unset_among_are l r meant [] = All-nil (IsUnset l r meant [])
+unset_among_are l r meant (x ∷ more) = go (setters_known l) refl
   where
-    go : (b : Bool) → setters_known l ≡ b → All (IsUnset l r id (x ∷ more)) (if b then unset_at l r id (take 100 (distinct (x ∷ more))) else [])
-    go true known = unset_at_all l r id (x ∷ more) known
-    go false known = All-nil (IsUnset l r id (x ∷ more))
+    go : (b : Bool) → setters_known l ≡ b → All (IsUnset l r meant (x ∷ more)) (if b then unset_at l r meant (take 100 (distinct (x ∷ more))) else [])
+    go true known = unset_at_all l r meant (x ∷ more) known
+    go false known = All-nil (IsUnset l r meant (x ∷ more))
 
 pub unset_are_unset : UnsetAreUnset
-unset_are_unset l r id pairs = unset_among_are l r id (flat_map (names_in r) pairs)
+unset_are_unset l r meant pairs = unset_among_are l r meant (flat_map (names_in r) pairs)
 
 -- ---- a few notes, and a number
 
@@ -137,12 +137,12 @@ module _ (P : Note → Type 0) where
 
 -- ---- other targets
 
-module _ (l : Loaded) (id : List ℕ) (variables : List (List ℕ)) where
+module _ (l : Loaded) (meant : CallName) (variables : List (List ℕ)) where
   abbrev IsRead : Spot → Type 0
   IsRead s = (x : List ℕ) × Contains variables x × Contains (reads l x) s
 
   abbrev named_targets : List HeldCall
-  named_targets = calls_named l role.Target id
+  named_targets = calls_named l role.Target meant
 
   all_read : All IsRead (flat_map (reads l) (distinct variables))
   all_read =
@@ -151,7 +151,7 @@ module _ (l : Loaded) (id : List ℕ) (variables : List (List ℕ)) where
 
   module _ (spots : List Spot) (all : All IsRead spots) where
     sharer_said : (c : HeldCall) → Contains (targets_held l) c → is_sharer named_targets spots c ≡ true
-        → IsSharer l id variables (call_note (codes ": it uses the list that is changed too") c)
+        → IsSharer l meant variables (call_note (codes ": it uses the list that is changed too") c)
     sharer_said c target is =
         let parts = and_parts (reads_one spots c) (not (list_any (λ n. is_same n c) named_targets)) is in
         let found = one_passes (λ s. is_inside c s) IsRead spots parts.0 all in
@@ -167,37 +167,37 @@ module _ (l : Loaded) (id : List ℕ) (variables : List (List ℕ)) where
           is_said = refl;
         }
 
-    sharers_of : (c : HeldCall) → Contains (targets_held l) c → All (IsSharer l id variables) (sharer_notes named_targets spots c)
+    sharers_of : (c : HeldCall) → Contains (targets_held l) c → All (IsSharer l meant variables) (sharer_notes named_targets spots c)
     sharers_of c target = go (is_sharer named_targets spots c) refl
       where
         go : (b : Bool) → is_sharer named_targets spots c ≡ b
-            → All (IsSharer l id variables) (if b then call_note (codes ": it uses the list that is changed too") c ∷ [] else [])
-        go true is = All-cons (IsSharer l id variables) (call_note (codes ": it uses the list that is changed too") c) [] (sharer_said c target is) (All-nil (IsSharer l id variables))
-        go false is = All-nil (IsSharer l id variables)
+            → All (IsSharer l meant variables) (if b then call_note (codes ": it uses the list that is changed too") c ∷ [] else [])
+        go true is = All-cons (IsSharer l meant variables) (call_note (codes ": it uses the list that is changed too") c) [] (sharer_said c target is) (All-nil (IsSharer l meant variables))
+        go false is = All-nil (IsSharer l meant variables)
 
-    sharers_at_are : All (λ n. IsSharer l id variables n ⊎ IsCount n) (sharers_at l id spots)
+    sharers_at_are : All (λ n. IsSharer l meant variables n ⊎ IsCount n) (sharers_at l meant spots)
     sharers_at_are =
         let targets = take 5000 (targets_held l) in
-        few_are (IsSharer l id variables) (codes "further targets that use the list that is changed")
+        few_are (IsSharer l meant variables) (codes "further targets that use the list that is changed")
         (flat_map (sharer_notes named_targets spots) targets)
-        (All-made (IsSharer l id variables) (sharer_notes named_targets spots) (Contains (targets_held l)) targets
+        (All-made (IsSharer l meant variables) (sharer_notes named_targets spots) (Contains (targets_held l)) targets
         (All-take (Contains (targets_held l)) 5000 (targets_held l) (All-contains_itself (targets_held l))) sharers_of)
 
 pub sharers_read : SharersRead
-sharers_read l id [] = All-nil (λ n. IsSharer l id [] n ⊎ IsCount n)
-sharers_read l id (x ∷ more) =
+sharers_read l meant [] = All-nil (λ n. IsSharer l meant [] n ⊎ IsCount n)
+sharers_read l meant (x ∷ more) =
     let spots = flat_map (reads l) (distinct (x ∷ more)) in
-    sharers_at_are l id (x ∷ more) (take 5000 spots) (All-take (IsRead l id (x ∷ more)) 5000 spots (all_read l id (x ∷ more)))
+    sharers_at_are l meant (x ∷ more) (take 5000 spots) (All-take (IsRead l meant (x ∷ more)) 5000 spots (all_read l meant (x ∷ more)))
 
 -- ---- variables that are left
 
-module _ (l : Loaded) (id : CallName) (known : readers_known l ≡ true) where
+module _ (l : Loaded) (meant : CallName) (known : readers_known l ≡ true) where
   abbrev removed : List HeldCall
-  removed = calls_named l role.Target id.id
+  removed = calls_named l role.Target meant
 
-  module _ (x : List ℕ) (its : Contains (variables_at l id) x) (unread : is_read_outside removed (readers l) x (reads l x) ≡ false) where
+  module _ (x : List ℕ) (its : Contains (variables_at l meant) x) (unread : is_read_outside removed (readers l) x (reads l x) ≡ false) where
     left_said : (n : Placed (read.Note Span)) → Contains (notes (project l)) n → (y : List ℕ) (sets : Bool) (e : Expression Span)
-        → n.it ≡ an_assignment y sets e → y ≡ x → IsLeft l id (left_note x n.place.file e)
+        → n.it ≡ an_assignment y sets e → y ≡ x → IsLeft l meant (left_note x n.place.file e)
     left_said n at y sets e is same =
         let parts = or_parts (list_any (λ s. not (is_in_one removed s)) (reads l x)) (names_one x (readers l)) unread in
         record {
@@ -217,37 +217,37 @@ module _ (l : Loaded) (id : CallName) (known : readers_known l ≡ true) where
         }
 
     left_by_is : (n : Placed (read.Note Span)) → Contains (notes (project l)) n → (it : read.Note Span) → n.it ≡ it
-        → All (IsLeft l id) (left_by x n.place.file it)
-    left_by_is n at (a_call c) is = All-nil (IsLeft l id)
-    left_by_is n at (a_loop xs) is = All-nil (IsLeft l id)
+        → All (IsLeft l meant) (left_by x n.place.file it)
+    left_by_is n at (a_call c) is = All-nil (IsLeft l meant)
+    left_by_is n at (a_loop xs) is = All-nil (IsLeft l meant)
     left_by_is n at (an_assignment y sets e) is = go (bytes_eq y x) refl
       where
-        go : (b : Bool) → bytes_eq y x ≡ b → All (IsLeft l id) (if b then left_note x n.place.file e ∷ [] else [])
-        go true same = All-cons (IsLeft l id) (left_note x n.place.file e) [] (left_said n at y sets e is ((bytes_eq-Decides y x).0 same)) (All-nil (IsLeft l id))
-        go false same = All-nil (IsLeft l id)
+        go : (b : Bool) → bytes_eq y x ≡ b → All (IsLeft l meant) (if b then left_note x n.place.file e ∷ [] else [])
+        go true same = All-cons (IsLeft l meant) (left_note x n.place.file e) [] (left_said n at y sets e is ((bytes_eq-Decides y x).0 same)) (All-nil (IsLeft l meant))
+        go false same = All-nil (IsLeft l meant)
 
-    left_in_are : All (IsLeft l id) (left_in x (notes (project l)))
+    left_in_are : All (IsLeft l meant) (left_in x (notes (project l)))
     left_in_are =
-        All-made (IsLeft l id) (λ n. left_by x n.place.file n.it) (Contains (notes (project l))) (notes (project l)) (All-contains_itself (notes (project l)))
+        All-made (IsLeft l meant) (λ n. left_by x n.place.file n.it) (Contains (notes (project l))) (notes (project l)) (All-contains_itself (notes (project l)))
         (λ n at. left_by_is n at n.it refl)
 
-  left_of_are : (x : List ℕ) → Contains (variables_at l id) x → All (IsLeft l id) (left_of removed (readers l) (notes (project l)) x (reads l x))
+  left_of_are : (x : List ℕ) → Contains (variables_at l meant) x → All (IsLeft l meant) (left_of removed (readers l) (notes (project l)) x (reads l x))
   left_of_are x its = go (is_read_outside removed (readers l) x (reads l x)) refl
     where
-      go : (b : Bool) → is_read_outside removed (readers l) x (reads l x) ≡ b → All (IsLeft l id) (if b then [] else left_in x (notes (project l)))
-      go true is = All-nil (IsLeft l id)
+      go : (b : Bool) → is_read_outside removed (readers l) x (reads l x) ≡ b → All (IsLeft l meant) (if b then [] else left_in x (notes (project l)))
+      go true is = All-nil (IsLeft l meant)
       go false is = left_in_are x its is
 
-  pub few_left_are : All (λ n. IsLeft l id n ⊎ IsCount n) (few_left (all_left l id))
+  pub few_left_are : All (λ n. IsLeft l meant n ⊎ IsCount n) (few_left (all_left l meant))
   few_left_are =
-      let xs = distinct (variables_at l id) in
-      few_are (IsLeft l id) (codes "further assignments to variables that nothing reads then") (all_left l id)
-      (All-made (IsLeft l id) (λ x. left_of removed (readers l) (notes (project l)) x (reads l x)) (Contains (variables_at l id)) xs
-      (each_distinct (variables_at l id)) left_of_are)
+      let xs = distinct (variables_at l meant) in
+      few_are (IsLeft l meant) (codes "further assignments to variables that nothing reads then") (all_left l meant)
+      (All-made (IsLeft l meant) (λ x. left_of removed (readers l) (notes (project l)) x (reads l x)) (Contains (variables_at l meant)) xs
+      (each_distinct (variables_at l meant)) left_of_are)
 
 pub left_are_unread : LeftAreUnread
-left_are_unread l id = go (readers_known l) refl
+left_are_unread l meant = go (readers_known l) refl
   where
-    go : (b : Bool) → readers_known l ≡ b → All (λ n. IsLeft l id n ⊎ IsCount n) (if b then few_left (all_left l id) else [])
-    go true known = few_left_are l id known
-    go false known = All-nil (λ n. IsLeft l id n ⊎ IsCount n)
+    go : (b : Bool) → readers_known l ≡ b → All (λ n. IsLeft l meant n ⊎ IsCount n) (if b then few_left (all_left l meant) else [])
+    go true known = few_left_are l meant known
+    go false known = All-nil (λ n. IsLeft l meant n ⊎ IsCount n)

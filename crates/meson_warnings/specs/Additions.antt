@@ -39,4 +39,4 @@ goes_into_call l name names = into_at l names (the_call (project l) role.Target 
 abbrev pub into_call : Loaded → CallName → List (List ℕ) → List Note
 into_call l name names =
     if goes_into_call l name names then map (call_note (codes ": the new source is added to this call, since some of its sources are not known"))
-    (calls_named l role.Target name.id) else []
+    (calls_named l role.Target name) else []

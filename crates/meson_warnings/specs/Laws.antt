@@ -24,27 +24,27 @@ use Rattle.meson_calls.specs.declared.call.CallName.{CallName}
 
 -- ---- names that no build file sets
 
-pub record IsUnset (l : Loaded) (r : Role) (id : List ℕ) (names : List (List ℕ)) (n : Note) : Type 0 where
+pub record IsUnset (l : Loaded) (r : Role) (target : CallName) (names : List (List ℕ)) (n : Note) : Type 0 where
   pub name : List ℕ
   pub is_written : Contains names name
   pub all_known : setters_known l ≡ true
   pub not_assigned : All (λ m. assigns name m.it ≡ false) (notes (project l))
   pub not_named : names_one name (calls_held l (codes "set_variable")) ≡ false
   pub call : HeldCall
-  pub is_called : Contains (calls_named l r id) call
+  pub is_called : Contains (calls_named l r target) call
   pub is_said : n ≡ call_note (unset_words name) call
 
 -- the law: of a name that is said to be unset, nothing that sets a variable is in the project
 abbrev pub UnsetAreUnset : Type 0
-UnsetAreUnset = (l : Loaded) (r : Role) (id : List ℕ) (pairs : List (List ℕ × Setting))
-    → All (IsUnset l r id (flat_map (names_in r) pairs)) (unset_names l r id pairs)
+UnsetAreUnset = (l : Loaded) (r : Role) (target : CallName) (pairs : List (List ℕ × Setting))
+    → All (IsUnset l r target (flat_map (names_in r) pairs)) (unset_names l r target pairs)
 
 -- ---- other targets
 
-pub record IsSharer (l : Loaded) (id : List ℕ) (variables : List (List ℕ)) (n : Note) : Type 0 where
+pub record IsSharer (l : Loaded) (target : CallName) (variables : List (List ℕ)) (n : Note) : Type 0 where
   pub call : HeldCall
   pub is_target : Contains (targets_held l) call
-  pub is_other : All (λ c. is_same c call ≡ false) (calls_named l role.Target id)
+  pub is_other : All (λ c. is_same c call ≡ false) (calls_named l role.Target target)
   pub spot : Spot
   pub is_inside : is_inside call spot ≡ true
   pub variable : List ℕ
@@ -59,7 +59,7 @@ pub record IsCount (n : Note) : Type 0 where
 
 -- the law: the targets that are said to use a list too are other ones, and each reads one of the variables in its call
 abbrev pub SharersRead : Type 0
-SharersRead = (l : Loaded) (id : List ℕ) (variables : List (List ℕ)) → All (λ n. IsSharer l id variables n ⊎ IsCount n) (sharers l id variables)
+SharersRead = (l : Loaded) (target : CallName) (variables : List (List ℕ)) → All (λ n. IsSharer l target variables n ⊎ IsCount n) (sharers l target variables)
 
 -- ---- variables that are left
 
@@ -67,7 +67,7 @@ pub record IsLeft (l : Loaded) (target : CallName) (n : Note) : Type 0 where
   pub variable : List ℕ
   pub is_its : Contains (variables_at l target) variable
   pub all_known : readers_known l ≡ true
-  pub not_read : All (λ s. is_in_one (calls_named l role.Target target.id) s ≡ true) (reads l variable)
+  pub not_read : All (λ s. is_in_one (calls_named l role.Target target) s ≡ true) (reads l variable)
   pub not_named : names_one variable (readers l) ≡ false
   pub set : Placed (read.Note Span)
   pub is_there : Contains (notes (project l)) set

@@ -76,7 +76,7 @@ abbrev pub left_named : Loaded → List HeldCall → List HeldCall → List (Lis
 left_named l calls by_name xs = flat_map (λ x. left_of calls by_name (notes (project l)) x (reads l x)) xs
 
 abbrev pub all_left : Loaded → CallName → List Note
-all_left l target = left_named l (calls_named l role.Target target.id) (readers l) (distinct (variables_at l target))
+all_left l target = left_named l (calls_named l role.Target target) (readers l) (distinct (variables_at l target))
 
 abbrev pub left_variables : Loaded → CallName → List Note
 left_variables l target = if readers_known l then few_left (all_left l target) else []

@@ -1,4 +1,4 @@
--- Other targets that use a list that `target add` or `target rm` changes.
+-- Other targets that use a list that `target add`, `rm` or `rename` changes.
 use Rattle.std.specs.Prelude.{ℕ, ◌-◌, ◌==◌, Bool, not, ◌&&◌, if◌then◌else◌, List, [], ◌∷◌, ◌++◌, codes, find, flat_map, is_some, length, option_to_list, take}
 use Rattle.std.specs.Prelude.{Option, Some, None}
 use Rattle.std.specs.List.{list_any}
@@ -48,7 +48,7 @@ is_same a b = (a.file == b.file) && (a.head.at == b.head.at)
 abbrev pub reads_one : List Spot → HeldCall → Bool
 reads_one spots c = list_any (λ s. is_inside c s) spots
 
--- another call than those that the id names
+-- another call than those that are named
 abbrev pub is_sharer : List HeldCall → List Spot → HeldCall → Bool
 is_sharer named spots c = reads_one spots c && not (list_any (λ n. is_same n c) named)
 
@@ -60,16 +60,16 @@ abbrev pub few_sharers : List Note → List Note
 few_sharers notes = take 5 notes ++ further (codes "further targets that use the list that is changed") (length notes - 5)
 
 -- among the first 5,000 targets, of which the named one is left out
-abbrev pub sharers_at : Loaded → List ℕ → List Spot → List Note
-sharers_at l id spots = few_sharers (flat_map (sharer_notes (calls_named l role.Target id) spots) (take 5000 (targets_held l)))
+abbrev pub sharers_at : Loaded → CallName → List Spot → List Note
+sharers_at l target spots = few_sharers (flat_map (sharer_notes (calls_named l role.Target target) spots) (take 5000 (targets_held l)))
 
 -- by the first 5,000 places where one of the variables is read
-abbrev pub sharers : Loaded → List ℕ → List (List ℕ) → List Note
-sharers l id [] = []
-sharers l id (x ∷ more) = sharers_at l id (take 5000 (flat_map (reads l) (distinct (x ∷ more))))
+abbrev pub sharers : Loaded → CallName → List (List ℕ) → List Note
+sharers l target [] = []
+sharers l target (x ∷ more) = sharers_at l target (take 5000 (flat_map (reads l) (distinct (x ∷ more))))
 
 abbrev pub shared_by_adding : Loaded → CallName → List (List ℕ) → List Note
-shared_by_adding l target names = sharers l target.id (grown (sources_at l target) names)
+shared_by_adding l target names = sharers l target (grown (sources_at l target) names)
 
 abbrev pub shared_by_removing : Loaded → CallName → List (List ℕ) → List Note
-shared_by_removing l target names = sharers l target.id (shrunk (sources_at l target) names)
+shared_by_removing l target names = sharers l target (shrunk (sources_at l target) names)

@@ -2,6 +2,7 @@
 use Rattle.std.specs.Prelude.{ℕ, Bool, false, ◌||◌, if◌then◌else◌, List, [], ◌∷◌, ◌++◌, bytes_eq, codes, flat_map, map, take}
 use Rattle.std.specs.List.{list_any}
 use Rattle.meson_lex.specs.declared.kinds.Span.{Span}
+use Rattle.meson_calls.specs.declared.call.CallName.{CallName}
 use Rattle.meson_calls.specs.declared.call.Role.{Role}
 use Rattle.meson_calls.specs.Keys.{identifier_list_keys}
 use Rattle.meson_calls.specs.Loading.{Loaded, project}
@@ -43,7 +44,7 @@ is_assigned x ns = list_any (λ n. assigns x n.it) ns
 abbrev pub is_set : List HeldCall → List (Placed (read.Note Span)) → List ℕ → Bool
 is_set setters ns x = is_assigned x ns || names_one x setters
 
--- ---- at the calls that the id names
+-- ---- at the calls that are named
 
 abbrev pub unset_words : List ℕ → List ℕ
 unset_words x = codes ": " ++ (x ++ codes " is written here, and no build file sets it")
@@ -51,13 +52,13 @@ unset_words x = codes ": " ++ (x ++ codes " is written here, and no build file s
 abbrev pub unset_note : List HeldCall → List HeldCall → List (Placed (read.Note Span)) → List ℕ → List Note
 unset_note named setters ns x = if is_set setters ns x then [] else map (call_note (unset_words x)) named
 
-abbrev pub unset_at : Loaded → Role → List ℕ → List (List ℕ) → List Note
-unset_at l r id xs = flat_map (unset_note (calls_named l r id) (calls_held l (codes "set_variable")) (notes (project l))) xs
+abbrev pub unset_at : Loaded → Role → CallName → List (List ℕ) → List Note
+unset_at l r name xs = flat_map (unset_note (calls_named l r name) (calls_held l (codes "set_variable")) (notes (project l))) xs
 
 -- of the first 100 names
-abbrev pub unset_among : Loaded → Role → List ℕ → List (List ℕ) → List Note
-unset_among l r id [] = []
-unset_among l r id (x ∷ more) = if setters_known l then unset_at l r id (take 100 (distinct (x ∷ more))) else []
+abbrev pub unset_among : Loaded → Role → CallName → List (List ℕ) → List Note
+unset_among l r name [] = []
+unset_among l r name (x ∷ more) = if setters_known l then unset_at l r name (take 100 (distinct (x ∷ more))) else []
 
-abbrev pub unset_names : Loaded → Role → List ℕ → List (List ℕ × Setting) → List Note
-unset_names l r id pairs = unset_among l r id (flat_map (names_in r) pairs)
+abbrev pub unset_names : Loaded → Role → CallName → List (List ℕ × Setting) → List Note
+unset_names l r name pairs = unset_among l r name (flat_map (names_in r) pairs)

@@ -87,7 +87,7 @@ pub(crate) fn into_call(
     if !goes_into_call(alloc, project, target, names)? {
         return Ok(notes);
     }
-    let calls = calls_named(alloc, project, Role::Target, target.id)?;
+    let calls = calls_named(alloc, project, Role::Target, target)?;
     let more = ": the new source is added to this call, since some of its sources are not known";
     add_each(alloc, &mut notes, more, calls.get())?;
     Ok(notes)

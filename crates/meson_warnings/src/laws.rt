@@ -3,7 +3,7 @@
 ghost use Rattle.meson_warnings.specs.Laws.{LeftAreUnread, SharersRead, UnsetAreUnset};
 
 /// A name that is said to be set by no build file is one of those that are written, and no assignment, no `foreach` and no `set_variable` in the project sets
-/// it. The warning stands at a call that the id names.
+/// it. The warning stands at a call that is named.
 pub fn unset_are_unset()
     ensures { UnsetAreUnset }
 {}

@@ -112,7 +112,7 @@ fn readers(alloc: Global, project: &Project) -> Result<Vec<HeldCall>, AllocError
     Ok(calls)
 }
 
-/// The calls that an id names, those that read a variable by its name, and what a project sets.
+/// The calls that are named, those that read a variable by its name, and what a project sets.
 #[derive(Clone, Copy)]
 struct Removed<'r> {
     named: &'r [HeldCall],
@@ -262,7 +262,7 @@ fn all_left(
 ) -> Result<Vec<Note>, AllocError>
     ensures { IfOk result (λ notes. notes.items ≡ all_left project.now (name_at target.entry)) }
 {
-    let named = calls_named(alloc, project, Role::Target, target.id)?;
+    let named = calls_named(alloc, project, Role::Target, target)?;
     let readers = readers(alloc, project)?;
     let variables = variables_at(alloc, project, target)?;
     let names = distinct(alloc, variables.as_slice())?;

@@ -1,4 +1,4 @@
-//! Other targets that use a list that `target add` or `target rm` changes.
+//! Other targets that use a list that `target add`, `rm` or `rename` changes.
 
 ghost use Rattle.std.specs.Prelude.{◌≡◌, ◌++◌, IfOk, OnOk, find, flat_map, map, option_map, take};
 ghost use Rattle.std.specs.List.{list_any};
@@ -111,7 +111,7 @@ fn is_same(a: &HeldCall, b: &HeldCall) -> bool
     a.file == b.file && a.head.at == b.head.at
 }
 
-/// The calls that an id names, and the places where variables are read.
+/// The calls that are named, and the places where variables are read.
 #[derive(Clone, Copy)]
 struct Shared<'s> {
     named: &'s [HeldCall],
@@ -132,7 +132,7 @@ fn is_among(calls: &[HeldCall], call: &HeldCall) -> bool
     calls.iter().any(|one| is_same(one, call))
 }
 
-/// Whether a call reads one of the variables and is not one that the id names.
+/// Whether a call reads one of the variables and is not one that is named.
 fn is_sharer(shared: Shared<'_>, call: &HeldCall) -> bool
     ensures { result ≡ is_sharer shared.entry.named.now shared.entry.reads.now call.now }
 {
@@ -200,12 +200,12 @@ fn first(calls: &[HeldCall]) -> &[HeldCall]
 fn sharers_at(
     alloc: Global,
     project: &Project,
-    id: &str,
+    target: BorrowedName<'_>,
     reads: &[Spot],
 ) -> Result<Vec<Note>, AllocError>
-    ensures { IfOk result (λ notes. notes.items ≡ sharers_at project.now id.now reads.now) }
+    ensures { IfOk result (λ notes. notes.items ≡ sharers_at project.now (name_at target.entry) reads.now) }
 {
-    let named = calls_named(alloc, project, Role::Target, id)?;
+    let named = calls_named(alloc, project, Role::Target, target)?;
     let held = holdings_of(alloc, project)?;
     let shared = Shared {
         named: named.get(),
@@ -219,10 +219,10 @@ fn sharers_at(
 fn sharers(
     alloc: Global,
     project: &Project,
-    id: &str,
+    target: BorrowedName<'_>,
     variables: &[Text],
 ) -> Result<Vec<Note>, AllocError>
-    ensures { IfOk result (λ notes. notes.items ≡ sharers project.now id.now variables.now) }
+    ensures { IfOk result (λ notes. notes.items ≡ sharers project.now (name_at target.entry) variables.now) }
 {
     if variables.is_empty() {
         return Ok(Vec::new(alloc));
@@ -230,7 +230,7 @@ fn sharers(
     let names = distinct(alloc, variables)?;
     let mut reads = all_reads(alloc, project, names.as_slice())?;
     reads.truncate(MOST_COMPARED);
-    sharers_at(alloc, project, id, reads.as_slice())
+    sharers_at(alloc, project, target, reads.as_slice())
 }
 
 /// The warnings of other targets that use the list to which `target add` adds a source.
@@ -244,7 +244,7 @@ pub(crate) fn shared_by_adding(
 {
     let items = sources_at(alloc, project, target)?;
     let variables = grown(alloc, items.get(), names)?;
-    sharers(alloc, project, target.id, variables.as_slice())
+    sharers(alloc, project, target, variables.as_slice())
 }
 
 /// The warnings of other targets that use a list from which `target rm` removes a source.
@@ -258,5 +258,5 @@ pub(crate) fn shared_by_removing(
 {
     let items = sources_at(alloc, project, target)?;
     let variables = shrunk(alloc, items.get(), names)?;
-    sharers(alloc, project, target.id, variables.as_slice())
+    sharers(alloc, project, target, variables.as_slice())
 }

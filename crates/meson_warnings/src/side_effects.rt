@@ -20,6 +20,7 @@ use meson_plan::Project;
 use meson_splice::Text;
 use meson_steps::command::{Command, Setting};
 use std::alloc::{AllocError, Global};
+use std::slice;
 
 /// The warnings of `kwargs set`.
 fn warn_of_set(
@@ -29,7 +30,7 @@ fn warn_of_set(
     pairs: &[(Text, Setting)],
 ) -> Result<Vec<Note>, AllocError>
     ensures { let role = subject.entry.role in let name = name_at subject.entry.name in
-        IfOk result (λ notes. notes.items ≡ flat_map (λ p. lost_value project.now role name p.0) pairs.now ++ unset_names project.now role name.id pairs.now) }
+        IfOk result (λ notes. notes.items ≡ flat_map (λ p. lost_value project.now role name p.0) pairs.now ++ unset_names project.now role name pairs.now) }
 {
     let mut notes = lost_values(alloc, project, subject, pairs)?;
     let mut more = unset_names(alloc, project, subject, pairs)?;
@@ -53,7 +54,7 @@ fn warn_of_add(
 }
 
 /// What a command changes though its words do not say so, if it is done on the project. `kwargs set` writes over values that no words of a command can write
-/// again. `target add` writes a new source into the call, since some of its sources are not known. `target add` and `rm` change a list that other targets use.
+/// again. `target add` writes a new source into the call, since some of its sources are not known. `target add`, `rm` and `rename` change a list that other targets use.
 /// `kwargs set` and `add` write a variable that no build file sets. `rm_target` leaves variables that nothing reads then.
 ///
 /// # Errors
@@ -85,6 +86,9 @@ pub fn warnings(
         }
         Command::SourcesRemove { target, sources } => {
             shared_by_removing(alloc, project, target.as_name(), sources.get())
+        }
+        Command::SourcesRename { target, old, .. } => {
+            shared_by_removing(alloc, project, target.as_name(), slice::from_ref(old))
         }
         Command::TargetRemove { target } => left_variables(alloc, project, target.as_name()),
         _ => Ok(Vec::new(alloc)),

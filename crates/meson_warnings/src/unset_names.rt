@@ -3,6 +3,7 @@
 ghost use Rattle.std.specs.Prelude.{◌≡◌, ◌++◌, IfOk, OnOk, flat_map, map, string_bytes};
 ghost use Rattle.std.specs.List.{list_any};
 ghost use Rattle.meson_calls.specs.Notes.{note_view, note_views};
+ghost use Rattle.meson_calls.specs.Searching.{name_at};
 ghost use Rattle.meson_warnings.specs.UnsetNames.{assigns, is_assigned, is_set, names_in, texts_in, unset_among, unset_at, unset_names};
 ghost use Rattle.meson_warnings.specs.UnsetNames.{unset_note, unset_words};
 
@@ -91,7 +92,7 @@ fn is_assigned(parts: &[meson_calls::note::Note<'_, '_>], name: &[u8]) -> bool
     any_assigns(parts, name)
 }
 
-/// The calls that an id names, those of `set_variable`, and what else sets variables.
+/// The calls that are named, those of `set_variable`, and what else sets variables.
 #[derive(Clone, Copy)]
 struct Written<'w> {
     named: &'w [HeldCall],
@@ -150,9 +151,9 @@ fn unset_at(
     names: &[&Text],
 ) -> Result<Vec<Note>, AllocError>
     ensures { let subject = subject.entry in
-        IfOk result (λ notes. notes.items ≡ unset_at project.now subject.role subject.name.id.now (map (λ x. x.now) names.now)) }
+        IfOk result (λ notes. notes.items ≡ unset_at project.now subject.role (name_at subject.name) (map (λ x. x.now) names.now)) }
 {
-    let named = calls_named(alloc, project, subject.role, subject.name.id)?;
+    let named = calls_named(alloc, project, subject.role, subject.name)?;
     let setters = calls_held(alloc, project, "set_variable")?;
     project.reads();
     let taken = notes_of(alloc, project.files(), project.trees())?;
@@ -165,14 +166,14 @@ fn unset_at(
     all_unset(alloc, written, names)
 }
 
-/// The warnings of names that are written at the call that an id names.
+/// The warnings of names that are written at the call that is named.
 fn unset_among(
     alloc: Global,
     project: &Project,
     subject: Subject<'_>,
     names: &[Text],
 ) -> Result<Vec<Note>, AllocError>
-    ensures { IfOk result (λ notes. notes.items ≡ unset_among project.now subject.entry.role subject.entry.name.id.now names.now) }
+    ensures { IfOk result (λ notes. notes.items ≡ unset_among project.now subject.entry.role (name_at subject.entry.name) names.now) }
 {
     if names.is_empty() {
         return Ok(Vec::new(alloc));
@@ -192,7 +193,7 @@ pub(crate) fn unset_names(
     subject: Subject<'_>,
     pairs: &[(Text, Setting)],
 ) -> Result<Vec<Note>, AllocError>
-    ensures { IfOk result (λ notes. notes.items ≡ unset_names project.now subject.entry.role subject.entry.name.id.now pairs.now) }
+    ensures { IfOk result (λ notes. notes.items ≡ unset_names project.now subject.entry.role (name_at subject.entry.name) pairs.now) }
 {
     let names = all_names(alloc, subject.role, pairs)?;
     unset_among(alloc, project, subject, names.as_slice())

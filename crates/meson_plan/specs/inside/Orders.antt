@@ -8,7 +8,7 @@ use Rattle.meson_lex.specs.declared.kinds.Span.{Span}
 use Rattle.meson_steps.specs.Done.{Meaning}
 use Rattle.meson_steps.specs.declared.command.Command.{Command}
 use Rattle.meson_steps.specs.declared.command.Command.TheVariants as command
-use Rattle.meson_sources.specs.Targeted.{target_steps}
+use Rattle.meson_sources.specs.Targeted.{renamed_steps, target_steps}
 use Rattle.meson_targets.specs.TargetEdits.{named_removed}
 use Rattle.meson_targets.specs.TargetViews.{new_target}
 use Rattle.meson_keywords.specs.Changing.{request_steps}
@@ -23,11 +23,13 @@ use Rattle.meson_calls.specs.Searching.{name_at}
 -- the role and the name or variable of the call that is searched for
 abbrev pub sought : Plan → Role × List ℕ
 sought (plan.OnTarget target change names) = (role.Target, target.id.now)
+sought (plan.RenameSources target names) = (role.Target, target.id.now)
 sought (plan.AddTarget new) = (role.Target, new.name.now)
 sought (plan.RemoveTarget target) = (role.Target, target.id.now)
 
 abbrev pub plan_steps : Project Span → Plan → Meaning
 plan_steps p (plan.OnTarget target change names) = target_steps p (name_at target) change names.now
+plan_steps p (plan.RenameSources target names) = renamed_steps p (name_at target) names.old.now names.new.now
 plan_steps p (plan.AddTarget new) = new_target p new
 plan_steps p (plan.RemoveTarget target) = named_removed p (name_at target)
 

@@ -20,9 +20,12 @@ use Rattle.meson_sources.proofs.Words.{◌<◌, ◌∙◌, ◌∷◌, ◌≡◌,
 use Rattle.meson_sources.proofs.Words.{some-injective, elements, CallIn, Call, call_of, call_with, the_call, IsProject, Loaded, project, IsNotedFor, project_in}
 use Rattle.meson_sources.proofs.Words.{note_views, BuildFile, expression_at, Placed, placed, Project, CallRef, Refusal, CallAt, role_found, project_of}
 use Rattle.meson_sources.proofs.Words.{AreDoable, AreMeant, plain_trees, Step, ListStep, then_was, elements_there, change_steps, target_steps}
+use Rattle.meson_sources.specs.SourceEdits.{sources_renamed}
+use Rattle.meson_sources.specs.Targeted.{renamed_steps}
 use Rattle.meson_sources.proofs.added.Counts.{elements_of}
 use Rattle.meson_sources.proofs.added.Homes.{sources_may_be_added, extras_may_be_added}
 use Rattle.meson_sources.proofs.gone.Trees.{sources_may_be_removed, extras_may_be_removed}
+use Rattle.meson_sources.proofs.renamed.Renamings.{may_be_renamed}
 use Rattle.meson_sources.proofs.met.Standing.{TargetThere, targets_stand}
 use Rattle.meson_sources.proofs.met.Targets.{FilesStand, files_stand}
 use Rattle.meson_calls.specs.declared.call.CallName.{CallName}
@@ -74,15 +77,20 @@ module _ (n : Noted) (id : CallName) (is : IsNotedFor role.Target id.id n) (plac
     pub arguments_good : (source : List ℕ) → source ≡ bytes → GoodListing (list_view source a)
     arguments_good source same = subst (λ s. GoodListing (list_view s a)) (sym same) (good_list (some_tree trees place.file (call_within n role.Target id is place found)))
 
+    -- what is meant of the call is meant of the code's call
+    pub meant_of_code : (v : Variables) → v.files.now ≡ files → v.trees.now ≡ trees → (meant : Project Span → Placed (Call Span) → Result (List Step) Refusal) (source : List ℕ) → source ≡ bytes
+        → meant (project_of v) (placed place (call_with function (list_view source a))) ≡ then_ok (the_call (project_in n) role.Target id) (meant (project_in n))
+    unfolding function
+    meant_of_code v fs ts meant source is_source =
+        let p = project_in n in
+        let same = ap₂ (λ k m. placed k (call_with function m)) (one_at n role.Target id is place found) same_list in
+        ap₂ (λ o b. meant o (placed place (call_with function (list_view b a)))) (same_project v n fs ts) is_source
+        ∙ sym (ap (λ r. then_ok r (meant p)) (one_is n role.Target id is place found) ∙ ap (meant p) same)
+
     -- the steps that are meant are those of the code's call
     pub steps_are : (v : Variables) → v.files.now ≡ files → v.trees.now ≡ trees → (change : TargetChange) (names : List (List ℕ)) (source : List ℕ) → source ≡ bytes
         → change_steps (project_of v) change names (placed place (call_with function (list_view source a))) ≡ target_steps (project_in n) id change names
-    unfolding function
-    steps_are v fs ts change names source is_source =
-        let p = project_in n in
-        let same = ap₂ (λ k m. placed k (call_with function m)) (one_at n role.Target id is place found) same_list in
-        ap₂ (λ o b. change_steps o change names (placed place (call_with function (list_view b a)))) (same_project v n fs ts) is_source
-        ∙ sym (ap (λ r. then_ok r (change_steps p change names)) (one_is n role.Target id is place found) ∙ ap (change_steps p change names) same)
+    steps_are v fs ts change names source is_source = meant_of_code v fs ts (λ p. change_steps p change names) source is_source
 
     pub as_many_there : (v : Variables) → v.files.now ≡ files → v.trees.now ≡ trees → length (rust.out-List a).items ≡ length (elements_there (project_of v) place)
     as_many_there v fs ts =
@@ -120,3 +128,15 @@ module _ (old : Loaded) (whole : IsProject old) where
         → IfOk r (λ v. AreMeant (target_steps p target change names) (list v)) → IfOk r (λ v. ArePlanned old (target_steps p target change names) (list v))
     all_mean target change names (Ok v) utf8 meant = target_means target change names utf8 (list v) meant
     all_mean target change names (Err e) utf8 meant = tt
+
+  -- the steps that rename sources of a target
+  module _ {V : Type 0} (list : V → List ListStep) (target : CallName) (was now : List ℕ) where
+    pub renamed_mean : (r : Result V Refusal) → IfOk r (λ v. IsUtf8 now) → IfOk r (λ v. AreMeant (renamed_steps p target was now) (list v)) → IfOk r (λ v. ArePlanned old (renamed_steps p target was now) (list v))
+    renamed_mean (Ok v) utf8 meant =
+        let c = then_was (the_call p role.Target target) (λ c. sources_renamed p c was now) meant.steps meant.is in
+        record {
+          steps = meant.steps;
+          are_planned = meant.is;
+          are_doable = record { bare = meant.bare; doable = may_be_renamed old whole.parsed c.0 (files_stand old whole.parsed target c.0 c.1).sources was now meant.steps c.2 utf8 };
+        }
+    renamed_mean (Err e) utf8 meant = tt

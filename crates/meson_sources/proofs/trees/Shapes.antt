@@ -21,7 +21,7 @@ pub data Shape : Type 0 where
   a_loop : List (Name Nowhere) → Shape
   another : Shape
 
-abbrev shape_of : Skeleton → Shape
+abbrev pub shape_of : Skeleton → Shape
 shape_of (skeletons.a_list skeletons.array_kind comma bs) = an_array bs
 shape_of (skeletons.a_list (skeletons.call_kind f) comma bs) = a_call f bs
 shape_of (skeletons.a_row os) = a_row os

@@ -1,12 +1,14 @@
 -- Spots of the code, and those of the items that it keeps.
-use Rattle.std.specs.Prelude.{ℕ, Bool, true, false, List, [], ◌∷◌, ◌++◌, length, if◌then◌else◌, Option, Some, None, ok_or, option_map, option_and_then, Result, Ok, Err}
+use Rattle.std.specs.Prelude.{ℕ, Bool, true, false, List, [], ◌∷◌, ◌++◌, length, map, if◌then◌else◌, Option, Some, None, ok_or, option_map, option_and_then, Result, Ok, Err}
+use Rattle.std.specs.List.{list_any}
 use Rattle.meson_splice.specs.Patch.{then_ok}
 use Rattle.meson_calls.specs.declared.call.CallRef.{CallRef}
 use Rattle.meson_variables.specs.declared.source.SourceItem.{SourceItem}
 use Rattle.meson_variables.specs.declared.marks.Marks.{Marks}
 use Rattle.meson_calls.specs.declared.refusal.Refusal.{Refusal}
-use Rattle.meson_calls.specs.declared.refusal.Refusal.TheVariants.{NotRemovable}
-use Rattle.meson_sources.specs.SourceEdits.{Spot, none_found}
+use Rattle.meson_calls.specs.declared.refusal.Refusal.TheVariants.{NotRemovable, ThereAlready}
+use Rattle.meson_steps.specs.Steps.{Step}
+use Rattle.meson_sources.specs.SourceEdits.{Spot, none_found, renaming}
 use Rattle.meson_sources.specs.declared.removing.ElementSpot as code
 use Rattle.meson_sources.specs.inside.Naming.{has_value}
 use Rattle.meson_calls.specs.Project.{place}
@@ -63,3 +65,8 @@ joined_spots first more = then_ok more (λ later. Ok (first ++ later))
 abbrev pub is_some_there : List (Option Spot) → Bool
 is_some_there [] = false
 is_some_there (s ∷ more) = true
+
+-- the steps that give all items of a name another one, which none may have
+abbrev pub renamed_among : Marks → (old new : List ℕ) → Result (List Step) Refusal
+renamed_among m old new =
+    then_ok (all_spots_in m (old ∷ [])) (λ spots. if list_any (has_value new) m.items.items then Err ThereAlready else Ok (map (renaming new) spots))

@@ -11,6 +11,13 @@ returns-in_ok-items-in-SourcesRemove c =
     IfOk-weaker c.with_info.result _ _
     (λ e is. is ∙ ap₂ (λ xs names. with_info (source_notes xs names)) items c.get-in-SourcesRemove.ensures ∙ sym (ap (not_there l) c.in-SourcesRemove.is)) c.with_info.ensures
 
+pub returns-in_ok-items-in-SourcesRename : goal.returns-in_ok-items-in-SourcesRename
+returns-in_ok-items-in-SourcesRename c =
+    let l = c.args.project.now in
+    let items = c.get-in-SourcesRename.ensures ∙ c.in_ok-items-in-SourcesRename.ensures ∙ ap (sources_at l) c.as_name-in-SourcesRename.ensures in
+    IfOk-weaker c.with_info-in-SourcesRename.result _ _
+    (λ e is. is ∙ ap₂ (λ xs names. with_info (source_notes xs names)) items c.from_ref.ensures.value ∙ sym (ap (not_there l) c.in-SourcesRename.is)) c.with_info-in-SourcesRename.ensures
+
 pub returns-in_ok-items-in-ExtraRemove : goal.returns-in_ok-items-in-ExtraRemove
 returns-in_ok-items-in-ExtraRemove c =
     let l = c.args.project.now in

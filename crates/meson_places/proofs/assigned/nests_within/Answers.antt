@@ -20,9 +20,9 @@ returns-in-Ok c = λ x.
     let whole : source ≡ 91 ∷ (c.args.code.now ++ 93 ∷ []) = c.as_slice.ensures.value ∙ c.in_ok-whole.ensures in
     let read = c.in-Ok.ensures.reads.reads in
     let l = erase_listing (list_view source c.in-Ok.field-0) in
-    let known = subst (λ s. ReadsListWithin 65 bracket.Square s (alone x.node)) (sym whole) (written_complete c.args.code.now 64 x.node x.writes x.level x.shallow) in
+    let known = subst (λ s. ReadsListWithin 66 bracket.Square s (alone x.node)) (sym whole) (written_complete c.args.code.now 65 x.node x.writes x.level x.shallow) in
     let same : l ≡ alone x.node = one_reading (depth + 66) bracket.Square source l (alone x.node) (read_deeper (depth + 1) (depth + 66) bracket.Square source l (omega arith) read)
-    (read_deeper 65 (depth + 66) bracket.Square source (alone x.node) (omega arith) known) in
+    (read_deeper 66 (depth + 66) bracket.Square source (alone x.node) (omega arith) known) in
     let low = read.depth in
     sym (le-leb (expression_depth x.node) depth (omega (arith, low, ap listing_depth same)))
 

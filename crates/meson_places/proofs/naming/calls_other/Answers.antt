@@ -13,6 +13,6 @@ returns-in_ok-named-in-Call c =
     let id = c.args.id.now in
     let text = text_at source c.in-Call.name in
     let call = call_with text (list_view source c.in-Call.arguments) in
-    ap not (c.in_ok-named-in-Call.ensures text)
+    c.is_other.ensures ∙ ap not (c.in_ok-named-in-Call.ensures text)
     ∙ sym (ap (λ b. b && not (is id (first_literal call))) (sym c.calls_callee.ensures ∙ c.if-calls_callee.true))
     ∙ sym (ap (λ e. calls_other c.args.callee.now id (call_of e)) (ap (expr_view source) c.in-Call.is ∙ call_view source c.in-Call.span c.in-Call.name c.in-Call.arguments))

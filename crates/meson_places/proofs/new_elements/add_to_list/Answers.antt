@@ -34,9 +34,9 @@ returns c = record {
       let test : Written (Expression Nowhere) → Bool = λ w. has_room w.node (list_in_trees (plain_trees l) list.place) in
       let room : list_all test (all_written gs may) ≡ true = sym (c.in_ok-has_room_for_all.ensures may) ∙ c.if-not-branch.false in
       let same = fresh_bytes known [] gs may ∙ ap (map given_bytes) (sym (ap (map (λ x. x.now)) c.as_slice.ensures.value ∙ c.in_ok-new.ensures.fresh)) in
-      made_unless _ (add_to_list l known gs may (found_list source list)) c.put_behind.result
-      (IfOk-weaker c.put_behind.result _ _
+      made_unless _ (add_to_list l known gs may (found_list source list)) c.put_behind_all.result
+      (IfOk-weaker c.put_behind_all.result _ _
       (λ steps made. record { steps = all; is = ap (λ b. if b then Ok all else Err TooDeep) room; bare = subst (λ k. AreBare (put_each list.place k k fs) steps.items) (sym (length-map list.elements.now (arg_view source))) made })
-      (c.put_behind.ensures.done fs same))
-      c.put_behind.ensures.refused;
+      (c.put_behind_all.ensures.done fs same))
+      c.put_behind_all.ensures.refused;
 }

@@ -1,4 +1,4 @@
-use Rattle.std.proofs.Common.{◌≡◌, ◌+◌, ◌++◌, List, drop, length, map}
+use Rattle.std.proofs.Common.{◌≡◌, ◌+◌, ◌++◌, List, drop, map}
 use Rattle.std.specs.Prelude.{Some}
 use Rattle.meson_syntax.specs.Tree.{Expression, Nowhere}
 use Rattle.meson_edit.specs.Edits.{Written}
@@ -9,4 +9,4 @@ use Rattle.meson_places.proofs.new_elements.put_behind.Given as goal
 
 abbrev pub invariant-loop-i : goal.invariant-loop-i
 invariant-loop-i l = (ws : List (Written (Expression Nowhere))) → map (λ w. w.bytes) ws ≡ map given_bytes (map (λ x. x.now) l.values)
-    → map Some l.steps.items ++ map bare (put_each l.list (length l.elements) (length l.elements + l.i) (drop l.i ws)) ≡ map bare (put_each l.list (length l.elements) (length l.elements) ws)
+    → map Some l.steps.items ++ map bare (put_each l.list (l.many) (l.many + l.i) (drop l.i ws)) ≡ map bare (put_each l.list (l.many) (l.many) ws)

@@ -21,9 +21,9 @@ returns-clause-done c = λ may.
     let ws = all_written gs may in
     let put = c.in_ok-put_each.ensures.done ws (written_bytes gs may) in
     let front = put_each list many 0 ws in
-    let left : c.saturating_sub.result ≡ many - length gs = c.saturating_sub.ensures in
+    let left : c.surplus.result ≡ many - length gs = c.surplus.ensures in
     map-append bare front (rest_removed list (length ws) (many - length ws))
     ∙ ap (λ n. map bare front ++ map bare (rest_removed list n (many - n))) (written_length gs may)
     ∙ ap (λ m. map bare front ++ map bare (rest_removed list (length gs) m)) (sym left)
-    ∙ ap (λ t. t ++ map bare (rest_removed list (length gs) c.saturating_sub.result)) (sym (put ∙ ap (λ t. map Some t ++ map bare front) c.new-steps.ensures.items))
+    ∙ ap (λ t. t ++ map bare (rest_removed list (length gs) c.surplus.result)) (sym (put ∙ ap (λ t. map Some t ++ map bare front) c.new-steps.ensures.items))
     ∙ sym c.in_ok-remove_rest.ensures

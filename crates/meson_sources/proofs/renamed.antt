@@ -1,0 +1,4 @@
+pub mod Nodes
+pub mod OneString
+pub mod Staying
+pub mod Renamings
