@@ -31,6 +31,7 @@ pub mod Distincts
 pub mod Insertable
 pub mod PlainTrees
 pub mod Between
+pub mod Ascending
 pub mod Identifiers
 pub mod KeyedWritten
 pub mod WrittenArrays

@@ -13,5 +13,6 @@ pub mod Identifiers
 pub mod WrittenTexts
 pub mod Code
 pub mod GivenWords
+pub mod Order
 pub mod ValueFaults
 pub mod inside

@@ -11,6 +11,7 @@ pub mod laws;
 mod layouts;
 pub mod literals;
 pub mod names;
+pub mod order;
 mod reading;
 pub mod spans;
 pub mod statements;
