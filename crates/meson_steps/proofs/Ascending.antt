@@ -1,6 +1,6 @@
 -- Keys each less than the next, and one more put among them.
 use Rattle.std.proofs.Common.{◌≡◌, ℕ, zero, suc, ◌+◌, ◌-◌, ◌≤◌, ◌<◌, true, false, List, [], ◌∷◌, drop, get_or, length, refl, sym, ap, ap₂, ◌∙◌, arith}
-use Rattle.std.specs.Prelude.{Bool, ◌&&◌}
+use Rattle.std.specs.Prelude.{◌&&◌}
 use Rattle.std.proofs.Math.Seq.{drop-cons}
 use Rattle.meson_steps.specs.declared.order.SortKey.{SortKey}
 use Rattle.meson_steps.specs.Order.{ascend, is_less}

@@ -32,6 +32,8 @@ pub mod Insertable
 pub mod PlainTrees
 pub mod Between
 pub mod Ascending
+pub mod OrderedKeys
+pub mod Points
 pub mod Identifiers
 pub mod KeyedWritten
 pub mod WrittenArrays

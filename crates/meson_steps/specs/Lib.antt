@@ -14,5 +14,6 @@ pub mod WrittenTexts
 pub mod Code
 pub mod GivenWords
 pub mod Order
+pub mod OrderedLists
 pub mod ValueFaults
 pub mod inside

@@ -1,5 +1,5 @@
 -- Lists in order, and where a new text or identifier comes in one.
-use Rattle.std.specs.Prelude.{◌<◌, ℕ, zero, suc, nat_lt, ◌==◌, Bool, true, false, not, ◌&&◌, List, [], ◌∷◌, ◌++◌, length, count_by, insert, if◌then◌else◌}
+use Rattle.std.specs.Prelude.{◌≡◌, ◌≢◌, ◌<◌, ℕ, All, zero, suc, nat_lt, ◌==◌, Bool, true, false, not, ◌&&◌, List, [], ◌∷◌, ◌++◌, length, count_by, insert, if◌then◌else◌}
 use Rattle.std.specs.Cmp.Lexicographic.{slice_cmp}
 use Rattle.std.specs.Ordering.{is_lt, nat_cmp}
 use Rattle.meson_steps.specs.declared.order.InsertionPoint.{InsertionPoint}
@@ -67,3 +67,16 @@ abbrev pub put_key : InsertionPoint → SortKey → List SortKey → List SortKe
 put_key point.End new keys = keys ++ new ∷ []
 put_key (point.After n) new keys = insert keys (suc n) new
 put_key point.Front new keys = new ∷ keys
+
+-- ---- the law
+
+-- In a list that is in order, a new one that no element is comes to a place where the list is in order with it, unless it comes to the end because none may be
+-- put in front.
+abbrev pub KeepsOrder : Type 0
+KeepsOrder = (front_free : Bool) (new : SortKey) (keys : List SortKey) → is_order new keys ≡ true → All (λ k. k ≢ new) keys
+    → insertion_point front_free new keys ≢ point.End → ascend (put_key (insertion_point front_free new keys) new keys) ≡ true
+
+-- the law: a new one comes to another place than the end only where the list is in order for it
+abbrev pub NeedsOrder : Type 0
+NeedsOrder = (front_free : Bool) (new : SortKey) (keys : List SortKey) → insertion_point front_free new keys ≢ point.End
+    → (is_order new keys ≡ true) × (may_be_ordered new ≡ true)

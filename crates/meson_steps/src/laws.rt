@@ -2,6 +2,7 @@
 
 ghost use Rattle.meson_steps.specs.Code.{CodeIsExpression};
 ghost use Rattle.meson_steps.specs.Keeping.{MakingKeeps};
+ghost use Rattle.meson_steps.specs.Order.{KeepsOrder, NeedsOrder};
 ghost use Rattle.meson_steps.specs.OneStanding.{OneMaking, OneStanding};
 ghost use Rattle.meson_steps.specs.Steps.{ListsAreReadAgain};
 
@@ -24,4 +25,14 @@ pub fn one_making()
 /// The function that says of each text whether it is an expression says so exactly of those that are.
 pub fn code_is_expression()
     ensures { CodeIsExpression }
+{}
+
+/// In a list that is in order, a new element is put where the list is in order with it. At the end it is put only if none may be put in front.
+pub fn keeps_order()
+    ensures { KeepsOrder }
+{}
+
+/// A new element is put at another place than the end only where the list is in order for it, and it may be put in its place.
+pub fn needs_order()
+    ensures { NeedsOrder }
 {}

@@ -12,6 +12,7 @@ mod layouts;
 pub mod literals;
 pub mod names;
 pub mod order;
+pub mod ordered_list;
 mod reading;
 pub mod spans;
 pub mod statements;
