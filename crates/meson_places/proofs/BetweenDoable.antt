@@ -53,12 +53,12 @@ all_between zero ys e all = all
 all_between (suc k) [] e all = refl
 all_between (suc k) (y ∷ ys) e all = let both = and_parts (has_no_name y) (list_all has_no_name ys) all in and_from (has_no_name y) (list_all has_no_name (take k ys ++ plain e ∷ drop k ys)) both.0 (all_between k ys e both.1)
 
-open_between : (b : Bracket) (k : ℕ) (ys : List (Argument Nowhere)) (e : Expression Nowhere) → IsOpen b ys → IsOpen b (take k ys ++ plain e ∷ drop k ys)
+pub open_between : (b : Bracket) (k : ℕ) (ys : List (Argument Nowhere)) (e : Expression Nowhere) → IsOpen b ys → IsOpen b (take k ys ++ plain e ∷ drop k ys)
 open_between bracket.Square k ys e opened = tt
 open_between bracket.Round k ys e opened = all_between k ys e opened
 open_between bracket.Curly k ys e opened = opened
 
-follow_any : (b : Bracket) (it : Argument Nowhere) (behind : List (Argument Nowhere)) (e : Expression Nowhere) → MayFollow b it [] (plain e) → MayFollow b it behind (plain e)
+pub follow_any : (b : Bracket) (it : Argument Nowhere) (behind : List (Argument Nowhere)) (e : Expression Nowhere) → MayFollow b it [] (plain e) → MayFollow b it behind (plain e)
 follow_any bracket.Square it behind e may = may
 follow_any bracket.Round it behind e may = may
 follow_any bracket.Curly it behind e may = may

@@ -39,11 +39,11 @@ nodes ws = map plain (map (λ w. w.node) ws)
 
 -- ---- lists
 
-with_again : (l : Listing Nowhere) (xs zs : List (Argument Nowhere)) → is_empty xs ≡ false → with_elements (with_elements l xs) zs ≡ with_elements l zs
+pub with_again : (l : Listing Nowhere) (xs zs : List (Argument Nowhere)) → is_empty xs ≡ false → with_elements (with_elements l xs) zs ≡ with_elements l zs
 with_again (listing s trailing list) xs zs some =
     ap (λ t. listing s (if is_empty zs then false else (if t then false else trailing)) (arguments_of zs)) some
 
-some_there : (xs ys : List (Argument Nowhere)) (a : Argument Nowhere) → is_empty (xs ++ a ∷ ys) ≡ false
+pub some_there : (xs ys : List (Argument Nowhere)) (a : Argument Nowhere) → is_empty (xs ++ a ∷ ys) ≡ false
 some_there [] ys a = refl
 some_there (x ∷ xs) ys a = refl
 

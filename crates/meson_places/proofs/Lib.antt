@@ -54,3 +54,6 @@ mod ValuesEdited
 pub mod ValuesLeft
 pub mod ValuesThere
 mod WithRoom
+pub mod SortedSteps
+pub mod SortedLists
+mod SortedValues

@@ -89,6 +89,9 @@ module _ (c : CallRef) (b : Bracket) (limit : ℕ) (trees : List Plain) (all : A
     pub stands : ListStands c b limit (slice_set trees c.file now)
     pub all_stand : All MayStandBetween (slice_set trees c.file now)
     pub are : elements stands.place.list ≡ ys
+    pub is_now : now ≡ s.place.back (with_elements s.place.list ys)
+    pub same_list : stands.place.list ≡ with_elements s.place.list ys
+    pub same_back : (l : Listing Nowhere) → stands.place.back l ≡ s.place.back l
 
   abbrev pub xs : List (Argument Nowhere)
   xs = elements s.place.list
@@ -125,6 +128,9 @@ module _ (c : CallRef) (b : Bracket) (limit : ℕ) (trees : List Plain) (all : A
         };
         all_stand = All-set MayStandBetween trees c.file now now_stands all;
         are = ap elements again.list ∙ elements_with s.place.list ys;
+        is_now = refl;
+        same_list = again.list;
+        same_back = again.back;
       }
 
   -- an element goes

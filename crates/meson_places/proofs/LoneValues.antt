@@ -202,7 +202,7 @@ lone_stands old are c e at_ x token =
 
 -- ---- the array of it and others
 
-lone_low : (e : Expression Span) (x : List ℕ) → lone_token e ≡ Some x → LevelExpression (erase_expression e) × (expression_depth (erase_expression e) ≤ 64)
+pub lone_low : (e : Expression Span) (x : List ℕ) → lone_token e ≡ Some x → LevelExpression (erase_expression e) × (expression_depth (erase_expression e) ≤ 64)
 lone_low (identifier s y) x is = (tt, omega arith)
 lone_low (string s q y) x is = (tt, omega arith)
 lone_low _ x is = absurd (let no : ⊥ = cc in no)

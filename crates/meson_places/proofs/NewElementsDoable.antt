@@ -54,7 +54,7 @@ abbrev pub AllFit : ℕ → List (Written (Expression Nowhere)) → Type 0
 AllFit limit [] = Unit {0}
 AllFit limit (w ∷ ws) = Fits limit w × AllFit limit ws
 
-first_may : (b : Bracket) (ys : List (Argument Nowhere)) → IsOpen b ys → (e : Expression Nowhere) → LevelExpression e → LevelArgument (plain e) b false
+pub first_may : (b : Bracket) (ys : List (Argument Nowhere)) → IsOpen b ys → (e : Expression Nowhere) → LevelExpression e → LevelArgument (plain e) b false
 first_may bracket.Square ys opened e level = (refl, refl, level)
 first_may bracket.Round ys opened e level = (refl, refl, level)
 first_may bracket.Curly ys opened e level = absurd opened
@@ -78,7 +78,7 @@ all_behind : (ys : List (Argument Nowhere)) (e : Expression Nowhere) → list_al
 all_behind [] e all = refl
 all_behind (y ∷ ys) e all = let both = and_parts (has_no_name y) (list_all has_no_name ys) all in and_from (has_no_name y) (list_all has_no_name (ys ++ plain e ∷ [])) both.0 (all_behind ys e both.1)
 
-open_behind : (b : Bracket) (ys : List (Argument Nowhere)) (e : Expression Nowhere) → IsOpen b ys → IsOpen b (ys ++ plain e ∷ [])
+pub open_behind : (b : Bracket) (ys : List (Argument Nowhere)) (e : Expression Nowhere) → IsOpen b ys → IsOpen b (ys ++ plain e ∷ [])
 open_behind bracket.Square ys e opened = tt
 open_behind bracket.Round ys e opened = all_behind ys e opened
 open_behind bracket.Curly ys e opened = opened

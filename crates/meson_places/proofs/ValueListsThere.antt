@@ -101,3 +101,8 @@ pub good_list : (source : List ℕ) (ls : List FoundList) (i : ℕ) (d : FoundLi
 good_list source [] i d within all = absurd (omega (arith, within))
 good_list source (l ∷ ls) zero d within all = all.0
 good_list source (l ∷ ls) (suc i) d within all = good_list source ls i d (omega (arith, within)) all.1
+
+pub good_got : (source : List ℕ) (ls : List FoundList) (i : ℕ) (l : FoundList) → Some l ≡ slice_get ls i → AreGoodLists source ls → GoodArgs source l.elements.now
+good_got source [] i l is all = absurd (let no : ⊥ = cc in no)
+good_got source (m ∷ ls) zero l is all = let same : m ≡ l = cc in subst (λ k. GoodArgs source k.elements.now) same all.0
+good_got source (m ∷ ls) (suc i) l is all = good_got source ls i l is all.1

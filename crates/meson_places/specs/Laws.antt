@@ -16,6 +16,7 @@ use Rattle.meson_calls.specs.Notes.{an_assignment, notes}
 use Rattle.meson_calls.specs.Project.{Project, Placed, child, expression_at, placed}
 use Rattle.meson_steps.specs.GivenWords.{MayBeGiven}
 use Rattle.meson_steps.specs.ListSteps.{AreDoable}
+use Rattle.meson_steps.specs.OrderedLists.{Added, Ordered, all_elements}
 use Rattle.meson_steps.specs.ResultLimits.{plain_trees}
 use Rattle.meson_steps.specs.Steps.{Step, all_stepped, changed_at}
 use Rattle.meson_steps.specs.declared.argument.ValueChange.{ValueChange}
@@ -39,6 +40,7 @@ use Rattle.meson_places.specs.Replacements.{exchange, replace_said}
 use Rattle.meson_places.specs.SaidElements.{elements_left, says_one, value_left}
 use Rattle.meson_places.specs.Several.{AllMayBeGiven, all_written}
 use Rattle.meson_places.specs.Slots.{number_in, the_slot}
+use Rattle.meson_places.specs.SortedAdditions.{fresh_added, order_of, sort_into_value}
 use Rattle.meson_places.specs.ValueLists.{ValueList, last_of, lists_of}
 use Rattle.meson_places.specs.Values.{given_node, keeps_kind}
 use Rattle.meson_places.specs.Names.{calls_callee, is_searched, searched_file, the_place}
@@ -232,6 +234,29 @@ PutsBehindFirst = (l : Loaded) (it : Given) (gs : List Given) (may : AllMayBeGiv
     → expression_at (project l) c ≡ Some e → (steps : List Step) → insert_into l key it gs may (Some (placed c e)) ≡ Ok steps
     → (after : List Plain) → all_stepped steps (plain_trees l) ≡ Some after
     → PutBehind l it gs may c e (plain_trees l) after
+
+-- ---- elements that are put in their places
+
+-- Elements with these values are in their places in the list there, one after another, and all else in the trees is as it was.
+pub record SortedIn (list : CallRef) (o : Ordered) (new : List Added) (before after : List Plain) : Type 0 where
+  pub tree : Plain
+  pub is_tree : nth before list.file ≡ Some tree
+  pub place : ListAt Nowhere
+  pub is_place : list_at tree list.path.steps ≡ Some place
+  pub is_after : changed_at list.file (λ t. Some (place.back (with_elements place.list (all_elements o new (elements place.list))))) before ≡ Some after
+
+-- the same, and nothing is changed where there are none
+abbrev pub HasSorted : CallRef → Ordered → (new : List Added) → (before after : List Plain) → Type 0
+HasSorted list o [] before after = after ≡ before
+HasSorted list o (a ∷ more) before after = SortedIn list o (a ∷ more) before after
+
+-- the law: so it is of the last list of a value, with those that no element of a list of the value said
+abbrev pub SortsIntoOneList : Type 0
+SortsIntoOneList = (l : Loaded) → IsProject l → (gs : List Given) (may : AllMayBeGiven gs) (otherwise : Result (List Step) Refusal) (c : CallRef) (e : Expression Span)
+    → expression_at (project l) c ≡ Some e → (list : ValueList Span) → last_of (lists_of c e) ≡ Some list
+    → (steps : List Step) → sort_into_value l gs may otherwise (Some (placed c e)) ≡ Ok steps
+    → (after : List Plain) → all_stepped steps (plain_trees l) ≡ Some after
+    → HasSorted list.place (order_of (bytes_at c.file l.files) list) (fresh_added (lists_say (bytes_at c.file l.files) (lists_of c e)) [] gs may) (plain_trees l) after
 
 -- ---- elements that are removed or replaced
 

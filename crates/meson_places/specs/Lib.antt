@@ -20,6 +20,7 @@ pub mod Replacements
 pub mod Room
 pub mod SaidElements
 pub mod Several
+pub mod SortedAdditions
 pub mod ValueLists
 pub mod Values
 pub mod Slots

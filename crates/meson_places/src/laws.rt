@@ -1,6 +1,6 @@
 //! Laws of places. The functions do nothing: what they ensure is the law.
 
-ghost use Rattle.meson_places.specs.Laws.{AddsToOneList, ArgumentStepsAreDoable, DeletesOneElement, FindsOneCall, KeepsKind, NewAreUnknown, NewAreWritten, PutsBehindFirst, RemovesWhatIsSaid, ReplacesWhatIsSaid, SetsOneValue, SlotsAreThere, ValuesAreThere};
+ghost use Rattle.meson_places.specs.Laws.{AddsToOneList, ArgumentStepsAreDoable, DeletesOneElement, FindsOneCall, KeepsKind, NewAreUnknown, NewAreWritten, PutsBehindFirst, RemovesWhatIsSaid, ReplacesWhatIsSaid, SetsOneValue, SlotsAreThere, SortsIntoOneList, ValuesAreThere};
 ghost use Rattle.meson_places.specs.BehindLaws.{ChangesOneValue, ChangesOwnValue, FollowsOwnValue, ReadByNobodyElse};
 ghost use Rattle.meson_places.specs.ColonLaws.{TakesLastColon};
 ghost use Rattle.meson_places.specs.LineLaws.{FindsOnLine};
@@ -65,6 +65,11 @@ pub fn new_are_written()
 /// Values are put after the first element of the lists of a value that says another one, in their order, and all other elements stay in theirs.
 pub fn puts_behind_first()
     ensures { PutsBehindFirst }
+{}
+
+/// Values that are to be sorted are put into the last list of a value and into no other, each in its place, and all other elements stay in their order.
+pub fn sorts_into_one_list()
+    ensures { SortsIntoOneList }
 {}
 
 /// From the lists of a value exactly those elements are removed that say one of some values.

@@ -29,6 +29,7 @@ mod room;
 mod said_elements;
 mod several;
 pub mod slots;
+mod sorted_additions;
 pub mod spans;
 mod target_names;
 mod uses;
