@@ -47,8 +47,8 @@ abbrev pub sort_into_list : Loaded → (source : List ℕ) → (known : Given �
 sort_into_list l source known gs may list =
     if_room_for l list.place (all_written gs may) (all_put list.place (order_of source list) (fresh_added known [] gs may))
 
-abbrev pub sort_into_last : Loaded → (source : List ℕ) → (known : Given → Bool) → (gs : List Given) → AllMayBeGiven gs → (otherwise : Result (List Step) Refusal)
-    → Option (ValueList Span) → Result (List Step) Refusal
+abbrev pub sort_into_last : Loaded → (source : List ℕ) → (known : Given → Bool) → (gs : List Given) → AllMayBeGiven gs
+    → (otherwise : Result (List Step) Refusal) → Option (ValueList Span) → Result (List Step) Refusal
 sort_into_last l source known gs may otherwise None = otherwise
 sort_into_last l source known gs may otherwise (Some list) = sort_into_list l source known gs may list
 

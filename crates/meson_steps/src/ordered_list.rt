@@ -158,8 +158,8 @@ fn first_of(
     }
 }
 
-/// A list that gets elements: the number of the first one that counts, after how many elements it ends, and by what those that count are ordered. And the text of
-/// the first of these, where another one may be put in front of it.
+/// A list that gets elements: the number of the first one that counts, after how many elements it ends, and by what those that count are ordered. And the text
+/// of the first of these, where another one may be put in front of it.
 #[derive(Drop)]
 pub struct OrderedList {
     pub from: usize,
@@ -170,7 +170,8 @@ pub struct OrderedList {
 
 /// The edit that puts a value after this many elements.
 fn put_after(many: usize, new: Bytes) -> ListEdit
-    ensures { (list : CallRef) (w : Written (Expression Nowhere)) → w.bytes ≡ new → bare (put_after list many w) ≡ Some (record { list = list; edit = result }) }
+    ensures { (list : CallRef) (w : Written (Expression Nowhere)) → w.bytes ≡ new
+        → bare (put_after list many w) ≡ Some (record { list = list; edit = result }) }
 {
     if many == 0 {
         ListEdit::First(new)
