@@ -1,0 +1,4 @@
+pub mod Lists
+pub mod Cuts
+pub mod Exchanged
+pub mod Statements
