@@ -9,7 +9,7 @@ use Rattle.meson_lex.specs.Significant.{Word, start, emitted, significant}
 use Rattle.meson_lex.specs.Words.{spoken}
 use Rattle.meson_syntax.specs.declared.source.Limits.{Limits}
 use Rattle.meson_syntax.specs.Tree.{Nowhere, Plain, Statement, statement_list, statements_of, Block, block, File, file, erase}
-use Rattle.meson_syntax.specs.Grammar.{statements_words, LevelStatements, LevelFile, file_depth}
+use Rattle.meson_syntax.specs.Grammar.{statements_words, LevelStatements, LevelFile, file_depth, statements_depth}
 use Rattle.meson_syntax.specs.Reads.{Fits, Spells, ReadsWithin, IsSpannedWithin}
 use Rattle.meson_syntax.specs.Paths.{of_block, nth, reach, block_of}
 use Rattle.meson_edit.specs.Standing.{statement_span}
@@ -115,6 +115,11 @@ abbrev pub LinesLevel : Type 0
 LinesLevel = (t : Plain) (path : List ℕ) (b : BlockAt Nowhere) → block_at t path ≡ Some b → LevelFile t
     → (from many : ℕ) (new : List (Statement Nowhere)) → LevelStatements (statements_of new) → LevelFile (b.back (exchanged_in from many new b.inside))
 
+-- It is deeper by no more than those.
+abbrev pub LinesDeepen : Type 0
+LinesDeepen = (t : Plain) (path : List ℕ) (b : BlockAt Nowhere) → block_at t path ≡ Some b → (from many : ℕ) (new : List (Statement Nowhere))
+    → file_depth (b.back (exchanged_in from many new b.inside)) ≤ file_depth t + statements_depth (statements_of new)
+
 -- ---- laws of texts
 
 -- Items that stand for some statements are exchanged for whole lines that have the words of others. If the items before them do not end their line, a line
@@ -132,7 +137,8 @@ LinesReadAgain = (limits : Limits) (bytes : List ℕ) (t : Plain) → ReadsWithi
     → (from many : ℕ) (left was right : List Lexeme) → IsItemList bytes (left ++ (was ++ right)) → StandsFor t path b.inside from many left was
     → (break : List ℕ) → IsBreak left break
     → (new : List (Statement Nowhere)) (text : List ℕ) → IsLinesText text new → LevelStatements (statements_of new)
-    → IsUtf8 text → Fits limits.len (length (joined left ++ (break ++ (text ++ joined right)))) → file_depth (b.back (exchanged_in from many new b.inside)) ≤ limits.depth
+    → IsUtf8 text → Fits limits.len (length (joined left ++ (break ++ (text ++ joined right))))
+    → file_depth (b.back (exchanged_in from many new b.inside)) ≤ limits.depth
     → ReadsWithin limits (joined left ++ (break ++ (text ++ joined right))) (b.back (exchanged_in from many new b.inside))
 
 -- A statement's lines are all from the line end before it to the line end after it, with a comment that is after it. `front` ends its line, `head` is before
@@ -146,6 +152,32 @@ StatementsHaveLines = (limits : Limits) (bytes : List ℕ) (f : File Span) (s : 
     → length (joined (left ++ own)) ≡ (statement_span x).to
     → (front head rest back : List Lexeme) → left ≡ front ++ head → EndsItsLine front → HasNoLineEnd head → right ≡ rest ++ back → IsRestOfLine rest back
     → AreLinesOf (erase f) path q.inside n front (head ++ (own ++ rest)) back
+
+-- Each statement has such lines among the items of its text.
+pub record HasLines (t : Plain) (path : List ℕ) (b : Block Nowhere) (n : ℕ) (s : Span) (items : List Lexeme) : Type 0 where
+  pub front : List Lexeme
+  pub head : List Lexeme
+  pub own : List Lexeme
+  pub rest : List Lexeme
+  pub back : List Lexeme
+  pub parts : items ≡ front ++ ((head ++ (own ++ rest)) ++ back)
+  pub from : s.from ≡ length (joined (front ++ head))
+  pub to : s.to ≡ length (joined (front ++ (head ++ own)))
+  pub head_none : HasNoLineEnd head
+  pub is_rest : IsRestOfLine rest back
+  pub lines : AreLinesOf t path b n front (head ++ (own ++ rest)) back
+
+abbrev pub LinesThere : Type 0
+LinesThere = (limits : Limits) (bytes : List ℕ) (f : File Span) (s : IsSpannedWithin limits bytes f) (path : List ℕ) (b : BlockAt Span)
+    → block_at f path ≡ Some b
+    → (q : BlockAt Nowhere) → block_at (erase f) path ≡ Some q
+    → (n : ℕ) (x : Statement Span) → statement_in b.inside n ≡ Some x
+    → HasLines (erase f) path q.inside n (statement_span x) s.reads.spells.items
+
+-- At the end of a file, where others may come after all of its statements.
+abbrev pub FilesEndStand : Type 0
+FilesEndStand = (bytes : List ℕ) (t : Plain) → Spells bytes t → (b : BlockAt Nowhere) → block_at t [] ≡ Some b → (items : List Lexeme)
+    → IsItemList bytes items → StandsFor t [] b.inside (length (statements_in b.inside)) 0 items []
 
 -- Items without words, as comments and empty lines, may be counted with the lines after them or with those before them.
 abbrev pub QuietBefore : Type 0

@@ -1,8 +1,9 @@
 -- Whole lines exchanged for others: the new text spells, and reads as, the tree with other statements.
 use Rattle.meson_edit.proofs.Words.{◌≡◌, ℕ, ◌+◌, ◌≤◌, List, [], ◌++◌, length, take, drop, Some, refl, sym, ap, ap₂, subst, ◌∙◌, append_assoc, append-nil, inr, IsUtf8}
 use Rattle.meson_edit.proofs.Words.{IsUtf8-append, Lexeme, joined, IsItemList, AreItems, Word, State, start, after, emitted, closing, significant, one_list}
-use Rattle.meson_edit.proofs.Words.{joined-append, AreItems-append, AreItems-split, file_words, LevelStatements, LevelFile, file_depth, Fits, Spells}
+use Rattle.meson_edit.proofs.Words.{joined-append, AreItems-append, AreItems-split, block_words, file_words, LevelStatements, LevelFile, file_depth, Fits, Spells}
 use Rattle.meson_edit.proofs.Words.{ReadsWithin, Nowhere, Plain, Statement, statements_of, file, Limits, some-injective, BlockAt, block_at, IsBreak, spoken, after-append}
+use Rattle.std.proofs.Math.Seq.{take-length}
 use Rattle.meson_edit.specs.ExchangedLines.{statements_in, file_statements, exchanged_in, statements_words_of, StandsFor, IsLinesText}
 use Rattle.meson_edit.proofs.exchange.States.{after_words, state-is, Lines, lines-append, lines-state}
 use Rattle.meson_edit.proofs.exchange.StatementLines.{statements-lines, file-lines}
@@ -108,6 +109,19 @@ file-is-lines bytes t s items are end parts =
     let same : s.items ≡ items = one_list bytes s.items items s.are_items are in
     let g : Begun (bytes ++ end) (file_words t) = begun bytes items are (file_words t) (ap significant (sym same) ∙ s.words) (file-lines Nowhere t) end parts in
     record { items = g.head; are_items = record { joins = g.joins; each = g.stand [] }; is_words = g.told ∙ file-words-of t; ends = g.ends }
+
+pub file-end-stands : (bytes : List ℕ) (t : Plain) → Spells bytes t → (b : BlockAt Nowhere) → block_at t [] ≡ Some b → (items : List Lexeme) → IsItemList bytes items
+    → StandsFor t [] b.inside (length (statements_in b.inside)) 0 items []
+file-end-stands bytes (file p c) s b is items are =
+    let block_is : c ≡ b.inside = ap (λ (b : BlockAt Nowhere). b.inside) (some-injective _ _ is) in
+    record {
+      before = [];
+      is_before = refl;
+      is_left =
+          ap significant (one_list bytes items s.items are s.are_items) ∙ s.words ∙ ap block_words block_is ∙ words-of-block b.inside
+          ∙ ap statements_words_of (sym (take-length (statements_in b.inside)));
+      is_was = refl;
+    }
 
 -- ---- the exchange
 

@@ -6,7 +6,7 @@ use Rattle.meson_edit.proofs.Words.{Nowhere, Statement, Statements, no_statement
 use Rattle.meson_edit.proofs.Words.{Limits, statement-words-erased, some-injective, BlockAt, block_at, statement_in, EndsItsLine, HasNoLineEnd, in_line, words_around, erase_front, Kind}
 use Rattle.meson_edit.proofs.Words.{statement_span, StandsAmongItems, WordsAround}
 use Rattle.meson_lex.specs.declared.kinds.Kind.TheVariants as k
-use Rattle.meson_edit.specs.ExchangedLines.{statements_in, statements_words_of, words_before, AreLinesOf, IsRestOfLine}
+use Rattle.meson_edit.specs.ExchangedLines.{statements_in, statements_words_of, words_before, AreLinesOf, IsRestOfLine, LinesThere}
 use Rattle.meson_edit.proofs.paths.Erased.{nodes-erase, blocks-erase}
 use Rattle.meson_edit.proofs.exchange.States.{Lines, lines-append}
 use Rattle.meson_edit.proofs.exchange.StatementLines.{statement-flat}
@@ -14,6 +14,7 @@ use Rattle.meson_edit.proofs.exchange.LineWords.{told, told-append}
 use Rattle.meson_edit.proofs.exchange.Gone.{left-state, own-words, own-state, behind-told}
 use Rattle.meson_edit.proofs.exchange.Removed.{fits, found, stands, cut-items, cut-own}
 use Rattle.meson_edit.proofs.lines.Cuts.{Stays, line-head, line-rest}
+use Rattle.meson_edit.proofs.lines.Splits.{last-line, first-line}
 
 -- ---- words in the tree without spans
 
@@ -188,3 +189,29 @@ module _ (limits : Limits) (bytes : List ℕ) (f : File Span) (s : IsSpannedWith
     before = record { before = before; is_before = is-before; is_left = ahead-is; is_was = refl };
     behind = record { before = before; is_before = is-before; is_left = both-are; is_was = refl };
   }
+
+-- ---- each statement
+
+parts-group : {A : Type 0} (front head own rest back : List A) → (front ++ head) ++ (own ++ (rest ++ back)) ≡ front ++ ((head ++ (own ++ rest)) ++ back)
+parts-group front head own rest back = simp append_assoc
+
+pub lines-there : LinesThere
+lines-there limits bytes f s path b is q plain-is n x at =
+    let st = stands limits bytes f s path b is n x at in
+    let l = last-line st.left in
+    let r = first-line st.right in
+    let are = subst (IsItemList bytes) st.parts s.reads.spells.are_items in
+    record {
+      front = l.front;
+      head = l.head;
+      own = st.own;
+      rest = r.rest;
+      back = r.back;
+      parts = st.parts ∙ ap₂ (λ u v. u ++ (st.own ++ v)) l.parts r.parts ∙ parts-group l.front l.head st.own r.rest r.back;
+      from = st.from ∙ ap (λ l. length (joined l)) l.parts;
+      to = st.to ∙ ap (λ l. length (joined l)) (ap (λ u. u ++ st.own) l.parts ∙ append_assoc l.front l.head st.own);
+      head_none = l.none;
+      is_rest = r.is_rest;
+      lines =
+          statement-lines limits bytes f s path b is q plain-is n x at st.left st.own st.right are (sym st.from) (sym st.to) l.front l.head r.rest r.back l.parts l.ends l.none r.parts r.is_rest;
+    }
