@@ -28,7 +28,7 @@ with_statements (block s list) new = block s (statements_of new)
 abbrev pub file_statements : {S : Type 0} → File S → List (Statement S)
 file_statements (file s b) = statements_in b
 
--- So many statements, from the n-th on, become others. None become others: these come before the n-th. Some become none: they go.
+-- A number of statements, from the n-th on, become others. If the number is 0, the others come before the n-th. If there are no others, the statements go.
 abbrev pub exchanged_statements : {S : Type 0} → (from many : ℕ) → (new list : List (Statement S)) → List (Statement S)
 exchanged_statements from many new list = take from list ++ (new ++ drop (from + many) list)
 
@@ -46,9 +46,9 @@ words_before {S} f path = option_map (λ h. h.before) (reach S of_block (block_o
 
 -- ---- items
 
--- Items after others stand for so many statements of a block, from the n-th on: those before them have the words of all that is before these statements, and
--- they have the statements' words. A line end that is missing at their end counts. So both begin and end outside brackets. Blanks, comments and empty lines
--- may be among them, as these are no words.
+-- The items `was`, after the items `left`, stand for a number of statements of a block, from the n-th on: `left` has the words of all that is before these
+-- statements, and `was` has their words. A line end that is missing at the end counts. So both end outside brackets. Blanks, comments and empty lines may be
+-- among them, as these are no words.
 pub record StandsFor (t : Plain) (path : List ℕ) (b : Block Nowhere) (from many : ℕ) (left was : List Lexeme) : Type 0 where
   pub before : List Word
   pub is_before : words_before t path ≡ Some before
@@ -174,10 +174,24 @@ LinesThere = (limits : Limits) (bytes : List ℕ) (f : File Span) (s : IsSpanned
     → (n : ℕ) (x : Statement Span) → statement_in b.inside n ≡ Some x
     → HasLines (erase f) path q.inside n (statement_span x) s.reads.spells.items
 
--- At the end of a file, where others may come after all of its statements.
+-- At the end of a file nothing stands for no statement after all others: there others may come.
 abbrev pub FilesEndStand : Type 0
 FilesEndStand = (bytes : List ℕ) (t : Plain) → Spells bytes t → (b : BlockAt Nowhere) → block_at t [] ≡ Some b → (items : List Lexeme)
     → IsItemList bytes items → StandsFor t [] b.inside (length (statements_in b.inside)) 0 items []
+
+-- Others come before the lines of a statement, or after them, or the lines go. All other bytes stay.
+pub record LinesComeAndGo (bytes : List ℕ) (t : Plain) (path : List ℕ) (b : BlockAt Nowhere) (n : ℕ) (left was right : List Lexeme) : Type 0 where
+  pub before : (new : List (Statement Nowhere)) (text : List ℕ) → IsLinesText text new → LevelStatements (statements_of new)
+      → Spells (joined left ++ (text ++ (joined was ++ joined right))) (b.back (exchanged_in n 0 new b.inside))
+  pub behind : (break : List ℕ) → IsBreak (left ++ was) break → (new : List (Statement Nowhere)) (text : List ℕ) → IsLinesText text new
+      → LevelStatements (statements_of new)
+      → Spells (joined left ++ (joined was ++ (break ++ (text ++ joined right)))) (b.back (exchanged_in (suc n) 0 new b.inside))
+  pub go : Spells (joined left ++ joined right) (b.back (block_without b.inside n))
+
+abbrev pub StatementsComeAndGo : Type 0
+StatementsComeAndGo = (bytes : List ℕ) (t : Plain) → Spells bytes t → (path : List ℕ) (b : BlockAt Nowhere) → block_at t path ≡ Some b
+    → (n : ℕ) (left was right : List Lexeme) → IsItemList bytes (left ++ (was ++ right)) → AreLinesOf t path b.inside n left was right
+    → LinesComeAndGo bytes t path b n left was right
 
 -- Items without words, as comments and empty lines, may be counted with the lines after them or with those before them.
 abbrev pub QuietBefore : Type 0

@@ -5,7 +5,7 @@ ghost use Rattle.meson_edit.specs.Holes.{ListsStand, NodesStand, BlocksErase, Li
 ghost use Rattle.meson_edit.specs.Exchange.{ListsExchange, ListsLevel, ListsReadAgain};
 ghost use Rattle.meson_edit.specs.Blocks.{AppendedReadAgain, AppendingLevels, RemovalsLevel, RemovalsReadAgain, StatementsCome, StatementsGo};
 ghost use Rattle.meson_edit.specs.Lines.{AppendedWords, CutsAreUtf8, FilesEnd, LinesAreTexts, SpelledReads, StatementsAreTexts, StatementsEnd, StatementsStand};
-ghost use Rattle.meson_edit.specs.ExchangedLines.{AppendingExchanges, ExchangesComputed, ExchangesStand, FilesAreLines, FilesEndStand, LinesDeepen, LinesExchange, LinesLevel, LinesReadAgain, LinesThere, QuietBefore, QuietBehind, RemovalsExchange, StatementsHaveLines};
+ghost use Rattle.meson_edit.specs.ExchangedLines.{AppendingExchanges, ExchangesComputed, ExchangesStand, FilesAreLines, FilesEndStand, LinesDeepen, LinesExchange, LinesLevel, LinesReadAgain, LinesThere, QuietBefore, QuietBehind, RemovalsExchange, StatementsComeAndGo, StatementsHaveLines};
 ghost use Rattle.meson_edit.specs.ExchangedTokens.{TokensMove};
 ghost use Rattle.meson_edit.specs.MappedPaths.{ListsMap, NodesMap};
 ghost use Rattle.meson_edit.specs.Swap.{ListsSwap};
@@ -83,11 +83,12 @@ pub fn exchanged_lines()
     ensures lines_deepen { LinesDeepen }
 {}
 
-/// Which lines stand for a statement, and that comments and empty lines may be counted with them. That others may come at the end of a file. And that a file's
-/// text is lines of its statements.
+/// Which lines stand for a statement: others may come before them or after them, or they may go. Comments and empty lines may be counted with them. Others may
+/// also come at the end of a file. And a file's text is lines of its statements.
 pub fn whole_lines()
     ensures statements { StatementsHaveLines }
     ensures there { LinesThere }
+    ensures come_and_go { StatementsComeAndGo }
     ensures files_end { FilesEndStand }
     ensures quiet_before { QuietBefore }
     ensures quiet_behind { QuietBehind }

@@ -4,9 +4,9 @@ use Rattle.meson_edit.proofs.Words.{append_assoc, append-nil, inl, inr, ◌⊎�
 use Rattle.meson_edit.proofs.Words.{closing, significant, Span, after-append, emitted-append, statement_words, Hole, reach, of_block, block_of, nth, IsSpannedWithin}
 use Rattle.meson_edit.proofs.Words.{Nowhere, Statement, Statements, no_statements, statement, statement_list, Block, block, File, erase, erase_block, erase_statements}
 use Rattle.meson_edit.proofs.Words.{Limits, statement-words-erased, some-injective, BlockAt, block_at, statement_in, EndsItsLine, HasNoLineEnd, in_line, words_around, erase_front, Kind}
-use Rattle.meson_edit.proofs.Words.{statement_span, StandsAmongItems, WordsAround}
+use Rattle.meson_edit.proofs.Words.{statement_span, StandsAmongItems, WordsAround, Plain, Spells, joined-append}
 use Rattle.meson_lex.specs.declared.kinds.Kind.TheVariants as k
-use Rattle.meson_edit.specs.ExchangedLines.{statements_in, statements_words_of, words_before, AreLinesOf, IsRestOfLine, LinesThere}
+use Rattle.meson_edit.specs.ExchangedLines.{statements_in, statements_words_of, words_before, AreLinesOf, IsRestOfLine, LinesThere, IsLinesText, LinesComeAndGo, exchanged_in}
 use Rattle.meson_edit.proofs.paths.Erased.{nodes-erase, blocks-erase}
 use Rattle.meson_edit.proofs.exchange.States.{Lines, lines-append}
 use Rattle.meson_edit.proofs.exchange.StatementLines.{statement-flat}
@@ -15,6 +15,8 @@ use Rattle.meson_edit.proofs.exchange.Gone.{left-state, own-words, own-state, be
 use Rattle.meson_edit.proofs.exchange.Removed.{fits, found, stands, cut-items, cut-own}
 use Rattle.meson_edit.proofs.lines.Cuts.{Stays, line-head, line-rest}
 use Rattle.meson_edit.proofs.lines.Splits.{last-line, first-line}
+use Rattle.meson_edit.proofs.lines.Lists.{removal-exchanges}
+use Rattle.meson_edit.proofs.lines.Exchanged.{lines-exchanged}
 
 -- ---- words in the tree without spans
 
@@ -215,3 +217,27 @@ lines-there limits bytes f s path b is q plain-is n x at =
       lines =
           statement-lines limits bytes f s path b is q plain-is n x at st.left st.own st.right are (sym st.from) (sym st.to) l.front l.head r.rest r.back l.parts l.ends l.none r.parts r.is_rest;
     }
+
+-- ---- others come before them or after them, or they go
+
+module _ (bytes : List ℕ) (t : Plain) (s : Spells bytes t) (path : List ℕ) (b : BlockAt Nowhere) (is : block_at t path ≡ Some b) (n : ℕ) (left was right : List Lexeme)
+    (are : IsItemList bytes (left ++ (was ++ right))) (l : AreLinesOf t path b.inside n left was right) where
+  behind-them : IsItemList bytes ((left ++ was) ++ right)
+  behind-them = subst (IsItemList bytes) (sym (append_assoc left was right)) are
+
+  no-lines-text : IsLinesText [] []
+  no-lines-text = record { items = []; are_items = record { joins = refl; each = tt }; is_words = refl; ends = inl refl }
+
+  pub come-and-go : LinesComeAndGo bytes t path b n left was right
+  come-and-go = record {
+    before = λ new text lines level.
+        subst (λ w. Spells (joined left ++ (text ++ w)) (b.back (exchanged_in n 0 new b.inside))) (joined-append was right)
+        (lines-exchanged bytes t s path b is n 0 left [] (was ++ right) are l.before [] (inr (refl, l.lines.0)) new text lines level);
+    behind = λ break parts new text lines level.
+        subst (λ w. Spells w (b.back (exchanged_in (suc n) 0 new b.inside)))
+        (ap (λ w. w ++ (break ++ (text ++ joined right))) (joined-append left was) ∙ append_assoc (joined left) (joined was) (break ++ (text ++ joined right)))
+        (lines-exchanged bytes t s path b is (suc n) 0 (left ++ was) [] right behind-them l.behind break parts new text lines level);
+    go =
+        subst (λ c. Spells (joined left ++ joined right) (b.back c)) (sym (removal-exchanges b.inside n))
+        (lines-exchanged bytes t s path b is n 1 left was right are l.itself [] (inr (refl, l.lines.0)) [] [] no-lines-text tt);
+  }
