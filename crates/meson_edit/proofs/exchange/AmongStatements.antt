@@ -131,30 +131,32 @@ held S f path x before behind back at =
       lines = reach-lined S (block_of f) path h at;
     }
 
-node-fits : (S : Type 0) (f : File S) (path : List ℕ) (sort : Sort) (x : Node sort S) (before behind : List Word) (back : Node sort S → Block S) (b : BlockAt S)
-    → reach S of_block (block_of f) path ≡ Some (record { sort = sort; inside = x; before = before; behind = behind; back = back })
-    → block_of_node S sort x f back ≡ Some b → BlockFits S f path b
-node-fits S f path of_expression x before behind back b at is = absurd cc
-node-fits S f path of_statement x before behind back b at is = absurd cc
-node-fits S f path of_block x before behind back b at is = subst (BlockFits S f path) (some-injective _ _ is) (held S f path x before behind back at)
+-- what holds of each block that a path leads to
+module _ (S : Type 0) (f : File S) (path : List ℕ) (Holds : BlockAt S → Type 0)
+    (each : (x : Block S) (before behind : List Word) (back : Block S → Block S)
+    → reach S of_block (block_of f) path ≡ Some (record { sort = of_block; inside = x; before = before; behind = behind; back = back })
+    → Holds (record { inside = x; back = λ other. with_block f (back other) })) where
+  of-node : (sort : Sort) (x : Node sort S) (before behind : List Word) (back : Node sort S → Block S) (b : BlockAt S)
+      → reach S of_block (block_of f) path ≡ Some (record { sort = sort; inside = x; before = before; behind = behind; back = back })
+      → block_of_node S sort x f back ≡ Some b → Holds b
+  of-node of_expression x before behind back b at is = absurd cc
+  of-node of_statement x before behind back b at is = absurd cc
+  of-node of_block x before behind back b at is = subst Holds (some-injective _ _ is) (each x before behind back at)
+
+  pub of-block-at : (b : BlockAt S) → block_at f path ≡ Some b → Holds b
+  of-block-at b is =
+      let o = and-then-some (λ h. block_of_node S h.sort h.inside f h.back) (reach S of_block (block_of f) path) b is in
+      let h = o.0 in
+      of-node h.sort h.inside h.before h.behind h.back b o.1 o.2
 
 pub block-fits : (S : Type 0) (f : File S) (path : List ℕ) (b : BlockAt S) → block_at f path ≡ Some b → BlockFits S f path b
-block-fits S f path b is =
-    let o = and-then-some (λ h. block_of_node S h.sort h.inside f h.back) (reach S of_block (block_of f) path) b is in
-    let h = o.0 in
-    node-fits S f path h.sort h.inside h.before h.behind h.back b o.1 o.2
-
-node-stands : (f : File Span) (path : List ℕ) (sort : Sort) (x : Node sort Span) (before behind : List Word) (back : Node sort Span → Block Span) (b : BlockAt Span)
-    → reach Span of_block (block_of f) path ≡ Some (record { sort = sort; inside = x; before = before; behind = behind; back = back })
-    → ((len d : ℕ) (ts : List Token) → SpellsFile f len d ts → Inside sort x before behind ts) → block_of_node Span sort x f back ≡ Some b → BlockStands f path b
-node-stands f path of_expression x before behind back b at i is = absurd cc
-node-stands f path of_statement x before behind back b at i is = absurd cc
-node-stands f path of_block x before behind back b at i is =
-    subst (BlockStands f path) (some-injective _ _ is) (record { fits = held Span f path x before behind back at; spelled = i })
+block-fits S f path b is = of-block-at S f path (BlockFits S f path) (held S f path) b is
 
 pub block-stands : (f : File Span) (path : List ℕ) (b : BlockAt Span) → block_at f path ≡ Some b → BlockStands f path b
 block-stands f path b is =
-    let o = and-then-some (λ h. block_of_node Span h.sort h.inside f h.back) (reach Span of_block (block_of f) path) b is in
-    let h = o.0 in
-    node-stands f path h.sort h.inside h.before h.behind h.back b o.1
-    (λ len d ts sp. reach-inside of_block (block_of f) path d 0 ts h o.1 (block-spelled f len d ts sp)) o.2
+    of-block-at Span f path (BlockStands f path)
+    (λ x before behind back at. record {
+      fits = held Span f path x before behind back at;
+      spelled = λ len d ts sp. reach-inside of_block (block_of f) path d 0 ts _ at (block-spelled f len d ts sp);
+    })
+    b is

@@ -71,7 +71,7 @@ plain-role Opens s w h = refl
 plain-role Closes s w h = refl
 plain-role Other s w h = refl
 
-ends-line : (κ : Kind) → (κ ≡ k.LineEnd → ⊥) → role κ ≡ Ends → ⊥
+pub ends-line : (κ : Kind) → (κ ≡ k.LineEnd → ⊥) → role κ ≡ Ends → ⊥
 ends-line k.LineEnd h e = h refl
 ends-line _ h e = absurd cc
 

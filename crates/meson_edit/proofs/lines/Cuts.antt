@@ -1,10 +1,10 @@
 -- The words of items in two parts. Where the first part has words that are whole lines, the others are those of the second part at the start of a line. And
 -- items without words, which change none.
 use Rattle.meson_edit.proofs.Words.{◌≡◌, true, false, Bool, List, [], ◌∷◌, ◌++◌, refl, sym, ap, ap₂, ◌∙◌, append_assoc, append_cancel_left}
-use Rattle.meson_edit.proofs.Words.{Lexeme, Word, kept, new_line, Role, Gap, Ends, Opens, Closes, Other, role, State, start, step_by, step, Kind, ◌⊎◌, inl, inr}
+use Rattle.meson_edit.proofs.Words.{Lexeme, Word, kept, new_line, Role, Gap, Ends, Opens, Closes, Other, role, State, start, step_by, step, ◌⊎◌, inl, inr}
 use Rattle.meson_edit.proofs.Words.{emit_by, emit, after, emitted, closing, significant, speaks, spoken, spoken_by, word, HasNoLineEnd}
-use Rattle.meson_lex.specs.declared.kinds.Kind.TheVariants as k
 use Rattle.meson_edit.proofs.exchange.States.{same-state}
+use Rattle.meson_edit.proofs.exchange.Standing.{ends-line}
 use Rattle.meson_edit.proofs.exchange.LineWords.{told, told-append, line-ended, speaks-fresh}
 
 -- ---- two parts
@@ -110,16 +110,9 @@ no-line-fresh Opens s h e = refl
 no-line-fresh Closes s h e = refl
 no-line-fresh Other s h e = refl
 
-ends-line : (x : Lexeme) → (x.kind ≡ k.LineEnd → ⊥) → role x.kind ≡ Ends → ⊥
-ends-line x h e = h (line-kind x.kind e)
-  where
-    line-kind : (κ : Kind) → role κ ≡ Ends → κ ≡ k.LineEnd
-    line-kind k.LineEnd e = refl
-    line-kind _ e = absurd cc
-
 no-lines-fresh : (xs : List Lexeme) (s : State) → HasNoLineEnd xs → s.fresh ≡ false → (after s xs).fresh ≡ false
 no-lines-fresh [] s h e = e
-no-lines-fresh (x ∷ xs) s h e = no-lines-fresh xs (step s x) h.1 (no-line-fresh (role x.kind) s (ends-line x h.0) e)
+no-lines-fresh (x ∷ xs) s h e = no-lines-fresh xs (step s x) h.1 (no-line-fresh (role x.kind) s (ends-line x.kind h.0) e)
 
 -- a gap
 gap-by : (r : Role) (s : State) (w : Word) (xs : List Lexeme) → (r ≡ Ends → ⊥) → speaks r ≡ false → (Stays (step_by r s) xs)
@@ -141,7 +134,7 @@ line-head (x ∷ xs) s h e = by-speech (line-head xs (step s x) h.1 e) (speaking
         let both : false ≡ true = sym spoken_line ∙ e in
         absurd cc
     by-speech later (inr q) =
-        let t = gap-by (role x.kind) s (x.kind, kept x.kind x.text) xs (ends-line x h.0) q later in
+        let t = gap-by (role x.kind) s (x.kind, kept x.kind x.text) xs (ends-line x.kind h.0) q later in
         record { silent = t.0; same = t.1 }
 
 -- behind a statement there is no word before the line ends
@@ -179,6 +172,6 @@ line-rest (x ∷ xs) ys s ws h e = by-speech (line-rest xs ys s ws h.1) (speakin
     by-speech more_stay (inr q) =
         let r = role x.kind in
         let w : Word = (x.kind, kept x.kind x.text) in
-        let later = more_stay (sym (gap-told r s w (xs ++ ys) (ends-line x h.0) q) ∙ e) in
-        let t = gap-by r s w xs (ends-line x h.0) q (gap-stays r s xs (ends-line x h.0) q later) in
+        let later = more_stay (sym (gap-told r s w (xs ++ ys) (ends-line x.kind h.0) q) ∙ e) in
+        let t = gap-by r s w xs (ends-line x.kind h.0) q (gap-stays r s xs (ends-line x.kind h.0) q later) in
         record { silent = t.0; same = t.1 }

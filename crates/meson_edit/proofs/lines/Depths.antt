@@ -1,10 +1,10 @@
 -- A file in which some statements became others is no deeper than before by more than these are.
-use Rattle.meson_edit.proofs.Words.{max, ◌≡◌, ℕ, zero, suc, ◌+◌, ◌≤◌, List, [], ◌∷◌, ◌++◌, take, drop, Some, ap, subst, arith, Word, statements_depth, block_depth}
-use Rattle.meson_edit.proofs.Words.{file_depth, Sort, of_expression, of_statement, of_block, Node, reach, Nowhere, Statement, statement_list, statements_of, Block}
-use Rattle.meson_edit.proofs.Words.{block, file, Plain, some-injective, and-then-some, BlockAt, block_of_node, block_at}
+use Rattle.meson_edit.proofs.Words.{max, ◌≡◌, ℕ, zero, suc, ◌+◌, ◌≤◌, List, [], ◌∷◌, ◌++◌, take, drop, Some, ap, arith, statements_depth, block_depth}
+use Rattle.meson_edit.proofs.Words.{file_depth, of_block, Nowhere, Statement, statement_list, statements_of, Block}
+use Rattle.meson_edit.proofs.Words.{block, file, Plain, BlockAt, block_at}
 use Rattle.meson_syntax.proofs.parsing.CompleteFiles.{list-of-statements}
 use Rattle.meson_edit.specs.ExchangedLines.{exchanged_in}
-use Rattle.meson_edit.proofs.paths.Depths.{Grows}
+use Rattle.meson_edit.proofs.exchange.AmongStatements.{of-block-at}
 use Rattle.meson_edit.proofs.paths.DeepLists.{reach-grows}
 
 -- ---- lists of statements
@@ -37,17 +37,9 @@ exchanged-depth from many new (block s list) =
 abbrev BlockGrows : Plain → BlockAt Nowhere → Type 0
 BlockGrows t b = (other : Block Nowhere) (k : ℕ) → block_depth other ≤ block_depth b.inside + k → file_depth (b.back other) ≤ file_depth t + k
 
-node-grows : (s : Nowhere) (c : Block Nowhere) (sort : Sort) (x : Node sort Nowhere) (before behind : List Word) (back : Node sort Nowhere → Block Nowhere)
-    → Grows Nowhere (Block Nowhere) block_depth c (record { sort = sort; inside = x; before = before; behind = behind; back = back })
-    → (b : BlockAt Nowhere) → block_of_node Nowhere sort x (file s c) back ≡ Some b → BlockGrows (file s c) b
-node-grows s c of_expression x before behind back grows b is = absurd cc
-node-grows s c of_statement x before behind back grows b is = absurd cc
-node-grows s c of_block x before behind back grows b is = subst (BlockGrows (file s c)) (some-injective _ _ is) grows
-
 pub lines-deepen : (t : Plain) (path : List ℕ) (b : BlockAt Nowhere) → block_at t path ≡ Some b → (from many : ℕ) (new : List (Statement Nowhere))
     → file_depth (b.back (exchanged_in from many new b.inside)) ≤ file_depth t + statements_depth (statements_of new)
 lines-deepen (file s c) path b is from many new =
-    let o = and-then-some (λ h. block_of_node Nowhere h.sort h.inside (file s c) h.back) (reach Nowhere of_block c path) b is in
-    let h = o.0 in
-    node-grows s c h.sort h.inside h.before h.behind h.back (reach-grows Nowhere of_block c path h o.1) b o.2
-    (exchanged_in from many new b.inside) (depth_of new) (exchanged-depth from many new b.inside)
+    let grows : BlockGrows (file s c) b =
+    of-block-at Nowhere (file s c) path (BlockGrows (file s c)) (λ x before behind back at. reach-grows Nowhere of_block c path _ at) b is in
+    grows (exchanged_in from many new b.inside) (depth_of new) (exchanged-depth from many new b.inside)
