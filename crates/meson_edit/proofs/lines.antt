@@ -4,3 +4,4 @@ pub mod Cuts
 pub mod Splits
 pub mod Exchanged
 pub mod Statements
+pub mod Alike

@@ -5,8 +5,8 @@ use Rattle.std.specs.Prelude.{◌≡◌, ◌<◌, ◌≤◌, ◌+◌, ℕ, suc, 
 use Rattle.meson_lex.specs.declared.kinds.Span.{Span}
 use Rattle.meson_lex.specs.declared.kinds.Kind.TheVariants as k
 use Rattle.meson_lex.specs.Items.{Lexeme, joined, IsItemList}
-use Rattle.meson_lex.specs.Significant.{Word, start, emitted, significant}
-use Rattle.meson_lex.specs.Words.{spoken}
+use Rattle.meson_lex.specs.Significant.{Word, Role, Gap, Ends, Opens, Closes, Other, role, start, emitted, significant}
+use Rattle.meson_lex.specs.Words.{spoken, word}
 use Rattle.meson_syntax.specs.declared.source.Limits.{Limits}
 use Rattle.meson_syntax.specs.Tree.{Nowhere, Plain, Statement, statement_list, statements_of, Block, block, File, file, erase}
 use Rattle.meson_syntax.specs.Grammar.{statements_words, LevelStatements, LevelFile, file_depth, statements_depth}
@@ -63,6 +63,18 @@ AreLines left lines right = EndsItsLine left × (EndsItsLine lines ⊎ (right �
 abbrev pub IsRestOfLine : (rest right : List Lexeme) → Type 0
 IsRestOfLine rest right =
     ((row : List Lexeme) × (end : Lexeme) × HasNoLineEnd row × (end.kind ≡ k.LineEnd) × (rest ≡ row ++ end ∷ [])) ⊎ (HasNoLineEnd rest × (right ≡ []))
+
+-- the words of items with every line end, also within brackets: what is left out are blanks, comments and continuations, and how a line end is written
+abbrev pub outright_by : Role → Word → List Word
+outright_by Gap w = []
+outright_by Ends w = w ∷ []
+outright_by Opens w = w ∷ []
+outright_by Closes w = w ∷ []
+outright_by Other w = w ∷ []
+
+abbrev pub outright : List Lexeme → List Word
+outright [] = []
+outright (x ∷ xs) = outright_by (role x.kind) (word x) ++ outright xs
 
 -- The text is whole lines that have the words of these statements.
 pub record IsLinesText (text : List ℕ) (new : List (Statement Nowhere)) : Type 0 where
@@ -206,3 +218,9 @@ QuietBehind = (t : Plain) (path : List ℕ) (b : BlockAt Nowhere) → block_at t
 abbrev pub FilesAreLines : Type 0
 FilesAreLines = (bytes : List ℕ) (t : Plain) → Spells bytes t → (items : List Lexeme) → IsItemList bytes items → (end : List ℕ) → IsBreak items end
     → IsLinesText (bytes ++ end) (file_statements t)
+
+-- Lines stay lines of the same statements if their blanks, comments and continuations are others and their line ends are written otherwise: as in lines that are
+-- indented, or have the line ends of another file.
+abbrev pub LinesAlike : Type 0
+LinesAlike = (text now : List ℕ) (new : List (Statement Nowhere)) (l : IsLinesText text new) (items : List Lexeme) → IsItemList now items
+    → outright items ≡ outright l.items → EndsItsLine items → IsLinesText now new

@@ -5,7 +5,7 @@ ghost use Rattle.meson_edit.specs.Holes.{ListsStand, NodesStand, BlocksErase, Li
 ghost use Rattle.meson_edit.specs.Exchange.{ListsExchange, ListsLevel, ListsReadAgain};
 ghost use Rattle.meson_edit.specs.Blocks.{AppendedReadAgain, AppendingLevels, RemovalsLevel, RemovalsReadAgain, StatementsCome, StatementsGo};
 ghost use Rattle.meson_edit.specs.Lines.{AppendedWords, CutsAreUtf8, FilesEnd, LinesAreTexts, SpelledReads, StatementsAreTexts, StatementsEnd, StatementsStand};
-ghost use Rattle.meson_edit.specs.ExchangedLines.{AppendingExchanges, ExchangesComputed, ExchangesStand, FilesAreLines, FilesEndStand, LinesDeepen, LinesExchange, LinesLevel, LinesReadAgain, LinesThere, QuietBefore, QuietBehind, RemovalsExchange, StatementsComeAndGo, StatementsHaveLines};
+ghost use Rattle.meson_edit.specs.ExchangedLines.{AppendingExchanges, ExchangesComputed, ExchangesStand, FilesAreLines, FilesEndStand, LinesAlike, LinesDeepen, LinesExchange, LinesLevel, LinesReadAgain, LinesThere, QuietBefore, QuietBehind, RemovalsExchange, StatementsComeAndGo, StatementsHaveLines};
 ghost use Rattle.meson_edit.specs.ExchangedTokens.{TokensMove};
 ghost use Rattle.meson_edit.specs.MappedPaths.{ListsMap, NodesMap};
 ghost use Rattle.meson_edit.specs.Swap.{ListsSwap};
@@ -84,7 +84,7 @@ pub fn exchanged_lines()
 {}
 
 /// Which lines stand for a statement: others may come before them or after them, or they may go. Comments and empty lines may be counted with them. Others may
-/// also come at the end of a file. And a file's text is lines of its statements.
+/// also come at the end of a file. And a file's text is lines of its statements, however they are indented.
 pub fn whole_lines()
     ensures statements { StatementsHaveLines }
     ensures there { LinesThere }
@@ -93,6 +93,7 @@ pub fn whole_lines()
     ensures quiet_before { QuietBefore }
     ensures quiet_behind { QuietBehind }
     ensures files { FilesAreLines }
+    ensures alike { LinesAlike }
 {}
 
 /// If a list is replaced by another one, the tokens before it stay where they are. Those after it move by the difference of the lengths.
