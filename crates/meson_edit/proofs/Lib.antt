@@ -2,6 +2,7 @@
 mod Words
 pub mod Coding
 pub mod lists
+pub mod lines
 pub mod statements
 pub mod paths
 pub mod sequences

@@ -10,6 +10,7 @@ pub mod ExchangedTrees
 pub mod Borders
 pub mod Exchange
 pub mod Blocks
+pub mod ExchangedLines
 pub mod ExchangedTokens
 pub mod Holes
 pub mod KeptLists

@@ -5,6 +5,7 @@ ghost use Rattle.meson_edit.specs.Holes.{ListsStand, NodesStand, BlocksErase, Li
 ghost use Rattle.meson_edit.specs.Exchange.{ListsExchange, ListsLevel, ListsReadAgain};
 ghost use Rattle.meson_edit.specs.Blocks.{AppendedReadAgain, AppendingLevels, RemovalsLevel, RemovalsReadAgain, StatementsCome, StatementsGo};
 ghost use Rattle.meson_edit.specs.Lines.{AppendedWords, CutsAreUtf8, FilesEnd, LinesAreTexts, SpelledReads, StatementsAreTexts, StatementsEnd, StatementsStand};
+ghost use Rattle.meson_edit.specs.ExchangedLines.{AppendingExchanges, ExchangesComputed, ExchangesStand, FilesAreLines, FilesEndStand, LinesAlike, LinesDeepen, LinesExchange, LinesLevel, LinesReadAgain, LinesThere, QuietBefore, QuietBehind, RemovalsExchange, StatementsComeAndGo, StatementsHaveLines};
 ghost use Rattle.meson_edit.specs.ExchangedTokens.{TokensMove};
 ghost use Rattle.meson_edit.specs.MappedPaths.{ListsMap, NodesMap};
 ghost use Rattle.meson_edit.specs.Swap.{ListsSwap};
@@ -63,6 +64,36 @@ pub fn lines()
     ensures appended_words { AppendedWords }
     ensures cuts_are_utf8 { CutsAreUtf8 }
     ensures spelled_reads { SpelledReads }
+{}
+
+/// Of a list of statements some become others: where each is then. A statement that is removed, and one that is appended, are the two simplest cases.
+pub fn exchanged_statements()
+    ensures stand { ExchangesStand }
+    ensures removals { RemovalsExchange }
+    ensures appending { AppendingExchanges }
+    ensures computed { ExchangesComputed }
+{}
+
+/// Whole lines may be exchanged for others, in any block: the new text spells the tree in which the statements that stood there are those of the new lines. It
+/// parses as that tree if its length and its depth allow it.
+pub fn exchanged_lines()
+    ensures lines_exchange { LinesExchange }
+    ensures lines_read_again { LinesReadAgain }
+    ensures lines_level { LinesLevel }
+    ensures lines_deepen { LinesDeepen }
+{}
+
+/// Which lines stand for a statement: others may come before them or after them, or they may go. Comments and empty lines may be counted with them. Others may
+/// also come at the end of a file. And a file's text is lines of its statements, however they are indented.
+pub fn whole_lines()
+    ensures statements { StatementsHaveLines }
+    ensures there { LinesThere }
+    ensures come_and_go { StatementsComeAndGo }
+    ensures files_end { FilesEndStand }
+    ensures quiet_before { QuietBefore }
+    ensures quiet_behind { QuietBehind }
+    ensures files { FilesAreLines }
+    ensures alike { LinesAlike }
 {}
 
 /// If a list is replaced by another one, the tokens before it stay where they are. Those after it move by the difference of the lengths.

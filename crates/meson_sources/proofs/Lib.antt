@@ -4,6 +4,7 @@ pub mod KeyTexts
 pub mod SourcesAdded
 pub mod SourcesGone
 pub mod SourcesRenamed
+pub mod SourcesSorted
 pub mod AllSources
 pub mod ShrunkFiles
 pub mod AllExtras
@@ -13,4 +14,6 @@ mod met
 mod gone
 mod added
 mod renamed
+mod LoneTokens
+mod sorted
 mod commands

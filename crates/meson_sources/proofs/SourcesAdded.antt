@@ -19,12 +19,12 @@ use Rattle.meson_sources.proofs.met.Targets.{files_stand}
 
 module _ (list : CallRef) (e : Edit) (of_list : (t : Plain) → edited e t ≡ edited_list e list.path.steps t) (trees between : List Plain) (made : stepped (step_in list e) trees ≡ Some between) (xs : List (Argument Nowhere))
     (had : elements_found list trees ≡ Some xs) where
-  record Edited : Type 0 where
-    ys : List (Argument Nowhere)
-    are : edited_elements e xs ≡ Some ys
-    has : elements_found list between ≡ Some ys
+  pub record Edited : Type 0 where
+    pub ys : List (Argument Nowhere)
+    pub are : edited_elements e xs ≡ Some ys
+    pub has : elements_found list between ≡ Some ys
 
-  one_edit : Edited
+  pub one_edit : Edited
   one_edit =
       let path = list.path.steps in
       let c = change_made list.file (edited e) trees between made in

@@ -18,6 +18,7 @@ use Rattle.meson_steps.specs.ResultLimits.{plain_trees}
 use Rattle.meson_steps.specs.Steps.{Step, all_stepped}
 use Rattle.meson_steps.specs.WrittenTexts.{string_of}
 use Rattle.meson_sources.specs.Exchanged.{each_with}
+use Rattle.meson_sources.specs.Sorting.{sources_sorted}
 use Rattle.meson_sources.specs.Without.{each_without}
 use Rattle.meson_sources.specs.SourceEdits.{Spot, extra_added, extra_key, extra_marks, extra_removed, has_text, is_known, is_path, is_plain, items_of, new_names, sources_added, sources_removed, sources_renamed, spots_named}
 use Rattle.meson_calls.specs.declared.call.CallName.{CallName}
@@ -55,6 +56,30 @@ SourcesAreAdded = (old : Loaded) → IsProject old → (target : CallName) (c : 
     → (names : List (List ℕ)) (steps : List Step) (after : List Plain)
     → sources_added (project old) c names ≡ Ok steps → all_stepped steps (plain_trees old) ≡ Some after
     → ListGets (home c.place (source_marks (project old) c)) (new_names (source_marks (project old) c) names) (plain_trees old) after
+
+-- ---- sources that are added, each in its place if their list is in order
+
+-- The second list is the first one with each of these strings put once among its elements, which stay in their order.
+pub data GetsAmong : (names : List (List ℕ)) → (before after : List (Argument Nowhere)) → Type 0 where
+  as_before : (xs : List (Argument Nowhere)) → GetsAmong [] xs xs
+  one_more : (name : List ℕ) (names : List (List ℕ)) (front back before after : List (Argument Nowhere)) → before ≡ front ++ back
+      → GetsAmong names (front ++ plain (string_of name) ∷ back) after → GetsAmong (name ∷ names) before after
+
+-- The list has its elements in their order, with these strings among them; and all else is as it was.
+pub record ListGetsAmong (list : CallRef) (names : List (List ℕ)) (before after : List Plain) : Type 0 where
+  pub elements : List (Argument Nowhere)
+  pub had : elements_found list before ≡ Some elements
+  pub now : List (Argument Nowhere)
+  pub has : elements_found list after ≡ Some now
+  pub among : GetsAmong names elements now
+  pub only : OnlyList list before after
+
+-- the law: the list to which further sources of the target are added gets those that are not sources of it yet, each once, wherever it is put
+abbrev pub SourcesAreSorted : Type 0
+SourcesAreSorted = (old : Loaded) → IsProject old → (target : CallName) (c : Placed (Call Span)) → the_call (project old) role.Target target ≡ Ok c
+    → (names : List (List ℕ)) (steps : List Step) (after : List Plain)
+    → sources_sorted old.files (project old) c names ≡ Ok steps → all_stepped steps (plain_trees old) ≡ Some after
+    → ListGetsAmong (home c.place (source_marks (project old) c)) (new_names (source_marks (project old) c) names) (plain_trees old) after
 
 -- ---- extra files that are added
 

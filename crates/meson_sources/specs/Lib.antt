@@ -1,5 +1,6 @@
 pub mod SourceEdits
 pub mod Extras
+pub mod Sorting
 pub mod Targeted
 pub mod Without
 pub mod Exchanged

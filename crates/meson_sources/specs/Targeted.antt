@@ -9,6 +9,9 @@ use Rattle.meson_calls.specs.declared.call.CallName.{CallName}
 use Rattle.meson_calls.specs.declared.call.Role.TheVariants as role
 use Rattle.meson_calls.specs.Project.{Project, Placed}
 use Rattle.meson_calls.specs.Finding.{the_call}
+use Rattle.meson_lex.specs.declared.kinds.Span.{Span}
+use Rattle.meson_splice.specs.declared.file_set.File.{File}
+use Rattle.meson_sources.specs.Sorting.{sources_sorted}
 use Rattle.meson_steps.specs.Steps.{Step}
 use Rattle.meson_sources.specs.SourceEdits.{sources_added, sources_removed, sources_renamed, extra_added, extra_removed}
 
@@ -21,6 +24,10 @@ change_steps p ExtraRemoved names c = extra_removed p c names
 
 abbrev pub target_steps : {S : Type 0} → Project S → CallName → TargetChange → List (List ℕ) → Result (List Step) Refusal
 target_steps p target change names = then_ok (the_call p role.Target target) (change_steps p change names)
+
+-- the steps that add sources to a target, each in its place if their list is in order
+abbrev pub sorted_steps : List File → Project Span → CallName → List (List ℕ) → Result (List Step) Refusal
+sorted_steps files p target names = then_ok (the_call p role.Target target) (λ c. sources_sorted files p c names)
 
 -- the steps that rename the sources of a target
 abbrev pub renamed_steps : {S : Type 0} → Project S → CallName → (old new : List ℕ) → Result (List Step) Refusal

@@ -1,3 +1,4 @@
+pub mod Additions
 pub mod CodeSpots
 pub mod Naming
 pub mod Targeted

@@ -12,6 +12,7 @@ ghost use Rattle.meson_calls.specs.Refusals.{RefusedAs};
 ghost use Rattle.meson_sources.specs.SourceEdits.{insertion_steps, is_plain, plain_len, sources_added, sources_removed};
 ghost use Rattle.meson_steps.specs.ListSteps.{bare};
 ghost use Rattle.meson_steps.specs.Meanings.{AreMeant};
+ghost use Rattle.meson_sources.specs.inside.Additions.{MayAdd, Steps, if_may_add};
 
 use crate::inserting::{insert, new_names, places_of};
 use crate::removing::names_removed;
@@ -74,6 +75,42 @@ pub(crate) fn insertions(
     Ok(steps)
 }
 
+/// Names that are added to the sources of a call: the list that gets them, and those that are not sources yet, each once.
+#[derive(Drop)]
+pub(crate) struct Addition<'n> {
+    pub list: CallRef,
+    pub new: Vec<&'n Text>,
+}
+
+/// How names are added: to the list of the first source that is in one.
+///
+/// # Errors
+/// A name is empty, `sources:` is there twice, or out of memory.
+pub(crate) fn addition_of<'t, 'n>(
+    variables: &Variables<'t>,
+    call: &CallRef,
+    source: &'t [u8],
+    arguments: &'t List,
+    names: &'n [Text],
+) -> Result<Addition<'n>, Refusal>
+    requires holds { AreVariables variables.now }
+    requires good { GoodListing (list_view source.now arguments.now) }
+    ensures may { (function : Source) → IfOk result (λ a. MayAdd (project_of variables.now)
+        (placed_call call.now function source.entry.now arguments.entry.now) names.entry.now a.list (map (λ x. x.now) a.new.items)) }
+    ensures refused { (function : Source) (steps : Steps) →
+        RefusedAs result (if_may_add (placed_call call.now function source.entry.now arguments.entry.now) names.entry.now steps) }
+    ensures utf8 { IfOk result (λ _. All IsUtf8 names.entry.now) }
+{
+    let alloc = variables.alloc;
+    checked_names(names)?;
+    at_most_once(alloc, source, arguments, b"sources".as_slice())?;
+    let marks = met(variables, MAX_FOLLOWED, call, source, arguments.items.get())?;
+    let new = new_names(alloc, marks.items.as_slice(), names)?;
+    let (list, vacant) = places_of(marks);
+    let list = home_of(alloc, call, list, vacant)?;
+    Ok(Addition { list, new })
+}
+
 /// The steps that add sources: to the list of the first of its sources that is in one.
 ///
 /// # Errors
@@ -94,15 +131,8 @@ pub(crate) fn sources_added<'t>(
         RefusedAs result (sources_added (project_of variables.now) (placed_call call.now function source.entry.now arguments.entry.now) names.now) }
     ensures utf8 { IfOk result (λ steps. All IsUtf8 names.now) }
 {
-    let alloc = variables.alloc;
-    checked_names(names)?;
-    at_most_once(alloc, source, arguments, b"sources".as_slice())?;
-    let marks = met(variables, MAX_FOLLOWED, call, source, arguments.items.get())?;
-    let new = new_names(alloc, marks.items.as_slice(), names)?;
-    let (list, vacant) = places_of(marks);
-    let home = home_of(alloc, call, list, vacant)?;
-    let steps = insertions(variables, &home, new.as_slice())?;
-    Ok(steps)
+    let addition = addition_of(variables, call, source, arguments, names)?;
+    insertions(variables, &addition.list, addition.new.as_slice())
 }
 
 /// The steps that remove sources, in whatever list they are.

@@ -1,6 +1,6 @@
 //! Laws of sources. The functions do nothing: what they ensure is the law.
 
-ghost use Rattle.meson_sources.specs.Effects.{ExtraIsAdded, ExtraIsRemoved, SourcesAreAdded, SourcesAreRemoved, SourcesAreRenamed};
+ghost use Rattle.meson_sources.specs.Effects.{ExtraIsAdded, ExtraIsRemoved, SourcesAreAdded, SourcesAreRemoved, SourcesAreRenamed, SourcesAreSorted};
 ghost use Rattle.meson_sources.specs.InTurn.{ExtrasGoInTurn, SourcesGoInTurn};
 ghost use Rattle.meson_sources.specs.MetOnce.{ItemsAreMetOnce};
 ghost use Rattle.meson_sources.specs.WholeExtras.{AllExtrasGrow, AllExtrasShrink};
@@ -9,6 +9,11 @@ ghost use Rattle.meson_sources.specs.WholeSources.{AllSourcesGrow, AllSourcesShr
 /// The list to which further sources of a target are added keeps its elements in their order. It has each new source once after those without a name.
 pub fn sources_are_added()
     ensures { SourcesAreAdded }
+{}
+
+/// The list to which further sources of a target are added in order keeps its elements in their order. Among them it has each new source once.
+pub fn sources_are_sorted()
+    ensures { SourcesAreSorted }
 {}
 
 /// After an addition the id of the target names one target, by the call at the same place. All its sources, in whatever list they are, are those that it had,

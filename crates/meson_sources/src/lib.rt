@@ -1,4 +1,4 @@
-//! Sources and extra files added to a target and removed from it, and sources renamed.
+//! Sources and extra files added to a target and removed from it, sources added in order, and sources renamed.
 #![tactic(auto)]
 
 mod editing;
@@ -8,4 +8,5 @@ mod inserting;
 pub mod laws;
 mod removing;
 pub mod renaming;
+pub mod sorting;
 pub mod targeting;

@@ -35,7 +35,7 @@ line-utf8 : (end : List ℕ) → IsLineEnd end → IsUtf8 end
 line-utf8 end (inl e) = subst IsUtf8 (sym e) (IsUtf8-from_ascii (10 ∷ []) (IsAscii-push [] 10 IsAscii-nil (lit< tt)))
 line-utf8 end (inr e) = subst IsUtf8 (sym e) (IsUtf8-from_ascii (13 ∷ 10 ∷ []) (IsAscii-push (13 ∷ []) 10 (IsAscii-push [] 13 IsAscii-nil (lit< tt)) (lit< tt)))
 
-break-utf8 : (xs : List Lexeme) (break : List ℕ) → IsBreak xs break → IsUtf8 break
+pub break-utf8 : (xs : List Lexeme) (break : List ℕ) → IsBreak xs break → IsUtf8 break
 break-utf8 xs break (inl l) = line-utf8 break l
 break-utf8 xs break (inr e) = subst IsUtf8 (sym e.0) IsUtf8-nil
 

@@ -55,6 +55,7 @@ pub record Begun (text : List ℕ) (words : List Word) : Type 0 where
   pub stand : (now : List ℕ) → AreItems head now
   pub state : after start head ≡ start
   pub told : emitted start head ≡ words
+  pub ends : EndsItsLine head
 
 -- where no line end has to come, the words are those of the text
 all-told : (xs : List Lexeme) (words : List Word) → significant xs ≡ words → after start xs ≡ start → emitted start xs ≡ words
@@ -74,6 +75,7 @@ module _ (bytes : List ℕ) (xs : List Lexeme) (are : IsItemList bytes xs) (word
         stand = λ now. AreItems-append xs (line ∷ []) now (before-line xs end now l are.each) (line-item end now l, tt);
         state = after-append start xs (line ∷ []) ∙ line-end-state q deep;
         told = emitted-append start xs (line ∷ []) ∙ ap (λ w. emitted start xs ++ w) (append-nil (only_if (ends_line q.depth q.fresh) new_line) ∙ line-end-word q.depth q.fresh deep) ∙ is;
+        ends = inr (xs, line, refl, refl);
       }
 
   ended-state : EndsItsLine xs → after start xs ≡ start
@@ -92,7 +94,7 @@ module _ (bytes : List ℕ) (xs : List Lexeme) (are : IsItemList bytes xs) (word
       (other-end e.0 e.1 [] now (subst (λ l. AreItems l []) e.3 are.each) (λ i. (i.0, i.1, silent-stands e.1.kind e.1.text now (ap (λ κ. speaks (role κ)) e.2) no_blank no_comment)))
 
   as-it-is : EndsItsLine xs → Begun bytes words
-  as-it-is e = record { head = xs; joins = are.joins; stand = ended-stand e; state = ended-state e; told = all-told xs words is (ended-state e) }
+  as-it-is e = record { head = xs; joins = are.joins; stand = ended-stand e; state = ended-state e; told = all-told xs words is (ended-state e); ends = e }
 
   pub begun : (break : List ℕ) → IsBreak xs break → Begun (bytes ++ break) words
   begun break (inl l) = with-line break l

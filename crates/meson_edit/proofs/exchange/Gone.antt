@@ -51,18 +51,22 @@ module _ (items : List Lexeme) (are : AreItems items []) (span : Span) (a b word
   pub own-words : emitted start st.own ≡ words
   own-words = ap (λ q. emitted q st.own) (sym left-state) ∙ st.is_own
 
-  own-state : after start st.own ≡ in_line
+  pub own-state : after start st.own ≡ in_line
   own-state = tight-state st.own words st.tight own-words flat
 
   pub both-state : after start (st.left ++ st.own) ≡ in_line
   both-state = after-append start st.left st.own ∙ ap (λ q. after q st.own) left-state ∙ own-state
 
-  -- behind a removed statement
-  right-told : told start st.right ≡ b
-  right-told =
+  -- behind a statement its line ends
+  pub behind-told : told in_line st.right ≡ new_line ∷ b
+  behind-told =
       let whole : after start items ≡ after in_line st.right =
       ap (after start) (st.parts ∙ sym (append_assoc st.left st.own st.right)) ∙ after-append start (st.left ++ st.own) st.right ∙ ap (λ q. after q st.right) both-state in
-      line-ended st.right b (ap₂ (λ (p q : State). emitted p st.right ++ closing q.fresh) (sym both-state) (sym whole) ∙ st.is_right)
+      ap₂ (λ (p q : State). emitted p st.right ++ closing q.fresh) (sym both-state) (sym whole) ∙ st.is_right
+
+  -- behind a removed statement
+  right-told : told start st.right ≡ b
+  right-told = line-ended st.right b behind-told
 
   module _ (front gone back : List Lexeme) (cut : st.right ≡ gone ++ back) (rest : IsLineRest gone) where
     -- ---- words

@@ -3,18 +3,18 @@ use Rattle.meson_edit.proofs.Words.{◌≡◌, ℕ, ◌≤◌, List, [], ◌∷�
 use Rattle.meson_edit.proofs.Words.{Lexeme, joined, IsItemList, AreItems, located, new_line, Span, one_list, joined-append, statement_words, LevelFile}
 use Rattle.meson_edit.proofs.Words.{file_depth, of_statement, Fits, Spells, ReadsWithin, IsSpannedWithin, Statement, File, erase, Limits, file-words-erased}
 use Rattle.meson_edit.proofs.Words.{file-level-erased, file-depth-erased, BlockAt, block_at, statement_in, block_without, IsTrimmed, IsLineRest, statement_span}
-use Rattle.meson_edit.proofs.Words.{StandsAmongItems}
+use Rattle.meson_edit.proofs.Words.{StandsAmongItems, append_cancel_left, append_cancel_right}
 use Rattle.meson_edit.proofs.places.Inside.{inside-part}
 use Rattle.meson_edit.proofs.places.Standing.{node-stands}
 use Rattle.meson_edit.proofs.exchange.States.{lines-append}
 use Rattle.meson_edit.proofs.exchange.StatementLines.{statement-flat}
 use Rattle.meson_edit.proofs.exchange.Cuts.{same-items, utf8-cut}
-use Rattle.meson_edit.proofs.exchange.AmongStatements.{BlockFits, block-fits-file, InBlock, in-block, without-level}
+use Rattle.meson_edit.proofs.exchange.AmongStatements.{BlockFits, block-fits, BlockStands, block-stands, InBlock, in-block, without-level}
 use Rattle.meson_edit.proofs.exchange.Gone.{gone-words, gone-items}
 use Rattle.meson_edit.proofs.exchange.ReadAgain.{no-mark}
 
 pub removals-level : (f : File Span) (path : List ℕ) (b : BlockAt Span) → block_at f path ≡ Some b → LevelFile f → (n : ℕ) → LevelFile (b.back (block_without b.inside n))
-removals-level f path b is level n = let fits = block-fits-file f path b is in fits.outside level (block_without b.inside n) (without-level b.inside n (fits.level level))
+removals-level f path b is level n = let fits = block-fits Span f path b is in fits.outside level (block_without b.inside n) (without-level b.inside n (fits.level level))
 
 -- ---- the texts on both sides
 
@@ -42,8 +42,11 @@ words-group a b c d = simp append_assoc
 
 module _ (limits : Limits) (bytes : List ℕ) (f : File Span) (s : IsSpannedWithin limits bytes f) (path : List ℕ) (b : BlockAt Span) (is : block_at f path ≡ Some b)
     (n : ℕ) (x : Statement Span) (at : statement_in b.inside n ≡ Some x) where
-  pub fits : BlockFits f b
-  fits = block-fits-file f path b is
+  pub placed : BlockStands f path b
+  placed = block-stands f path b is
+
+  abbrev pub fits : BlockFits Span f path b
+  fits = placed.fits
 
   pub found : InBlock b.inside n x
   found = in-block b.inside n x at
@@ -53,7 +56,7 @@ module _ (limits : Limits) (bytes : List ℕ) (f : File Span) (s : IsSpannedWith
 
   pub stands : StandsAmongItems items (statement_span x) (fits.before ++ found.earlier) (statement_words x) (new_line ∷ (found.later ++ fits.behind))
   stands =
-      let u = fits.spelled (length bytes) limits.depth (located items) s.stands in
+      let u = placed.spelled (length bytes) limits.depth (located items) s.stands in
       let v = found.spelled u.depth u.last u.own u.spelled in
       node-stands items of_statement x (fits.before ++ found.earlier) (new_line ∷ (found.later ++ fits.behind))
       (inside-part of_statement x found.earlier (new_line ∷ found.later) fits.before fits.behind (located items) u.front u.own u.back u.parts u.is_front u.is_back v)
@@ -67,6 +70,15 @@ module _ (limits : Limits) (bytes : List ℕ) (f : File Span) (s : IsSpannedWith
       let second = same-items (left ++ own) right (stands.left ++ stands.own) stands.right
       (append_assoc left own right ∙ whole ∙ sym (append_assoc stands.left stands.own stands.right)) (subst (λ l. AreItems l []) (sym (append_assoc left own right)) are.each) (to ∙ stands.to) in
       (first.0, second.1)
+
+  pub cut-own : (left own right : List Lexeme) → IsItemList bytes (left ++ (own ++ right)) → length (joined left) ≡ (statement_span x).from → length (joined (left ++ own)) ≡ (statement_span x).to
+      → own ≡ stands.own
+  cut-own left own right are from to =
+      let same = cut-items left own right are from to in
+      let whole : left ++ (own ++ right) ≡ stands.left ++ (stands.own ++ stands.right) = one_list bytes (left ++ (own ++ right)) items are s.reads.spells.are_items ∙ stands.parts in
+      let behind : own ++ right ≡ stands.own ++ stands.right =
+      append_cancel_left stands.left (own ++ right) (stands.own ++ stands.right) (ap (λ l. l ++ (own ++ right)) (sym same.0) ∙ whole) in
+      append_cancel_right own stands.own stands.right (ap (λ r. own ++ r) (sym same.1) ∙ behind)
 
   module _ (left own right : List Lexeme) (are : IsItemList bytes (left ++ (own ++ right))) (from : length (joined left) ≡ (statement_span x).from) (to : length (joined (left ++ own)) ≡ (statement_span x).to)
       (front gone back : List Lexeme) (trim : IsTrimmed left front back) (cut : right ≡ gone ++ back) (rest : IsLineRest gone) where

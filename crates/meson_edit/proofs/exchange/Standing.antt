@@ -1,6 +1,6 @@
 -- Where lines begin and end among the items of a text, and what its statements' texts are.
-use Rattle.meson_edit.proofs.Words.{◌≡◌, ℕ, ◌≤◌, List, [], ◌∷◌, ◌++◌, length, Some, refl, sym, ap, ap₂, subst, ◌∙◌, IsUtf8, append_cancel_left}
-use Rattle.meson_edit.proofs.Words.{append_cancel_right, Lexeme, joined, IsItemList, Word, kept, Role, Gap, Ends, Opens, Closes, Other, role, State, step}
+use Rattle.meson_edit.proofs.Words.{◌≡◌, ℕ, ◌≤◌, List, [], ◌∷◌, ◌++◌, length, Some, refl, sym, ap, ap₂, subst, ◌∙◌, IsUtf8}
+use Rattle.meson_edit.proofs.Words.{Lexeme, joined, IsItemList, Word, kept, Role, Gap, Ends, Opens, Closes, Other, role, State, step}
 use Rattle.meson_edit.proofs.Words.{emit_by, start, after, emitted, spoken_by, spoken, IsTight, Kind, Span, one_list, AreItems-split, statement_words}
 use Rattle.meson_edit.proofs.Words.{file_words, file_depth, Fits, Spells, ReadsWithin, IsSpannedWithin, Nowhere, Plain, Statement, File, Limits, BlockAt}
 use Rattle.meson_edit.proofs.Words.{block_at, statement_in, block_without, IsStatementText, in_line, LineStands, HasNoLineEnd, statement_span}
@@ -10,7 +10,7 @@ use Rattle.meson_edit.proofs.exchange.StatementLines.{statement-flat, file-lines
 use Rattle.meson_edit.proofs.exchange.Cuts.{utf8-cut}
 use Rattle.meson_edit.proofs.exchange.LineWords.{tight-state}
 use Rattle.meson_edit.proofs.exchange.Gone.{left-state, own-words, both-state}
-use Rattle.meson_edit.proofs.exchange.Removed.{fits, found, stands, cut-items, words-group}
+use Rattle.meson_edit.proofs.exchange.Removed.{fits, found, stands, cut-own, words-group}
 use Rattle.meson_edit.proofs.exchange.Begun.{end-depth}
 use Rattle.meson_edit.proofs.exchange.Ends.{end-changed, end-stands}
 use Rattle.meson_edit.proofs.exchange.ReadAgain.{no-mark}
@@ -53,10 +53,7 @@ module _ (limits : Limits) (bytes : List ℕ) (f : File Span) (s : IsSpannedWith
   unfolding line-stands
   own-text left own right are from to =
       let st = line-stands in
-      let same = cut-items limits bytes f s path b is n x at left own right are from to in
-      let whole : left ++ (own ++ right) ≡ st.left ++ (st.own ++ st.right) = one_list bytes (left ++ (own ++ right)) s.reads.spells.items are s.reads.spells.are_items ∙ st.parts in
-      let behind : own ++ right ≡ st.own ++ st.right = append_cancel_left st.left (own ++ right) (st.own ++ st.right) (ap (λ l. l ++ (own ++ right)) (sym same.0) ∙ whole) in
-      let is_own : own ≡ st.own = append_cancel_right own st.own st.right (ap (λ r. own ++ r) (sym same.1) ∙ behind) in
+      let is_own = cut-own limits bytes f s path b is n x at left own right are from to in
       let each = (AreItems-split own right [] (AreItems-split left (own ++ right) [] are.each).1).0 in
       record {
         items = own;
@@ -74,7 +71,7 @@ plain-role Opens s w h = refl
 plain-role Closes s w h = refl
 plain-role Other s w h = refl
 
-ends-line : (κ : Kind) → (κ ≡ k.LineEnd → ⊥) → role κ ≡ Ends → ⊥
+pub ends-line : (κ : Kind) → (κ ≡ k.LineEnd → ⊥) → role κ ≡ Ends → ⊥
 ends-line k.LineEnd h e = h refl
 ends-line _ h e = absurd cc
 

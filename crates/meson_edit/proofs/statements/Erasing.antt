@@ -1,10 +1,11 @@
 -- A block and its statements in a tree and in the tree without its spans: what an edit leaves has the same words in both.
-use Rattle.meson_edit.proofs.Words.{option_map, ◌≡◌, ℕ, zero, suc, List, ◌++◌, Some, refl, sym, ap, ap₂, ◌∙◌, Word, Span, block_words, file_words, Sort}
-use Rattle.meson_edit.proofs.Words.{of_expression, of_statement, of_block, Node, node_words, Hole, nth, reach, block_of, Nowhere, Plain, Statement, Statements}
+use Rattle.meson_edit.proofs.Words.{option_map, ◌≡◌, ℕ, zero, suc, List, ◌++◌, Some, refl, sym, ap, ap₂, ◌∙◌, Span, block_words, file_words}
+use Rattle.meson_edit.proofs.Words.{of_block, Hole, nth, reach, block_of, Nowhere, Plain, Statement, Statements}
 use Rattle.meson_edit.proofs.Words.{no_statements, statement, statement_list, Block, block, File, erase, erase_statement, erase_statements, erase_block}
-use Rattle.meson_edit.proofs.Words.{block-words-erased, some-injective, map-some, and-then-some, reach-fits, with-words, BlockAt, block_of_node, block_at}
+use Rattle.meson_edit.proofs.Words.{block-words-erased, some-injective, map-some, and-then-some, reach-fits, with-words, BlockAt, block_at}
 use Rattle.meson_edit.proofs.Words.{statement_in, all_but, block_without, without_statement, WordsAround, words_around, erase_front}
 use Rattle.meson_edit.proofs.paths.Erased.{nodes-erase, blocks-erase}
+use Rattle.meson_edit.proofs.exchange.AmongStatements.{of-block-at}
 
 -- ---- the words around a block
 
@@ -14,20 +15,14 @@ record InHole (S : Type 0) (f : File S) (path : List ℕ) (b : BlockAt S) : Type
   is_hole : reach S of_block (block_of f) path ≡ Some hole
   put : (other : Block S) → file_words (b.back other) ≡ hole.before ++ (block_words other ++ hole.behind)
 
-node-put : (S : Type 0) (f : File S) (sort : Sort) (x : Node sort S) (before behind : List Word) (back : Node sort S → Block S) (b : BlockAt S)
-    → ((y : Node sort S) → block_words (back y) ≡ before ++ (node_words S sort y ++ behind)) → block_of_node S sort x f back ≡ Some b
-    → (other : Block S) → file_words (b.back other) ≡ before ++ (block_words other ++ behind)
-node-put S f of_expression x before behind back b put is other = absurd cc
-node-put S f of_statement x before behind back b put is other = absurd cc
-node-put S f of_block x before behind back b put is other =
-    ap (λ (c : BlockAt S). file_words (c.back other)) (sym (some-injective _ _ is)) ∙ with-words S f (back other) ∙ put other
-
 in-hole : (S : Type 0) (f : File S) (path : List ℕ) (b : BlockAt S) → block_at f path ≡ Some b → InHole S f path b
 in-hole S f path b is =
-    let o = and-then-some (λ h. block_of_node S h.sort h.inside f h.back) (reach S of_block (block_of f) path) b is in
-    let h = o.0 in
-    let r = reach-fits S of_block (block_of f) path h o.1 in
-    record { hole = h; is_hole = o.1; put = node-put S f h.sort h.inside h.before h.behind h.back b r.put o.2 }
+    of-block-at S f path (InHole S f path)
+    (λ x before behind back at.
+    let h : Hole S (Block S) = record { sort = of_block; inside = x; before = before; behind = behind; back = back } in
+    let r = reach-fits S of_block (block_of f) path h at in
+    record { hole = h; is_hole = at; put = λ other. with-words S f (back other) ∙ r.put other })
+    b is
 
 -- blocks of the same words leave the same words of the whole
 same-words : (f : File Span) (path : List ℕ) (b : BlockAt Span) → block_at f path ≡ Some b → (q : BlockAt Nowhere) → block_at (erase f) path ≡ Some q

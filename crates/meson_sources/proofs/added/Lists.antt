@@ -242,7 +242,7 @@ module _ (c : CallRef) where
         others = λ i other. b.others i other ∙ a.others i other;
       }
 
-  edit_only : (e : Edit) → ((t : Plain) → edited e t ≡ edited_list e path t) → (trees between : List Plain) → stepped (step_in c e) trees ≡ Some between → OnlyList c trees between
+  pub edit_only : (e : Edit) → ((t : Plain) → edited e t ≡ edited_list e path t) → (trees between : List Plain) → stepped (step_in c e) trees ≡ Some between → OnlyList c trees between
   edit_only e of_list trees between made =
       let m = change_made c.file (edited e) trees between made in
       let p = and-then-some (λ q. option_map (λ l. q.back (with_elements q.list l)) (edited_elements e (elements q.list))) (list_at m.old path) m.new (sym (of_list m.old) ∙ m.is) in

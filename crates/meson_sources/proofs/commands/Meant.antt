@@ -6,8 +6,9 @@ use Rattle.meson_syntax.specs.declared.tree.Arg.{Arg}
 use Rattle.meson_syntax.specs.declared.tree.Expr.{Expr}
 use Rattle.meson_calls.proofs.FirstValue.{value_is}
 use Rattle.meson_variables.specs.declared.source.Sources.{Sources}
-use Rattle.meson_sources.proofs.Words.{filter, list_any, Err, if◌then◌else◌, not, Ok, ok_or, option_and_then, option_map, Result, [], ap, arith, Bool, false}
+use Rattle.meson_sources.proofs.Words.{filter, list_any, ap₂, Err, IfOk, if◌then◌else◌, not, Ok, ok_or, option_and_then, option_map, Result, [], ap, arith, Bool, false}
 use Rattle.meson_sources.proofs.Words.{get_or, length, List, map, None, Option, refl, Some, sym, true, zero-add, ℕ, ◌++◌, ◌<◌, ◌∙◌, ◌∷◌, ◌≡◌, ◌≤◌, length-map}
+use Rattle.meson_sources.specs.inside.Additions.{MayAdd, if_may_add}
 use Rattle.meson_sources.proofs.Words.{then_ok, Span, Expression, expr_view, Call, keyword, literal_of, Numbered, value_with_name, placed_call, IsFirstNamed}
 use Rattle.meson_sources.proofs.Words.{kept_args, kwargs_key, not_hidden, once, sources_key, Placed, Project, CallRef, Refusal, DuplicateKeyword, NotRemovable}
 use Rattle.meson_sources.proofs.Words.{once_few, once_twice, keyword_is, all_gathered, fixed, in_list, Item, Mark, max_followed, Slot, all_marked, no_marks}
@@ -15,7 +16,7 @@ use Rattle.meson_sources.proofs.Words.{number_of_slot, Tally, expand_arguments, 
 use Rattle.meson_sources.proofs.Words.{or_option, source_item, source_marks, sources_of_marks, SourceItem, arguments_are, gathered_marks, tally_is, bare}
 use Rattle.meson_sources.proofs.Words.{AreBehind, AreMeant, checked_names, distinct, Step, ListStep, extra_of_call, behind_value, checked_extra, elements_there}
 use Rattle.meson_sources.proofs.Words.{extra_added, extra_inserted, extra_key, extra_marks, extra_removed, has_text, inserted_in, insertion_steps}
-use Rattle.meson_sources.proofs.Words.{into_new_list, is_known, items_of, new_names, plain_len, removed_at, sources_added, sources_removed, Spot, spot_of}
+use Rattle.meson_sources.proofs.Words.{into_new_list, is_known, items_of, new_names, plain_len, removed_at, sources_removed, Spot, spot_of}
 use Rattle.meson_sources.proofs.Words.{spots_by, spots_named, spots_of, without_home, all_there, spot_if_there, spots_at, spots_from, spots_of_names, has_value}
 use Rattle.meson_sources.proofs.Words.{new_among, extra_gathered, lone_or_new, new_list_steps}
 
@@ -120,10 +121,8 @@ module _ (p : Project Span) (c : CallRef) (source : List ℕ) (l : rust.List) (f
   many_are y many = ap (λ xs. once sources_key xs y) (keyword_is source l function sources_key) ∙ once_twice sources_key (kept_args source (value_with_name sources_key) 0 (rust.out-List l).items) y many
 
   module _ (checked : checked_names names ≡ Ok tt) where
-    pub added_twice : 1 < args → sources_added p it names ≡ Err (DuplicateKeyword sources_key)
-    added_twice many =
-        let y = insertion_steps (home c ms) (plain_len p (home c ms)) (new_names ms names) in
-        ap (λ r. then_ok r (λ _. once sources_key (keyword sources_key it.it) y)) checked ∙ many_are y many
+    pub added_twice : 1 < args → (steps : List Step) → if_may_add it names steps ≡ Err (DuplicateKeyword sources_key)
+    added_twice many steps = ap (λ r. then_ok r (λ _. once sources_key (keyword sources_key it.it) steps)) checked ∙ many_are steps many
 
     pub removed_twice : 1 < args → sources_removed p it names ≡ Err (DuplicateKeyword sources_key)
     removed_twice many =
@@ -131,17 +130,13 @@ module _ (p : Project Span) (c : CallRef) (source : List ℕ) (l : rust.List) (f
         ap (λ r. then_ok r (λ _. then_ok (once sources_key (keyword sources_key it.it) ms) rest)) checked ∙ ap (λ r. then_ok r rest) (many_are ms many)
 
     module _ (few : args ≤ 1) (t : Tally) (is : t ≡ (all_gathered p max_followed c source (rust.out-List l).items).tally) where
-      pub added : (place : CallRef) → place ≡ or_call c (or_option t.list t.vacant) → (n : ℕ) → n ≡ plain_len p place → (new : List (List ℕ)) → new ≡ new_among t.items names
-          → (steps : List ListStep) → map Some steps ≡ map bare (insertion_steps place n new) → AreMeant (sources_added p it names) steps
-      added place is_place n is_n new is_new steps are =
+      pub may_add : (place : CallRef) → place ≡ or_call c (or_option t.list t.vacant) → (new : List (List ℕ)) → new ≡ new_among t.items names → MayAdd p it names place new
+      may_add place is_place new is_new =
           let f = fields t is in
-          let y = insertion_steps (home c ms) (plain_len p (home c ms)) (new_names ms names) in
-          let place_is = is_place ∙ ap (λ o. or_call c (or_option o t.vacant)) f.is_list ∙ ap (λ o. or_call c (or_option (first_list ms) o)) f.is_vacant in
-          let new_is = is_new ∙ ap (λ xs. new_among xs names) f.are_items ∙ new_are ms names in
           record {
-            steps = y;
-            is = ap (λ r. then_ok r (λ _. once sources_key (keyword sources_key it.it) y)) checked ∙ few_are y few;
-            bare = sym (are ∙ ap (λ k. map bare (insertion_steps place k new)) is_n ∙ ap (λ h. map bare (insertion_steps h (plain_len p h) new)) place_is ∙ ap (λ ns. map bare (insertion_steps (home c ms) (plain_len p (home c ms)) ns)) new_is);
+            may = λ steps. ap (λ r. then_ok r (λ _. once sources_key (keyword sources_key it.it) steps)) checked ∙ few_are steps few;
+            is_list = is_place ∙ ap (λ o. or_call c (or_option o t.vacant)) f.is_list ∙ ap (λ o. or_call c (or_option (first_list ms) o)) f.is_vacant;
+            are_new = is_new ∙ ap (λ xs. new_among xs names) f.are_items ∙ new_are ms names;
           }
 
       after_checks : sources_removed p it names ≡ removed_at (spots_of_names t.items t.numbers t.unknown (distinct names))
@@ -155,6 +150,15 @@ module _ (p : Project Span) (c : CallRef) (source : List ℕ) (l : rust.List) (f
 
       pub not_gone : (e : Refusal) → removed_at (spots_of_names t.items t.numbers t.unknown (distinct names)) ≡ Err e → sources_removed p it names ≡ Err e
       not_gone e refused = after_checks ∙ refused
+
+-- the steps that put the new names into their list, however they do it
+module _ {V : Type 0} (code : V → List ListStep) (put : CallRef → List (List ℕ) → List Step) (p : Project Span) (c : Placed (Call Span)) (names : List (List ℕ)) where
+  pub put_meant : (list : CallRef) (new : List (List ℕ)) → MayAdd p c names list new → (r : Result V Refusal) → IfOk r (λ v. map Some (code v) ≡ map bare (put list new))
+      → IfOk r (λ v. AreMeant (if_may_add c names (put (home c.place (source_marks p c)) (new_names (source_marks p c) names))) (code v))
+  put_meant list new m (Ok v) are =
+      let steps = put (home c.place (source_marks p c)) (new_names (source_marks p c) names) in
+      record { steps = steps; is = m.may steps; bare = sym (are ∙ ap₂ (λ h ns. map bare (put h ns)) m.is_list m.are_new) }
+  put_meant list new m (Err e) are = tt
 
 -- ==== The steps that commands on extra files mean, by what the code finds.
 

@@ -21,7 +21,9 @@ use Rattle.meson_sources.proofs.Words.{some-injective, elements, CallIn, Call, c
 use Rattle.meson_sources.proofs.Words.{note_views, BuildFile, expression_at, Placed, placed, Project, CallRef, Refusal, CallAt, role_found, project_of}
 use Rattle.meson_sources.proofs.Words.{AreDoable, AreMeant, plain_trees, Step, ListStep, then_was, elements_there, change_steps, target_steps}
 use Rattle.meson_sources.specs.SourceEdits.{sources_renamed}
-use Rattle.meson_sources.specs.Targeted.{renamed_steps}
+use Rattle.meson_sources.specs.Sorting.{sources_sorted}
+use Rattle.meson_sources.specs.Targeted.{renamed_steps, sorted_steps}
+use Rattle.meson_sources.proofs.sorted.Homes.{sources_may_be_sorted}
 use Rattle.meson_sources.proofs.added.Counts.{elements_of}
 use Rattle.meson_sources.proofs.added.Homes.{sources_may_be_added, extras_may_be_added}
 use Rattle.meson_sources.proofs.gone.Trees.{sources_may_be_removed, extras_may_be_removed}
@@ -128,6 +130,19 @@ module _ (old : Loaded) (whole : IsProject old) where
         → IfOk r (λ v. AreMeant (target_steps p target change names) (list v)) → IfOk r (λ v. ArePlanned old (target_steps p target change names) (list v))
     all_mean target change names (Ok v) utf8 meant = target_means target change names utf8 (list v) meant
     all_mean target change names (Err e) utf8 meant = tt
+
+  -- the steps that add sources to a target, each in its place
+  module _ {V : Type 0} (list : V → List ListStep) (target : CallName) (names : List (List ℕ)) where
+    pub sorted_mean : (r : Result V Refusal) → IfOk r (λ v. All IsUtf8 names) → IfOk r (λ v. AreMeant (sorted_steps old.files p target names) (list v)) → IfOk r (λ v. ArePlanned old (sorted_steps old.files p target names) (list v))
+    sorted_mean (Ok v) utf8 meant =
+        let c = then_was (the_call p role.Target target) (λ c. sources_sorted old.files p c names) meant.steps meant.is in
+        let there = targets_stand p target c.0 c.1 in
+        record {
+          steps = meant.steps;
+          are_planned = meant.is;
+          are_doable = record { bare = meant.bare; doable = sources_may_be_sorted old whole.parsed c.0 there (files_stand old whole.parsed target c.0 c.1).sources names utf8 meant.steps c.2 };
+        }
+    sorted_mean (Err e) utf8 meant = tt
 
   -- the steps that rename sources of a target
   module _ {V : Type 0} (list : V → List ListStep) (target : CallName) (was now : List ℕ) where

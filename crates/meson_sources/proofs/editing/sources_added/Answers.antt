@@ -1,38 +1,31 @@
+use Rattle.meson_calls.specs.ChosenNotes.{placed_call}
+use Rattle.meson_sources.specs.SourceEdits.{inserted_in, sources_added}
 use Rattle.meson_sources.proofs.editing.sources_added.Goals as goal
-use Rattle.meson_sources.proofs.Words.{Err, Ok, ap, IsUtf8, length, map, refl, subst, sym, ◌<◌, ◌∙◌, ◌≡◌, ◌≤◌, err_from_is_err_and, value_with_name, kept_args}
-use Rattle.meson_sources.proofs.Words.{DuplicateKeyword, project_of, all_gathered, max_followed, gathered, or_call, or_option, bare, checked_names}
-use Rattle.meson_sources.proofs.Words.{insertion_steps, plain_len, new_among}
-use Rattle.meson_sources.proofs.KeyTexts.{sources_text}
-use Rattle.meson_sources.proofs.commands.Meant.{added, added_twice}
+use Rattle.meson_sources.proofs.Words.{IfOk, map, Some, subst, ◌≡◌, err_from_is_err_and, project_of, bare, home, new_names, source_marks}
+use Rattle.meson_sources.proofs.commands.Meant.{put_meant}
+use Rattle.meson_sources.proofs.commands.Renamed.{of_any, only_memory}
 
-pub at_most_once-requires : goal.at_most_once-requires
-at_most_once-requires c = subst IsUtf8 (sym c.as_slice.ensures) sources_text
-
-pub returns-in_err-at_most_once-clause-refused : goal.returns-in_err-at_most_once-clause-refused
-returns-in_err-at_most_once-clause-refused c =
-    let error = err_from_is_err_and c.from_residual-in_err-at_most_once.result c.from_residual-in_err-at_most_once.ensures.1 in
+pub returns-in_err-addition-clause-refused : goal.returns-in_err-addition-clause-refused
+returns-in_err-addition-clause-refused c =
+    let error = err_from_is_err_and c.from_residual.result c.from_residual.ensures.1 in
     rw (error.1, error.2) (λ function other.
     let p = project_of c.args.variables.now in
-    let source = c.args.source.now in
-    let l = c.args.arguments.now in
-    let checked : checked_names c.args.names.now ≡ Ok tt = sym c.checked_names.ensures.checked ∙ c.in_ok-checked_names.was in
-    let twice = c.in_err-at_most_once.ensures.twice other in
-    let many = subst (λ k. 1 < length (kept_args source (value_with_name k) 0 l.items)) c.as_slice.ensures twice.1 in
-    added_twice p c.args.call.now source l function c.args.names.now checked many ∙ ap (λ k. Err (DuplicateKeyword k)) (sym c.as_slice.ensures) ∙ ap Err (sym twice.0))
+    let it = placed_call c.args.call.now function c.args.source.now c.args.arguments.now in
+    let marks = source_marks p it in
+    c.in_err-addition.ensures.refused function (inserted_in p (home it.place marks) (new_names marks c.args.names.now)) other)
 
 pub returns-clause-meant : goal.returns-clause-meant
 returns-clause-meant c = λ function.
     let p = project_of c.args.variables.now in
-    let source = c.args.source.now in
-    let l = c.args.arguments.now in
-    let names = c.args.names.now in
-    let checked : checked_names names ≡ Ok tt = sym c.checked_names.ensures.checked ∙ c.in_ok-checked_names.was in
-    let few = subst (λ k. length (kept_args source (value_with_name k) 0 l.items) ≤ 1) c.as_slice.ensures c.in_ok-at_most_once.ensures.few in
-    let is = ap (λ g. g.tally) (c.in_ok-marks.ensures ∙ ap (all_gathered p max_followed c.args.call.now source) c.get.ensures) in
-    let home = c.in_ok-home.home in
-    let places = c.places_of-list.ensures in
-    let is_home = c.in_ok-home.ensures ∙ ap (λ o. or_call c.args.call.now (or_option o c.places_of-list.result.1)) places.list ∙ ap (λ o. or_call c.args.call.now (or_option c.in_ok-marks.marks.list o)) places.vacant in
-    let new_is = c.in_ok-new.ensures ∙ ap (λ xs. new_among xs names) c.as_slice-2.ensures.value in
-    let are = c.in_ok-steps.ensures.done ∙ ap (λ ns. map bare (insertion_steps home (plain_len p home) (map (λ x. x.now) ns))) c.as_slice-3.ensures.value in
-    added p c.args.call.now source l function names checked few (gathered c.in_ok-marks.marks).tally is home is_home (plain_len p home) refl (map (λ x. x.now) c.in_ok-new.new.items) new_is
-    c.in_ok-steps.steps.items are
+    let it = placed_call c.args.call.now function c.args.source.now c.args.arguments.now in
+    let a = c.in_ok-addition.addition in
+    let new = map (λ x. x.now) a.new.items in
+    let are = subst (λ ns. IfOk c.insertions.result (λ v. map Some v.items ≡ map bare (inserted_in p a.list (map (λ x. x.now) ns)))) c.as_slice.ensures.value c.insertions.ensures.done in
+    put_meant (λ v. v.items) (inserted_in p) p it c.args.names.now a.list new (c.in_ok-addition.ensures.may function) c.insertions.result are
+
+pub returns-clause-refused : goal.returns-clause-refused
+returns-clause-refused c = λ function.
+    only_memory (sources_added (project_of c.args.variables.now) (placed_call c.args.call.now function c.args.source.now c.args.arguments.now) c.args.names.now) c.insertions.result c.insertions.ensures.refused
+
+pub returns-clause-utf8 : goal.returns-clause-utf8
+returns-clause-utf8 c = of_any c.insertions.result c.in_ok-addition.ensures.utf8

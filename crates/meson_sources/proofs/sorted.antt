@@ -1,0 +1,5 @@
+pub mod Edits
+pub mod Puts
+pub mod Homes
+pub mod Found
+pub mod Putting
