@@ -12,12 +12,11 @@ use Rattle.meson_syntax.specs.Tree.{Expression, identifier, paren, array, call, 
 use Rattle.meson_calls.specs.declared.call.CallRef.{CallRef}
 use Rattle.meson_calls.specs.Calls.{Call, Numbered, keyword, positional}
 use Rattle.meson_calls.specs.NamedArguments.{rest, sources_key}
-use Rattle.meson_calls.specs.Parts.{argument_child_count}
 use Rattle.meson_calls.specs.Project.{Project, Placed, placed, child, expression_at}
 use Rattle.meson_variables.specs.Expansion.{are_plus, is_files}
 use Rattle.meson_following.specs.Flows.{is_in}
 use Rattle.meson_following.specs.Laws.{AreApart, IsElsewhere, IsReadBy, at_once, through, ReadFor, by_the_call, by_one, ReadNothingOf}
-use Rattle.meson_following.specs.Sharing.{from_maker, is_own, reads_of, ways, ways_at, ways_of_call, ways_of_element, ways_of_elements, ways_of_listing, ways_of_operands, ways_of_values, ways_there}
+use Rattle.meson_following.specs.Sharing.{from_maker, is_getter, is_own, reads_of, ways, ways_at, ways_of_target, ways_of_element, ways_of_elements, ways_of_listing, ways_of_operands, ways_of_values, ways_there}
 use Rattle.meson_following.proofs.Sharing.{own_reads}
 
 -- ---- one place within another
@@ -62,12 +61,19 @@ if_so : (base : CallRef) (b : Bool) (qs : List CallRef) → All (IsWithin base) 
 if_so base true qs all = all
 if_so base false qs all = All-nil (IsWithin base)
 
+either_so : (base : CallRef) (b : Bool) (qs rs : List CallRef) → All (IsWithin base) qs → All (IsWithin base) rs → All (IsWithin base) (if b then qs else rs)
+either_so base true qs rs first second = first
+either_so base false qs rs first second = second
+
 module _ {S : Type 0} where
   mutual
     ways_within : (e : Expression S) (base : CallRef) → All (IsWithin base) (ways base e)
     ways_within (identifier s x) base = All-cons (IsWithin base) base [] (itself_within base) (All-nil (IsWithin base))
     ways_within (array l) base = listing_within l base
-    ways_within (call s f l) base = if_so base (is_files f.text l) (ways_of_listing base l) (listing_within l base)
+    ways_within (call s f l) base =
+        either_so base (is_getter f.text) (base ∷ []) (if is_files f.text l then ways_of_listing base l else [])
+        (All-cons (IsWithin base) base [] (itself_within base) (All-nil (IsWithin base)))
+        (if_so base (is_files f.text l) (ways_of_listing base l) (listing_within l base))
     ways_within (paren s e) base = in_child base 0 (ways (child base 0) e) (ways_within e (child base 0))
     ways_within (conditional s c y n) base =
         All-append (IsWithin base) (ways (child base 1) y) (ways (child base 2) n)
@@ -91,8 +97,8 @@ module _ {S : Type 0} where
     elements_within : (as_ : Arguments S) (base : CallRef) (n : ℕ) → All (IsWithin base) (ways_of_elements base n as_)
     elements_within no_arguments base n = All-nil (IsWithin base)
     elements_within (argument a more) base n =
-        All-append (IsWithin base) (ways_of_element base n a) (ways_of_elements base (n + argument_child_count a) more)
-        (element_within a base n) (elements_within more base (n + argument_child_count a))
+        All-append (IsWithin base) (ways_of_element base n a) (ways_of_elements base (n + 1) more)
+        (element_within a base n) (elements_within more base (n + 1))
 
     element_within : (a : Argument S) (base : CallRef) (n : ℕ) → All (IsWithin base) (ways_of_element base n a)
     element_within (plain e) base n = in_child base n (ways (child base n) e) (ways_within e (child base n))
@@ -110,7 +116,7 @@ module _ {S : Type 0} where
   there_within base None = All-nil (IsWithin base)
   there_within base (Some e) = ways_within e base
 
-call_within : (c : Placed (Call Span)) → All (IsWithin c.place) (ways_of_call c)
+call_within : (c : Placed (Call Span)) → All (IsWithin c.place) (ways_of_target c)
 call_within c = values_within c.place 0 (rest (positional c.it) ++ keyword sources_key c.it)
 
 at_within : (p : Project Span) (v : CallRef) → All (IsWithin v) (ways_at p v)
@@ -120,7 +126,7 @@ at_within p v = there_within v (expression_at p v)
 
 module _ (p : Project Span) (c : Placed (Call Span)) (m e : CallRef) (own : is_own p c m ≡ true) (else_where : IsElsewhere p c m e) where
   not_read : (q : CallRef) → IsWithin e q → ReadFor p c (from_maker p c m) q → ⊥
-  not_read q here (by_the_call has) = apart e c.place q else_where.0 here (All-contains (IsWithin c.place) (ways_of_call c) q (call_within c) has)
+  not_read q here (by_the_call has) = apart e c.place q else_where.0 here (All-contains (IsWithin c.place) (ways_of_target c) q (call_within c) has)
   not_read q here (by_one v made has) =
       apart e v q (All-contains (AreApart e) (from_maker p c m) v else_where.1 made) here (All-contains (IsWithin v) (ways_at p v) q (at_within p v) has)
 
@@ -132,8 +138,8 @@ module _ (p : Project Span) (c : Placed (Call Span)) (m e : CallRef) (own : is_o
       (All-contains (ReadFor p c (from_maker p c m)) (reads_of p (v ∷ [])) q all_read seen))
       (from_maker p c m) (own_reads p c m own)
 
-  pub others_read_nothing : ((d : Call Span) → ReadNothingOf p c m (ways_of_call (placed e d))) × ReadNothingOf p c m (ways_at p e)
-  others_read_nothing = (λ d. nothing_read (ways_of_call (placed e d)) (call_within (placed e d)), nothing_read (ways_at p e) (at_within p e))
+  pub others_read_nothing : ((d : Call Span) → ReadNothingOf p c m (ways_of_target (placed e d))) × ReadNothingOf p c m (ways_at p e)
+  others_read_nothing = (λ d. nothing_read (ways_of_target (placed e d)) (call_within (placed e d)), nothing_read (ways_at p e) (at_within p e))
 
 -- ---- through other values
 
@@ -144,7 +150,7 @@ module _ (p : Project Span) (c : Placed (Call Span)) (m : CallRef) (d : Placed (
 
   unread : (v : CallRef) → IsReadBy p d v → Contains (from_maker p c m) v → ⊥
   unread _ (at_once v q way seen) made =
-      All-contains (None_of (ways_of_call d)) (from_maker p c m) v ((others_read_nothing p c m d.place own beside).0 d.it) made q way seen
+      All-contains (None_of (ways_of_target d)) (from_maker p c m) v ((others_read_nothing p c m d.place own beside).0 d.it) made q way seen
   unread _ (through u v q first way seen) made =
       elim (others u first) [
         | inl one ↦ unread u first one

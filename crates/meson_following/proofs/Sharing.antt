@@ -19,7 +19,7 @@ use Rattle.meson_following.specs.Following.{follow_call, one_of_places}
 use Rattle.meson_following.specs.Laws.{MadeOf, itself, further, MaySee, ReadFor, by_the_call, by_one, ReadOrUsed, Spreads}
 use Rattle.meson_following.specs.Makers.{Known, Maker, is_same_place}
 use Rattle.meson_following.specs.Reads.{reads}
-use Rattle.meson_following.specs.Sharing.{from_maker, is_own, is_unshared, is_use, is_way, is_way_of_makers, name_of_part, name_of_statement, names_of, sees, reads_of, reads_of_variable, takes_at, uses, ways_at, ways_of_call, with_takers, with_takers_of_takers}
+use Rattle.meson_following.specs.Sharing.{from_maker, is_own, is_unshared, is_use, is_way, is_way_of_makers, name_of_part, name_of_statement, names_of, sees, reads_of, reads_of_variable, takes_at, uses, ways_at, ways_of_target, with_takers, with_takers_of_takers}
 
 -- ---- places
 
@@ -218,8 +218,8 @@ module _ (p : Project Span) (c : Placed (Call Span)) where
 
   way : (ms : List CallRef) (q : CallRef) → is_way p c ms q ≡ true → ReadFor p c ms q
   way ms q is =
-      elim (or_cases (one_of_places (ways_of_call c) q) (is_way_of_makers p ms q) is) [
-        | inl here ↦ by_the_call (one_of (ways_of_call c) q here)
+      elim (or_cases (one_of_places (ways_of_target c) q) (is_way_of_makers p ms q) is) [
+        | inl here ↦ by_the_call (one_of (ways_of_target c) q here)
         | inr there ↦ way_of_makers ms q there
       ]
 

@@ -9,7 +9,7 @@ use Rattle.meson_following.specs.Flows.{is_in}
 use Rattle.meson_following.specs.Following.{follow_call}
 use Rattle.meson_following.specs.Makers.{Known}
 use Rattle.meson_following.specs.Reads.{reads}
-use Rattle.meson_following.specs.Sharing.{from_maker, is_own, is_unshared, sees, reads_of, uses, ways_at, ways_of_call}
+use Rattle.meson_following.specs.Sharing.{from_maker, is_own, is_unshared, sees, reads_of, uses, ways_at, ways_of_target}
 
 -- what is read at a place may be the value of a maker
 pub record MaySee (p : Project Span) (q m : CallRef) : Type 0 where
@@ -26,7 +26,7 @@ pub data MadeOf (p : Project Span) (followed : List CallRef) (m : CallRef) : Cal
 
 -- the place is a way of the sources of the call, or of one of these values
 pub data ReadFor (p : Project Span) (c : Placed (Call Span)) (made : List CallRef) (q : CallRef) : Type 0 where
-  by_the_call : Contains (ways_of_call c) q → ReadFor p c made q
+  by_the_call : Contains (ways_of_target c) q → ReadFor p c made q
   by_one : (v : CallRef) → Contains made v → Contains (ways_at p v) q → ReadFor p c made q
 
 abbrev pub ReadOrUsed : Project Span → Placed (Call Span) → List CallRef → CallRef → Type 0
@@ -68,11 +68,11 @@ ReadNothingOf p c m qs = All (λ v. (q : CallRef) → Contains qs q → Contains
 -- the law: no other call has what is in an own list among its sources, and no other value is made of it
 abbrev pub OthersReadNothing : Type 0
 OthersReadNothing = (p : Project Span) (c : Placed (Call Span)) (m e : CallRef) → is_own p c m ≡ true → IsElsewhere p c m e
-    → ((d : Call Span) → ReadNothingOf p c m (ways_of_call (placed e d))) × ReadNothingOf p c m (ways_at p e)
+    → ((d : Call Span) → ReadNothingOf p c m (ways_of_target (placed e d))) × ReadNothingOf p c m (ways_at p e)
 
 -- a value is read by the sources of a call, or by a value that is
 pub data IsReadBy (p : Project Span) (d : Placed (Call Span)) : CallRef → Type 0 where
-  at_once : (v q : CallRef) → Contains (ways_of_call d) q → Contains (reads_of p (v ∷ [])) q → IsReadBy p d v
+  at_once : (v q : CallRef) → Contains (ways_of_target d) q → Contains (reads_of p (v ∷ [])) q → IsReadBy p d v
   through : (u v q : CallRef) → IsReadBy p d u → Contains (ways_at p u) q → Contains (reads_of p (v ∷ [])) q → IsReadBy p d v
 
 -- the law: no other call reads what is in an own list, through however many variables

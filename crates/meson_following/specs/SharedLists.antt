@@ -161,7 +161,10 @@ OtherNames =
     IsShared (with_target (does (codes "message") (string tt quotes.Format (literal (codes "@src@")) ∷ []))) 2 (value_of 0)
     -- `get_variable('src')`, of a name that is computed, and of one that it cannot be
     × IsShared (with_target (sets_other (codes "x") (calling (codes "get_variable") (text src ∷ [])))) 2 (value_of 0)
-    × IsShared (with_target (does (codes "message") (calling (codes "get_variable") (text src ∷ []) ∷ []))) 2 (value_of 0)
+    × IsShared (with_target (made_as (codes "f") (calling (codes "get_variable") (text src ∷ []) ∷ []))) 2 (value_of 0)
+    × IsUnshared (with_target (does (codes "message") (calling (codes "get_variable") (text src ∷ []) ∷ []))) 2 (value_of 0)
+    × IsUnshared (with_target (does (codes "message") (calling (codes "get_variable") (variable (codes "k") ∷ []) ∷ []))) 2 (value_of 0)
+    × IsOwn (made_of (calling (codes "get_variable") (text src ∷ []))) 1 (value_of 0)
     × IsShared (with_target (sets_other (codes "x") (calling (codes "get_variable") (variable (codes "k") ∷ [])))) 2 (value_of 0)
     × IsOwn (with_target (sets_other (codes "x") (calling (codes "get_variable") (sum_of (text (codes "have_")) (variable (codes "k")) ∷ [])))) 2 (value_of 0)
 

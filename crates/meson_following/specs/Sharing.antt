@@ -1,14 +1,14 @@
 -- Which lists of sources are read for one target alone. Meson manual, Syntax, "Variables": an assignment copies the value, and a value never changes. So what
 -- is in the value of an assignment is read wherever a variable may hold that value, or a value that is made of it.
 -- As in `Following`, a maker is named by the place of its value.
-use Rattle.std.specs.Prelude.{ℕ, zero, suc, ◌+◌, Bool, true, false, not, ◌&&◌, ◌||◌, List, [], ◌∷◌, ◌++◌, filter, flat_map, length, codes, if◌then◌else◌, Option, Some, None}
+use Rattle.std.specs.Prelude.{ℕ, zero, suc, ◌+◌, Bool, true, false, not, ◌&&◌, ◌||◌, List, [], ◌∷◌, ◌++◌, filter, flat_map, length, codes, bytes_eq, if◌then◌else◌, Option, Some, None}
 use Rattle.std.specs.List.{filter_map, list_all, list_any}
 use Rattle.meson_syntax.specs.Tree.{Expression, identifier, paren, array, call, row, postfix, conditional, Operands, no_operands, operand, Tail, method, index, Tails, no_tails, tail, Listing, listing, Argument, plain, named, pair, Arguments, no_arguments, argument, Statement, assign}
 use Rattle.meson_calls.specs.declared.call.CallRef.{CallRef}
 use Rattle.meson_calls.specs.declared.call.Role.TheVariants as role
 use Rattle.meson_calls.specs.Calls.{Call, Numbered, first_literal, keyword, kept_number, numbered_arguments, positional}
 use Rattle.meson_calls.specs.NamedArguments.{rest, sources_key}
-use Rattle.meson_calls.specs.Parts.{Part, an_expression, a_statement, argument_child_count, parts, tail_child_count}
+use Rattle.meson_calls.specs.Parts.{Part, an_expression, a_statement, parts, tail_child_count}
 use Rattle.meson_calls.specs.Project.{Project, Placed, child, expression_at}
 use Rattle.meson_calls.specs.Roles.{one_of, places, role_calls, target_functions}
 use Rattle.meson_variables.specs.Expansion.{are_plus, is_files}
@@ -18,13 +18,16 @@ use Rattle.meson_following.specs.Makers.{Known, is_same_place}
 use Rattle.meson_following.specs.Reads.{reads}
 
 -- ---- the ways of an expression: the places of the variables in it whose elements are elements of its value. Meson manual, Syntax, "Arrays": `+` adds elements
--- to a list. Reference manual, `files` and `build_target`: lists within lists are laid flat.
+-- to a list. Reference manual, `files` and `build_target`: lists within lists are laid flat; `get_variable`: its value is that of the variable.
+
+abbrev pub is_getter : List ℕ → Bool
+is_getter f = bytes_eq f (codes "get_variable")
 
 abbrev mutual
   pub ways : {S : Type 0} → CallRef → Expression S → List CallRef
   ways q (identifier s x) = q ∷ []
   ways q (array l) = ways_of_listing q l
-  ways q (call s f l) = if is_files f.text l then ways_of_listing q l else []
+  ways q (call s f l) = if is_getter f.text then q ∷ [] else (if is_files f.text l then ways_of_listing q l else [])
   ways q (paren s e) = ways (child q 0) e
   ways q (conditional s c y n) = ways (child q 1) y ++ ways (child q 2) n
   ways q (row s e os) = if are_plus os then ways (child q 0) e ++ ways_of_operands q 1 os else []
@@ -41,7 +44,7 @@ abbrev mutual
   -- from the n-th child on; an element has no name
   pub ways_of_elements : {S : Type 0} → CallRef → ℕ → Arguments S → List CallRef
   ways_of_elements q n no_arguments = []
-  ways_of_elements q n (argument a more) = ways_of_element q n a ++ ways_of_elements q (n + argument_child_count a) more
+  ways_of_elements q n (argument a more) = ways_of_element q n a ++ ways_of_elements q (n + 1) more
 
   pub ways_of_element : {S : Type 0} → CallRef → ℕ → Argument S → List CallRef
   ways_of_element q n (plain e) = ways (child q n) e
@@ -61,8 +64,8 @@ abbrev pub ways_of_values : {S : Type 0} → CallRef → ℕ → List (Numbered 
 ways_of_values q n values = flat_map (λ v. ways (child q (n + v.number)) v.value) values
 
 -- The ways of a call that makes a target. Meson manual, Reference manual, `build_target`: its sources are the arguments after its name, and `sources:`.
-abbrev pub ways_of_call : {S : Type 0} → Placed (Call S) → List CallRef
-ways_of_call c = ways_of_values c.place 0 (rest (positional c.it) ++ keyword sources_key c.it)
+abbrev pub ways_of_target : {S : Type 0} → Placed (Call S) → List CallRef
+ways_of_target c = ways_of_values c.place 0 (rest (positional c.it) ++ keyword sources_key c.it)
 
 -- ---- uses: the ways of the arguments of all other calls, and of methods
 
@@ -141,9 +144,9 @@ abbrev pub is_way_of_makers : {S : Type 0} → Project S → List CallRef → Ca
 is_way_of_makers p ms q = list_any (λ m. one_of_places (ways_at p m) q) ms
 
 abbrev pub is_way : {S : Type 0} → Project S → Placed (Call S) → List CallRef → CallRef → Bool
-is_way p c ms q = one_of_places (ways_of_call c) q || is_way_of_makers p ms q
+is_way p c ms q = one_of_places (ways_of_target c) q || is_way_of_makers p ms q
 
--- Each read that may see one of these makers is a way of the call or of the value of one of them; or a use, if uses are allowed. An f-string, `get_variable`, a
+-- Each read that may see one of these makers is a way of the call or of the value of one of them; or a use, if uses are allowed. An f-string, a
 -- condition, an index and a loop are no ways.
 abbrev pub is_closed : {S : Type 0} → Project S → Placed (Call S) → Bool → List CallRef → Bool
 is_closed p c with_uses ms = list_all (λ q. is_way p c ms q || (with_uses && is_use p q)) (reads_of p ms)
@@ -152,9 +155,13 @@ is_closed p c with_uses ms = list_all (λ q. is_way p c ms q || (with_uses && is
 abbrev pub takes_at : {S : Type 0} → Project S → List CallRef → CallRef → Bool
 takes_at p seen v = list_any (one_of_places (ways_at p v)) seen
 
--- with those of the makers `all` that take the value of one of them, which may be read at the places `seen`
+-- those of the makers `all` that are not among the makers `ms` and take the value of one of these, which may be read at the places `seen`
+abbrev pub takers_of : {S : Type 0} → Project S → List CallRef → List CallRef → List CallRef → List CallRef
+takers_of p all ms seen = filter (λ v. not (one_of_places ms v) && takes_at p seen v) all
+
+-- with them
 abbrev pub with_takers : {S : Type 0} → Project S → List CallRef → List CallRef → List CallRef → List CallRef
-with_takers p all ms seen = ms ++ filter (λ v. not (one_of_places ms v) && takes_at p seen v) all
+with_takers p all ms seen = ms ++ takers_of p all ms seen
 
 -- with these, then with those that take the value of one of these, and so on, this many times
 abbrev pub with_takers_of_takers : {S : Type 0} → Project S → List CallRef → ℕ → List CallRef → List CallRef

@@ -21,7 +21,7 @@ returns-clause-other_reads c = (refl, refl, refl, refl, refl, refl, refl, refl, 
 
 pub returns-clause-other_names : goal.returns-clause-other_names
 unfolding encode_utf8 chars is_utf8
-returns-clause-other_names c = (refl, refl, refl, refl, refl)
+returns-clause-other_names c = (refl, refl, refl, refl, refl, refl, refl, refl)
 
 pub returns-clause-uses : goal.returns-clause-uses
 unfolding encode_utf8 chars is_utf8
