@@ -1,4 +1,4 @@
--- A file with another assigned value nests no deeper than before, or no deeper than that value with what is around its statement.
+-- A file with another assigned value nests no deeper than before, or no deeper than that value with what is around its statement; and no less deep than that.
 use Rattle.std.proofs.Common.{◌≡◌, ℕ, suc, ◌+◌, ◌≤◌, List, [], ◌∷◌, ◌++◌, Some, refl, sym, ap, ◌∙◌, subst, arith}
 use Rattle.std.specs.Prelude.{max, option_map}
 use Rattle.meson_lex.specs.declared.kinds.Kind.{Kind}
@@ -93,36 +93,38 @@ block-deep (block s list) = statements-in statements_depth block_depth [] [] (bl
 
 -- ---- along a path
 
--- with another statement in the hole
-abbrev DeepBy : {T : Type 0} → (T → ℕ) → ℕ → T → (sort : Sort) → (Node sort S → T) → Type 0
-DeepBy depth n x of_expression back = Unit {0}
-DeepBy depth n x of_statement back = (y : Statement S) → depth (back y) ≤ max (depth x) (n + statement_depth y)
-DeepBy depth n x of_block back = Unit {0}
+-- with the statement in the hole, and with another one
+abbrev DeepBy : {T : Type 0} → (T → ℕ) → ℕ → T → (sort : Sort) → Node sort S → (Node sort S → T) → Type 0
+DeepBy depth n x of_expression i back = Unit {0}
+DeepBy depth n x of_statement i back = (n + statement_depth i ≤ depth x) × ((y : Statement S) → depth (back y) ≤ max (depth x) (n + statement_depth y))
+DeepBy depth n x of_block i back = Unit {0}
 
 abbrev DeepAt : {T : Type 0} → (T → ℕ) → ℕ → T → Hole S T → Type 0
-DeepAt depth n x h = DeepBy depth n x h.sort h.back
+DeepAt depth n x h = DeepBy depth n x h.sort h.inside h.back
 
 any_first : (n m : ℕ) (path : List ℕ) → places.around (n ∷ path) ≡ places.around (m ∷ path)
 any_first n m [] = refl
 any_first n m (l ∷ path) = refl
 
-of_statement_in : (b : Block S) (n : ℕ) (s : Statement S) (back : Statement S → Block S) → StatementIn block_depth b of_statement s back → (sort : Sort) (inner : Node sort S → Statement S) → DeepBy statement_depth n s sort inner
-    → DeepBy block_depth n b sort (λ y. back (inner y))
-of_statement_in b n s back h of_expression inner d = tt
-of_statement_in b n s back h of_statement inner d = λ y. let low = h.0 in let one = h.1 (inner y) in let two = d y in omega (arith, low, one, two)
-of_statement_in b n s back h of_block inner d = tt
+of_statement_in : (b : Block S) (n : ℕ) (s : Statement S) (back : Statement S → Block S) → StatementIn block_depth b of_statement s back → (sort : Sort) (i : Node sort S) (inner : Node sort S → Statement S)
+    → DeepBy statement_depth n s sort i inner → DeepBy block_depth n b sort i (λ y. back (inner y))
+of_statement_in b n s back h of_expression i inner d = tt
+of_statement_in b n s back h of_statement i inner d =
+    let low = h.0 in (let two = d.0 in omega (arith, low, two), λ y. let one = h.1 (inner y) in let two = d.1 y in omega (arith, low, one, two))
+of_statement_in b n s back h of_block i inner d = tt
 
-of_block_in : (s : Statement S) (n : ℕ) (b : Block S) (back : Block S → Statement S) → BlockIn statement_depth 1 s of_block b back → (sort : Sort) (inner : Node sort S → Block S) → DeepBy block_depth n b sort inner
-    → DeepBy statement_depth (suc n) s sort (λ y. back (inner y))
-of_block_in s n b back h of_expression inner d = tt
-of_block_in s n b back h of_statement inner d = λ y. let low = h.0 in let one = h.1 (inner y) in let two = d y in omega (arith, low, one, two)
-of_block_in s n b back h of_block inner d = tt
+of_block_in : (s : Statement S) (n : ℕ) (b : Block S) (back : Block S → Statement S) → BlockIn statement_depth 1 s of_block b back → (sort : Sort) (i : Node sort S) (inner : Node sort S → Block S)
+    → DeepBy block_depth n b sort i inner → DeepBy statement_depth (suc n) s sort i (λ y. back (inner y))
+of_block_in s n b back h of_expression i inner d = tt
+of_block_in s n b back h of_statement i inner d =
+    let low = h.0 in (let two = d.0 in omega (arith, low, two), λ y. let one = h.1 (inner y) in let two = d.1 y in omega (arith, low, one, two))
+of_block_in s n b back h of_block i inner d = tt
 
 -- no statement is in an expression
-none_in : {T : Type 0} (depth : T → ℕ) (n : ℕ) (x : T) (sort : Sort) (back : Node sort S → T) → sort ≡ of_expression → DeepBy depth n x sort back
-none_in depth n x of_expression back is = tt
-none_in depth n x of_statement back is = absurd cc
-none_in depth n x of_block back is = tt
+none_in : {T : Type 0} (depth : T → ℕ) (n : ℕ) (x : T) (sort : Sort) (i : Node sort S) (back : Node sort S → T) → sort ≡ of_expression → DeepBy depth n x sort i back
+none_in depth n x of_expression i back is = tt
+none_in depth n x of_statement i back is = absurd cc
+none_in depth n x of_block i back is = tt
 
 inner_below : (path : List ℕ) → ((y : Expression S) (j : Hole S (Expression S)) → reach S of_expression y path ≡ Some j → j.sort ≡ of_expression)
     → (sort : Sort) (x : Node sort S) (h : Hole S (Node sort S)) → reach S sort x path ≡ Some h → sort ≡ of_expression → h.sort ≡ of_expression
@@ -144,15 +146,15 @@ below_block : (b : Block S) (n : ℕ) (path : List ℕ) → ((s : Statement S) (
     → StatementIn block_depth b sort i back → DeepAt block_depth (places.around (n ∷ path)) b (around before behind back j)
 below_block b n path rest of_expression i before behind back j is h = absurd h
 below_block b n path rest of_statement i before behind back j is h =
-    of_statement_in b (places.around (n ∷ path)) i back h j.sort j.back (subst (λ c. DeepAt statement_depth c i j) (any_first 0 n path) (rest i j is))
+    of_statement_in b (places.around (n ∷ path)) i back h j.sort j.inside j.back (subst (λ c. DeepAt statement_depth c i j) (any_first 0 n path) (rest i j is))
 below_block b n path rest of_block i before behind back j is h = absurd h
 
 below_statement : (s : Statement S) (path : List ℕ) → ((b : Block S) (j : Hole S (Block S)) → reach S of_block b path ≡ Some j → DeepAt block_depth (places.around path) b j)
     → (sort : Sort) (i : Node sort S) (before behind : List Word) (back : Node sort S → Statement S) (j : Hole S (Node sort S)) → reach S sort i path ≡ Some j
     → BlockIn statement_depth 1 s sort i back → DeepAt statement_depth (suc (places.around path)) s (around before behind back j)
-below_statement s path rest of_expression i before behind back j is h = none_in statement_depth (suc (places.around path)) s j.sort (λ y. back (j.back y)) (expressions_below i path j is)
+below_statement s path rest of_expression i before behind back j is h = none_in statement_depth (suc (places.around path)) s j.sort j.inside (λ y. back (j.back y)) (expressions_below i path j is)
 below_statement s path rest of_statement i before behind back j is h = absurd h
-below_statement s path rest of_block i before behind back j is h = of_block_in s (places.around path) i back h j.sort j.back (rest i j is)
+below_statement s path rest of_block i before behind back j is h = of_block_in s (places.around path) i back h j.sort j.inside j.back (rest i j is)
 
 mutual
   in_block : (b : Block S) (path : List ℕ) (h : Hole S (Block S)) → reach S of_block b path ≡ Some h → DeepAt block_depth (places.around path) b h
@@ -165,7 +167,7 @@ mutual
       (below_block b n path (λ s j q. in_statement s path j q) g.sort g.inside g.before g.behind g.back m.0 m.1 (every-nth (HasStatement block_depth b) (block_children b) n g (block-deep b) o.1))
 
   in_statement : (s : Statement S) (path : List ℕ) (h : Hole S (Statement S)) → reach S of_statement s path ≡ Some h → DeepAt statement_depth (places.around (0 ∷ path)) s h
-  in_statement s [] h is = subst (DeepAt statement_depth 0 s) (some-injective _ _ is) (λ y. omega arith)
+  in_statement s [] h is = subst (DeepAt statement_depth 0 s) (some-injective _ _ is) (omega arith, λ y. omega arith)
   in_statement s (n ∷ path) h is =
       let o = and-then-some (λ g. option_map (around g.before g.behind g.back) (reach S g.sort g.inside path)) (nth_hole S of_statement s n) h is in
       let g = o.0 in
@@ -178,5 +180,10 @@ mutual
 pub assigned_depth : (t : Plain) (path : List ℕ) (p : AssignedAt Nowhere) → assigned_at t path ≡ Some p → (v : Expression Nowhere) → file_depth (p.back v) ≤ max (file_depth t) (places.around path + expression_depth v)
 assigned_depth (file s b) path p is v =
     let g = named-at Nowhere (file s b) path p is in
-    let d = in_block b path _ g.is_hole (assign g.span g.name g.sign v) in
+    let d = (in_block b path _ g.is_hole).1 (assign g.span g.name g.sign v) in
     subst (λ (q : AssignedAt Nowhere). file_depth (q.back v) ≤ max (block_depth b) (places.around path + expression_depth v)) g.is_place d
+
+-- what is around a statement, and what it nests itself
+pub statement_low : (b : Block S) (path : List ℕ) (s : Statement S) (before behind : List Word) (back : Statement S → Block S)
+    → reach S of_block b path ≡ Some (record { sort = of_statement; inside = s; before = before; behind = behind; back = back }) → places.around path + statement_depth s ≤ block_depth b
+statement_low b path s before behind back is = (in_block b path _ is).0

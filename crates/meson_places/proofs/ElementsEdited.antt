@@ -55,7 +55,7 @@ set_same [] i x is = absurd (let no : ⊥ = cc in no)
 set_same (y ∷ ys) zero x is = ap (λ z. z ∷ ys) (sym (some-injective y x is))
 set_same (y ∷ ys) (suc i) x is = ap (λ l. y ∷ l) (set_same ys i x is)
 
-one_done : (c : CallRef) (e : Edit) (trees : List Plain) (t now : Plain) → nth trees c.file ≡ Some t → Writes e → edited e t ≡ Some now → MayStandBetween now → All MayStandBetween trees → Done (step_in c e ∷ []) trees (slice_set trees c.file now)
+pub one_done : (c : CallRef) (e : Edit) (trees : List Plain) (t now : Plain) → nth trees c.file ≡ Some t → Writes e → edited e t ≡ Some now → MayStandBetween now → All MayStandBetween trees → Done (step_in c e ∷ []) trees (slice_set trees c.file now)
 one_done c e trees t now is writes made stands all = record {
   doable = λ rest d. step_doable (step_in c e) rest trees t now is made writes all stands d;
   made = ap (option_and_then (all_stepped [])) (change_there (edited e) trees c.file t now is made);

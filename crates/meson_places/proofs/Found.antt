@@ -196,7 +196,7 @@ module _ (p : Project Span) (f : Callee) (id : List ℕ) where
   call_gives q one text =
       ap (λ a. if a && literals.is id (first_literal q.it) then Some q.place else None) one ∙ ap (λ b. if b then Some q.place else None) text
 
-one_of : (xs : List CallRef) (c : CallRef) → only_one xs ≡ Ok c → xs ≡ c ∷ []
+pub one_of : (xs : List CallRef) (c : CallRef) → only_one xs ≡ Ok c → xs ≡ c ∷ []
 one_of [] c h = absurd (let no : ⊥ = cc in no)
 one_of (x ∷ []) c h = let same : x ≡ c = cc in ap (λ y. y ∷ []) same
 one_of (x ∷ y ∷ more) c h = absurd (let no : ⊥ = cc in no)

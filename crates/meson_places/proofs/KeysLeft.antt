@@ -30,7 +30,7 @@ use Rattle.meson_places.specs.Several.{AllMayBeGiven, add_array, becomes_array, 
 use Rattle.meson_places.specs.Slots.{Child}
 use Rattle.meson_places.specs.Values.{given_node, is_identifier, written_given}
 use Rattle.meson_places.proofs.AddedValues.{edit_behind}
-use Rattle.meson_places.proofs.ArgumentsDoable.{ok_then}
+use Rattle.meson_places.proofs.Refused.{ok_then}
 use Rattle.meson_places.proofs.ElementsLeft.{elements_set}
 use Rattle.meson_places.proofs.ListsThere.{element_there}
 use Rattle.meson_places.proofs.SetValues.{one_step, set_one}

@@ -1,3 +1,9 @@
+mod AllMade
+mod AllPlaced
+mod AmongSteps
+mod Apart
+mod AssignedPlaced
+mod EachMade
 mod AddedValues
 mod ArgumentsDoable
 mod Around

@@ -106,6 +106,18 @@ module _ (new : Option (Written (Expression Nowhere))) (test : Argument Span →
         go false = low
     own_low e low = low
 
+    operands_low : (os : Operands Span) → operands_depth (erase_operands os) ≤ limit → operands_depth (operands_left left os) ≤ limit
+    operands_low no_operands low = low
+    operands_low (operand o e more) low = omega (arith, own_low e (omega (arith, low)), operands_low more (omega (arith, low)))
+
+    pub value_low : (e : Expression Span) → expression_depth (erase_expression e) ≤ limit → expression_depth (value_left left e) ≤ limit
+    value_low (row s e os) low = go (are_plus os)
+      where
+        go : (b : Bool) → expression_depth (if b then row tt (own_left left e) (operands_left left os) else erase_expression (row s e os)) ≤ limit
+        go true = omega (arith, own_low e (omega (arith, low)), operands_low os (omega (arith, low)))
+        go false = low
+    value_low e low = own_low e low
+
     -- ---- an expression's own list
 
     module _ (c : CallRef) (put : Expression Nowhere → Plain) (spot : Spot c.path.steps put) (deep : (y : Expression Nowhere) → expression_depth y ≤ limit → file_depth (put y) ≤ wide_depth) where

@@ -1,7 +1,7 @@
 -- A change of a value means one thing: the tree of code is that of its text, and what is read of a project are its files and trees.
 use Rattle.std.proofs.Common.{◌≡◌, ℕ, suc, List, [], ◌∷◌, ◌++◌, map, Option, Some, None, Result, Ok, Err, refl, sym, ap, ap₂, ◌∙◌}
 use Rattle.std.specs.Prelude.{Bool, length, not, ok_or, ◌&&◌, if◌then◌else◌}
-use Rattle.std.specs.List.{list_all}
+use Rattle.std.specs.List.{list_all, list_any}
 use Rattle.meson_lex.specs.declared.kinds.Span.{Span}
 use Rattle.meson_splice.specs.declared.file_set.File as files
 use Rattle.meson_splice.specs.Files.{bytes_at}
@@ -34,7 +34,8 @@ use Rattle.meson_steps.specs.WrittenTexts.{array_of_values}
 use Rattle.meson_steps.proofs.Bracketed.{complete}
 use Rattle.meson_places.specs.declared.slots.Slot.{Slot}
 use Rattle.meson_places.specs.declared.slots.Slot.TheVariants as slot
-use Rattle.meson_places.specs.Arguments.{MayBeMade, argument_steps, changed_steps, last_key, named_steps, set_within, slot_steps}
+use Rattle.meson_places.specs.AllAssigned.{all_assigned, alone_at, each_edited, remove_each, remove_from_all, removed_or, replace_among, replace_in_all, replaced_or, said_among, said_at, then_more}
+use Rattle.meson_places.specs.Arguments.{MayBeMade, argument_steps, changed_steps, last_key, named_steps, one_changed, set_within, slot_steps}
 use Rattle.meson_places.specs.AssignedArrays.{LoneValue, added_by, added_steps, array_assigned, array_beside, assigned_lone, assigned_text, lone_written, set_all_by, set_all_steps}
 use Rattle.meson_places.specs.Assignments.{changed_slot}
 use Rattle.meson_places.specs.TargetNames.{checked_name}
@@ -45,7 +46,7 @@ use Rattle.meson_places.specs.NamedValues.{value_place}
 use Rattle.meson_places.specs.Names.{found_by_id, found_within, numbered_file, places_by_id, places_on, beginning_among, lists_among, project_there, searched, searched_file, the_place}
 use Rattle.meson_places.specs.Equality.{is_old, lists_say, says}
 use Rattle.meson_places.specs.declared.insertions.Mark.{Mark}
-use Rattle.meson_places.specs.Behind.{placed_value}
+use Rattle.meson_places.specs.Behind.{lists_at, placed_value}
 use Rattle.meson_places.specs.Insertions.{find_mark, insert_at, insert_by, insert_into, insert_steps}
 use Rattle.meson_places.specs.NewElements.{add_steps, add_there, add_to_last, add_to_lone, add_to_value, add_to_whole, array_with, beside, fresh_written, lone_token}
 use Rattle.meson_places.specs.Removals.{remove_by, remove_from, remove_steps, remove_there, remove_whole, says_other}
@@ -186,10 +187,25 @@ steps_one l key (change.Remove gs) m k s = refl
 steps_one l key (change.Replace old new) m k s = ap (λ w. exchange_steps l (record { old = old; new = new; written = w }) key s) (one_written new m k)
 steps_one l key change.Delete m k s = refl
 
+changed_one : (l : Loaded) (n : ValueName) (key : List ℕ) (c : ValueChange) (m k : MayBeMade c) (s : Slot) → changed_steps l n key c m s ≡ changed_steps l n key c k s
+changed_one l n key c m k s = by_one c m k (one c m k)
+  where
+    one : (d : ValueChange) (a b : MayBeMade d) → one_changed l n key d a s ≡ one_changed l n key d b s
+    one d a b = then_alike (changed_slot l.files (project l) n d s) _ _ (λ t. steps_one l key d a b t)
+
+    by_one : (d : ValueChange) (a b : MayBeMade d) → one_changed l n key d a s ≡ one_changed l n key d b s → changed_steps l n key d a s ≡ changed_steps l n key d b s
+    by_one (change.Remove gs) a b same = ap (remove_from_all l n key gs s) same
+    by_one (change.Replace old new) a b same = ap₂ (λ w r. replace_in_all l n key (record { old = old; new = new; written = w }) s r) (one_written new a b) same
+    by_one (change.Set g) a b same = same
+    by_one (change.SetAll gs) a b same = same
+    by_one (change.Add gs) a b same = same
+    by_one (change.AddAfter g gs) a b same = same
+    by_one change.Delete a b same = same
+
 pub arguments_one : (l : Loaded) (n : ValueName) (c : ValueChange) (m k : MayBeMade c) → argument_steps l n c m ≡ argument_steps l n c k
 arguments_one l n c m k =
     then_alike (the_place l n.place) _ _ (λ p. then_alike (the_slot (project l) p n.keys) _ _ (λ s.
-    then_alike (checked_name (project l) (last_key n.keys) c s) _ _ (λ _. then_alike (changed_slot l.files (project l) n c s) _ _ (λ t. steps_one l (last_key n.keys) c m k t))))
+    then_alike (checked_name (project l) (last_key n.keys) c s) _ _ (λ _. changed_one l n (last_key n.keys) c m k s)))
 
 -- ---- the steps, by the files and trees of a project
 
@@ -381,9 +397,51 @@ module _ (p q : Loaded) (same_files : p.files ≡ q.files) (same_trees : trees p
   slot_same key (change.Replace old new) may s = exchange_same (exchange old new may) key s
   slot_same key change.Delete may s = refl
 
-  changed_same : (n : ValueName) (key : List ℕ) (c : ValueChange) (may : MayBeMade c) (s : Slot) → changed_steps p n key c may s ≡ changed_steps q n key c may s
-  changed_same n key c may s =
+  one_same : (n : ValueName) (key : List ℕ) (c : ValueChange) (may : MayBeMade c) (s : Slot) → one_changed p n key c may s ≡ one_changed q n key c may s
+  one_same n key c may s =
       ap (λ r. then_ok r (slot_steps p key c may)) (alike (λ fs ts. changed_slot fs (named_trees fs ts) n c s)) ∙ then_alike (changed_slot q.files (project q) n c s) _ _ (slot_same key c may)
+
+  edited_same : (gs : List Given) (cs : List CallRef) → each_edited p gs cs ≡ each_edited q gs cs
+  edited_same gs [] = refl
+  edited_same gs (c ∷ cs) = ap₂ (λ a b. a ++ b) (alike (λ fs ts. lists_edited None (says_one (bytes_at c.file fs) gs) (lists_at (named_trees fs ts) c))) (edited_same gs cs)
+
+  remove_each_same : (key : List ℕ) (gs : List Given) (cs : List CallRef) → remove_each p key gs cs ≡ remove_each q key gs cs
+  remove_each_same key gs cs =
+      ap (λ steps. if list_all (said_among p.files (project p) cs) gs then (if list_any (alone_at p.files (project p) gs) cs then Err NotRemovable else Ok steps) else Err (NoSuchValue key)) (edited_same gs cs)
+      ∙ alike (λ fs ts. if list_all (said_among fs (named_trees fs ts) cs) gs then (if list_any (alone_at fs (named_trees fs ts) gs) cs then Err NotRemovable else Ok (each_edited q gs cs)) else Err (NoSuchValue key))
+
+  removed_same : (n : ValueName) (key : List ℕ) (gs : List Given) (s : Slot) (a b : Result (List Step) Refusal) → a ≡ b → remove_from_all p n key gs s a ≡ remove_from_all q n key gs s b
+  removed_same n key gs s a b same =
+      ap (λ r. then_ok r (removed_or p key gs a)) (alike (λ fs ts. all_assigned fs (named_trees fs ts) n gs s)) ∙ then_alike (all_assigned q.files (project q) n gs s) _ _ go
+    where
+      go : (o : Option (List CallRef)) → removed_or p key gs a o ≡ removed_or q key gs b o
+      go None = same
+      go (Some cs) = remove_each_same key gs cs
+
+  among_same : (x : Exchange) (key : List ℕ) (cs : List CallRef) → replace_among p key x cs ≡ replace_among q key x cs
+  among_same x key [] = refl
+  among_same x key (c ∷ cs) =
+      ap₂ (λ r more. if said_at p.files (project p) x.old c then then_ok r (λ ss. then_more ss more) else more) (exchange_same x key (slot.Whole c)) (among_same x key cs)
+      ∙ ap (λ b. if b then then_ok (replace_whole q x key c (expression_at (project q) c)) (λ ss. then_more ss (replace_among q key x cs)) else replace_among q key x cs) (alike (λ fs ts. said_at fs (named_trees fs ts) x.old c))
+
+  replaced_same : (n : ValueName) (key : List ℕ) (x : Exchange) (s : Slot) (a b : Result (List Step) Refusal) → a ≡ b → replace_in_all p n key x s a ≡ replace_in_all q n key x s b
+  replaced_same n key x s a b same =
+      ap (λ r. then_ok r (replaced_or p key x a)) (alike (λ fs ts. all_assigned fs (named_trees fs ts) n (x.old ∷ []) s)) ∙ then_alike (all_assigned q.files (project q) n (x.old ∷ []) s) _ _ go
+    where
+      go : (o : Option (List CallRef)) → replaced_or p key x a o ≡ replaced_or q key x b o
+      go None = same
+      go (Some cs) =
+          ap (λ r. if said_among p.files (project p) cs x.new then Err ThereAlready else r) (among_same x key cs)
+          ∙ alike (λ fs ts. if said_among fs (named_trees fs ts) cs x.new then Err ThereAlready else replace_among q key x cs)
+
+  changed_same : (n : ValueName) (key : List ℕ) (c : ValueChange) (may : MayBeMade c) (s : Slot) → changed_steps p n key c may s ≡ changed_steps q n key c may s
+  changed_same n key (change.Remove gs) may s = removed_same n key gs s _ _ (one_same n key (change.Remove gs) may s)
+  changed_same n key (change.Replace old new) may s = replaced_same n key (exchange old new may) s _ _ (one_same n key (change.Replace old new) may s)
+  changed_same n key (change.Set g) may s = one_same n key (change.Set g) may s
+  changed_same n key (change.SetAll gs) may s = one_same n key (change.SetAll gs) may s
+  changed_same n key (change.Add gs) may s = one_same n key (change.Add gs) may s
+  changed_same n key (change.AddAfter g gs) may s = one_same n key (change.AddAfter g gs) may s
+  changed_same n key change.Delete may s = one_same n key change.Delete may s
 
   named_same : (n : ValueName) (key : List ℕ) (c : ValueChange) (may : MayBeMade c) (s : Slot) → named_steps p n key c may s ≡ named_steps q n key c may s
   named_same n key c may s =

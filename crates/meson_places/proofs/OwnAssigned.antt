@@ -79,8 +79,8 @@ module _ (files : List File) (p : Project Span) where
           let f = first_among (says_all_at files p gs) cs d (all ∙ ap Some same) in
           (with_all gs d f.0, f.1)
   changed_found (change.AddAfter g gs) cs d is = one_found (g ∷ []) cs d is
-  changed_found (change.Remove gs) cs d is = one_found gs cs d is
-  changed_found (change.Replace old new) cs d is = one_found (old ∷ []) cs d is
+  changed_found (change.Remove gs) cs d is = absurd (let no : ⊥ = cc in no)
+  changed_found (change.Replace old new) cs d is = absurd (let no : ⊥ = cc in no)
   changed_found change.Delete cs d is = absurd (let no : ⊥ = cc in no)
 
 -- ---- those beside an assignment
@@ -93,7 +93,7 @@ all_pass test [] x all m = absurd m
 all_pass test (y ∷ ys) x all (inl same) = ap test (sym same) ∙ (and_parts (test y) (list_all test ys) all).0
 all_pass test (y ∷ ys) x all (inr m) = all_pass test ys x (and_parts (test y) (list_all test ys) all).1 m
 
-beside : (folder : Option (List ℕ)) (c : CallRef) (all ds : List CallRef) (d : CallRef) → added_beside folder c all ≡ Ok ds → Among ds d → (d.file ≡ c.file) × Among all d
+pub beside : (folder : Option (List ℕ)) (c : CallRef) (all ds : List CallRef) (d : CallRef) → added_beside folder c all ≡ Ok ds → Among ds d → (d.file ≡ c.file) × Among all d
 beside None c all ds d is m = go (list_all (is_searched (Some c.file)) all) refl is
   where
     refused : Result (List CallRef) Refusal
@@ -112,7 +112,7 @@ beside (Some folder) c all ds d is m =
 
 -- ---- the slot that is changed
 
-whole_is : (n : PlaceName) (keys : List (List ℕ)) (s : Slot) (v : List ℕ × CallRef) → whole_variable n keys s ≡ Some v → (n ≡ name.Variable v.0) × (s ≡ slot.Whole v.1)
+pub whole_is : (n : PlaceName) (keys : List (List ℕ)) (s : Slot) (v : List ℕ × CallRef) → whole_variable n keys s ≡ Some v → (n ≡ name.Variable v.0) × (s ≡ slot.Whole v.1)
 whole_is (name.Variable x) [] (slot.Whole c) v is = let same : (x, c) ≡ v = cc in (ap (λ (w : List ℕ × CallRef). name.Variable w.0) same, ap (λ (w : List ℕ × CallRef). slot.Whole w.1) same)
 whole_is (name.Variable x) [] (slot.Element list n) v is = absurd (let no : ⊥ = cc in no)
 whole_is (name.Variable x) [] (slot.Absent list key) v is = absurd (let no : ⊥ = cc in no)

@@ -1,11 +1,16 @@
 -- Results that are known by an equal one; and the first of some keys.
-use Rattle.std.proofs.Common.{◌≡◌, ℕ, ◌-◌, ◌≤◌, List, [], ◌∷◌, length, take, drop, get_or, Result, Ok, Err, ap, sym, ◌∙◌, arith}
+use Rattle.std.proofs.Common.{◌≡◌, ℕ, ◌-◌, ◌≤◌, List, [], ◌∷◌, length, take, drop, get_or, Result, Ok, Err, refl, ap, sym, ◌∙◌, arith}
 use Rattle.std.specs.Prelude.{◌≢◌, IfOk, MatchOption, Option, Some, None}
 use Rattle.std.specs.Result.{IsErrAnd}
 use Rattle.std.proofs.lemmas.List.{take_all}
+use Rattle.meson_splice.specs.Patch.{then_ok}
 use Rattle.meson_calls.specs.declared.refusal.Refusal.{Refusal}
 use Rattle.meson_calls.specs.declared.refusal.Refusal.TheVariants.{OutOfMemory}
 use Rattle.meson_calls.specs.Refusals.{RefusedAs}
+
+pub ok_then : {X Y : Type 0} (r : Result X Refusal) (f : X → Result Y Refusal) (y : Y) → then_ok r f ≡ Ok y → (x : X) × (r ≡ Ok x) × (f x ≡ Ok y)
+ok_then (Ok x) f y h = (x, refl, h)
+ok_then (Err e) f y h = absurd (let no : ⊥ = cc in no)
 
 pub found_as : {X : Type 0} (r a b : Result X Refusal) → a ≡ b → IfOk r (λ x. b ≡ Ok x) → IfOk r (λ x. a ≡ Ok x)
 found_as (Ok x) a b same h = same ∙ h

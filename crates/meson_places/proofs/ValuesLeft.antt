@@ -20,12 +20,13 @@ use Rattle.meson_steps.specs.ResultLimits.{plain_trees}
 use Rattle.meson_steps.specs.Steps.{Step, all_stepped, step_in}
 use Rattle.meson_places.specs.declared.slots.Slot.{Slot}
 use Rattle.meson_places.specs.declared.slots.Slot.TheVariants as slot
-use Rattle.meson_places.specs.Arguments.{MayBeMade, argument_steps, changed_steps, if_room_at, last_key, named_steps, set_within, slot_steps}
+use Rattle.meson_places.specs.Arguments.{MayBeMade, argument_steps, changed_steps, if_room_at, last_key, named_steps, one_changed, set_within, slot_steps}
 use Rattle.meson_places.specs.TargetNames.{checked_name}
 use Rattle.meson_places.specs.Changes.{element_child, set_steps, set_there}
 use Rattle.meson_places.specs.Equality.{lists_say, says}
 use Rattle.meson_places.specs.AssignedArrays.{added_steps}
-use Rattle.meson_places.specs.Effects.{AddedBeside, AddedTo, AssignedBeside, AssignedSet, ElementAdded, IsBeside, SetLeft, SlotLeft, ValueLeft, WholeAdded}
+use Rattle.meson_places.specs.AssignedEffects.{AllChanged, IsNamed}
+use Rattle.meson_places.specs.Effects.{AddedBeside, AddedTo, AssignedBeside, AssignedSet, ElementAdded, IsBeside, OneChanged, SetLeft, SlotLeft, ValueLeft, WholeAdded}
 use Rattle.meson_places.specs.AssignedValues.{assigned_room}
 use Rattle.meson_places.proofs.AssignedLeft.{assigned_set}
 use Rattle.meson_places.proofs.AssignedLone.{added_left, assigned_array_left}
@@ -37,8 +38,12 @@ use Rattle.meson_places.specs.Several.{AllMayBeGiven}
 use Rattle.meson_places.specs.Slots.{Child, the_slot}
 use Rattle.meson_places.specs.ValueLists.{ValueList, last_of, lists_of}
 use Rattle.meson_places.specs.Values.{written_given}
+use Rattle.meson_places.proofs.AllMade.{each_removed, each_replaced}
+use Rattle.meson_places.proofs.AllPlaced.{all_there}
+use Rattle.meson_places.proofs.ArgumentsDoable.{removed_of, replaced_of}
+use Rattle.meson_places.specs.Replacements.{exchange}
 use Rattle.meson_places.proofs.AddedValues.{adds_to_one_list}
-use Rattle.meson_places.proofs.ArgumentsDoable.{ok_then}
+use Rattle.meson_places.proofs.Refused.{ok_then}
 use Rattle.meson_places.proofs.BetweenLeft.{values_put_behind}
 use Rattle.meson_places.proofs.ListsThere.{element_there}
 use Rattle.meson_places.proofs.SaidLeft.{element_removed, element_replaced, whole_removed, whole_replaced}
@@ -167,20 +172,40 @@ slot_left l is key change.Delete may (slot.Absent list k) steps after made done 
     cc
 slot_left l is key change.Delete may (slot.Whole p) steps after made done = tt
 
+-- of one value, or of all that are assigned to a variable
+module _ (l : Loaded) (is : IsProject l) (n : ValueName) (key : List ℕ) (s : Slot) (named : IsNamed l n s) (steps : List Step) (after : List Plain) (done : all_stepped steps (plain_trees l) ≡ Some after) where
+  one_left : (c : ValueChange) (may : MayBeMade c) → one_changed l n key c may s ≡ Ok steps → OneChanged l n s c (plain_trees l) after
+  one_left c may made =
+      let t = ok_then (changed_slot l.files (project l) n c s) (slot_steps l key c may) steps made in
+      record { changed = t.0; is_changed = changes_one_value l n c s t.0 t.1; left = slot_left l is key c may t.0 steps after t.2 done }
+
+  abbrev Left : ValueChange → Type 0
+  Left c = OneChanged l n s c (plain_trees l) after ⊎ AllChanged l n s c (plain_trees l) after
+
+  changed_left : (c : ValueChange) (may : MayBeMade c) → changed_steps l n key c may s ≡ Ok steps → Left c
+  changed_left (change.Remove gs) may made =
+      removed_of l is n key s named steps gs (one_changed l n key (change.Remove gs) may s) (Left (change.Remove gs)) (λ h. inl (one_left (change.Remove gs) may h))
+      (λ cs found h. inr (record { values = cs; are = found; left = each_removed l is gs key cs steps h (all_there l n s named gs cs found) after done })) made
+  changed_left (change.Replace was new) may made =
+      replaced_of l is n key s named steps (exchange was new may) (one_changed l n key (change.Replace was new) may s) (Left (change.Replace was new)) (λ h. inl (one_left (change.Replace was new) may h))
+      (λ cs found h. inr (record { values = cs; are = found; left = each_replaced l is was new may key cs steps h (all_there l n s named (was ∷ []) cs found) after done })) made
+  changed_left (change.Set g) may made = inl (one_left (change.Set g) may made)
+  changed_left (change.SetAll gs) may made = inl (one_left (change.SetAll gs) may made)
+  changed_left (change.Add gs) may made = inl (one_left (change.Add gs) may made)
+  changed_left (change.AddAfter g gs) may made = inl (one_left (change.AddAfter g gs) may made)
+  changed_left change.Delete may made = inl (one_left change.Delete may made)
+
 pub values_left : (l : Loaded) → IsProject l → (n : ValueName) (c : ValueChange) (may : MayBeMade c) (steps : List Step) (after : List Plain) → argument_steps l n c may ≡ Ok steps
     → all_stepped steps (plain_trees l) ≡ Some after → ValueLeft l n c (plain_trees l) after
 values_left l is n c may steps after made done =
     let p = ok_then (the_place l n.place) (λ q. then_ok (the_slot (project l) q n.keys) (λ s. named_steps l n (last_key n.keys) c may s)) steps made in
     let s = ok_then (the_slot (project l) p.0 n.keys) (λ t. named_steps l n (last_key n.keys) c may t) steps p.2 in
     let u = ok_then (checked_name (project l) (last_key n.keys) c s.0) (λ _. changed_steps l n (last_key n.keys) c may s.0) steps s.2 in
-    let t = ok_then (changed_slot l.files (project l) n c s.0) (slot_steps l (last_key n.keys) c may) steps u.2 in
     record {
       place = p.0;
       is_place = p.1;
       named = s.0;
       is_named = s.1;
       is_there = slots_are_there (project l) p.0 n.keys s.0 s.1;
-      changed = t.0;
-      is_changed = changes_one_value l n c s.0 t.0 t.1;
-      left = slot_left l is (last_key n.keys) c may t.0 steps after t.2 done;
+      left = changed_left l is n (last_key n.keys) s.0 (record { place = p.0; is_place = p.1; is_slot = s.1 }) steps after done c may u.2;
     }

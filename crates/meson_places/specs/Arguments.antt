@@ -14,6 +14,7 @@ use Rattle.meson_steps.specs.declared.argument.ValueName.{ValueName}
 use Rattle.meson_places.specs.declared.slots.Slot.{Slot}
 use Rattle.meson_places.specs.declared.slots.Slot.TheVariants as slot
 use Rattle.meson_steps.specs.declared.given.Given.{Given}
+use Rattle.meson_places.specs.AllAssigned.{remove_from_all, replace_in_all}
 use Rattle.meson_places.specs.AssignedArrays.{added_steps, set_all_steps}
 use Rattle.meson_places.specs.AssignedValues.{assigned_room}
 use Rattle.meson_places.specs.Assignments.{changed_slot}
@@ -67,8 +68,17 @@ slot_steps l key (change.Replace old new) may s = exchange_steps l (exchange old
 slot_steps l key change.Delete may s = delete_steps s
 
 -- of the value that is named, of that of a variable, or of what is added to a variable
+abbrev pub one_changed : Loaded → ValueName → (key : List ℕ) → (c : ValueChange) → MayBeMade c → Slot → Result (List Step) Refusal
+one_changed l n key c may s = then_ok (changed_slot l.files (project l) n c s) (slot_steps l key c may)
+
+-- the same, unless elements of all values that are assigned to a variable are removed or replaced
+abbrev pub changed_by : Loaded → ValueName → (key : List ℕ) → (c : ValueChange) → MayBeMade c → Slot → (one : Result (List Step) Refusal) → Result (List Step) Refusal
+changed_by l n key (change.Remove gs) may s one = remove_from_all l n key gs s one
+changed_by l n key (change.Replace old new) may s one = replace_in_all l n key (exchange old new may) s one
+changed_by l n key _ may s one = one
+
 abbrev pub changed_steps : Loaded → ValueName → (key : List ℕ) → (c : ValueChange) → MayBeMade c → Slot → Result (List Step) Refusal
-changed_steps l n key c may s = then_ok (changed_slot l.files (project l) n c s) (slot_steps l key c may)
+changed_steps l n key c may s = changed_by l n key c may s (one_changed l n key c may s)
 
 -- the same, unless the value is a text that becomes the name of a target, and another target has that name
 abbrev pub named_steps : Loaded → ValueName → (key : List ℕ) → (c : ValueChange) → MayBeMade c → Slot → Result (List Step) Refusal

@@ -17,6 +17,7 @@ use Rattle.meson_steps.specs.GivenWords.{MayBeGiven}
 use Rattle.meson_places.specs.declared.slots.Slot.{Slot}
 use Rattle.meson_places.specs.declared.slots.Slot.TheVariants as slot
 use Rattle.meson_places.specs.ArrayEffects.{HasValues}
+use Rattle.meson_places.specs.AssignedEffects.{AllChanged}
 use Rattle.meson_places.specs.Behind.{placed_value}
 use Rattle.meson_places.specs.BehindLaws.{IsChanged}
 use Rattle.meson_places.specs.Changes.{element_child, replaces_texts}
@@ -187,14 +188,18 @@ SlotLeft old change.Delete (slot.Element list n) before after = IsWithout list n
 SlotLeft old change.Delete (slot.Absent list key) before after = after ≡ before
 SlotLeft old _ _ before after = Unit {0}
 
--- The name leads to one slot, which is there. The change leaves this of it; or of the value of a variable that nobody else reads, where its value is that
--- one; or of what is added to the variable that is named.
+-- The change leaves this of the slot that is named; or of the value of a variable that nobody else reads, where its value is that one; or of what is added to
+-- the variable that is named.
+pub record OneChanged (old : Loaded) (name : ValueName) (named : Slot) (c : ValueChange) (before after : List Plain) : Type 0 where
+  pub changed : Slot
+  pub is_changed : IsChanged old name named changed
+  pub left : SlotLeft old c changed before after
+
+-- The name leads to one slot, which is there. Its value is changed, or all values that are assigned to the variable that is named.
 pub record ValueLeft (old : Loaded) (name : ValueName) (c : ValueChange) (before after : List Plain) : Type 0 where
   pub place : CallRef
   pub is_place : the_place old name.place ≡ Ok place
   pub named : Slot
   pub is_named : the_slot (project old) place name.keys ≡ Ok named
   pub is_there : SlotIsThere (project old) named
-  pub changed : Slot
-  pub is_changed : IsChanged old name named changed
-  pub left : SlotLeft old c changed before after
+  pub left : OneChanged old name named c before after ⊎ AllChanged old name named c before after

@@ -1,4 +1,6 @@
+pub mod AllAssigned
 pub mod AssignedArrays
+pub mod AssignedEffects
 pub mod AssignedValues
 pub mod Arguments
 pub mod ArrayEffects

@@ -1,17 +1,21 @@
 //! Changes of one value, which is named by a place and keys.
 
-ghost use Rattle.std.specs.Prelude.{◌≡◌, All, IfOk};
+ghost use Rattle.std.specs.Prelude.{◌≡◌, ◌≢◌, All, Err, IfOk, List, MatchOption, MatchResult, Result};
 ghost use Rattle.std.specs.Str.{IsUtf8};
+ghost use Rattle.meson_calls.specs.declared.refusal.Refusal.{Refusal as TheRefusal};
+ghost use Rattle.meson_calls.specs.declared.refusal.Refusal.TheVariants.{OutOfMemory};
 ghost use Rattle.meson_calls.specs.Loading.{AreParsed, IsProject};
 ghost use Rattle.meson_calls.specs.Refusals.{RefusedAs};
 ghost use Rattle.meson_steps.specs.Meanings.{AreMeant};
 ghost use Rattle.meson_steps.specs.Plans.{ArePlanned};
-ghost use Rattle.meson_places.specs.Arguments.{MayBeMade, argument_steps, changed_steps, last_key, room_at, set_within, slot_steps};
+ghost use Rattle.meson_steps.specs.Steps.{Step};
+ghost use Rattle.meson_places.specs.Arguments.{MayBeMade, argument_steps, changed_by, changed_steps, last_key, one_changed, room_at, set_within, slot_steps};
 ghost use Rattle.meson_places.specs.Names.{loaded_in};
 ghost use Rattle.meson_places.specs.Several.{AllMayBeGiven};
 ghost use Rattle.meson_steps.specs.GivenWords.{MayBeGiven};
 ghost use Rattle.meson_places.specs.Values.{given_node, written_given};
 
+use crate::all_changed::{remove_from_all, replace_in_all};
 use crate::assigned::assigned_room;
 use crate::assigned_arrays::{added_steps, set_all_steps};
 use crate::assignments::changed_slot;
@@ -158,6 +162,54 @@ fn slot_steps(
 ///
 /// # Errors
 /// The faults of `changed_slot` or `slot_steps`.
+fn one_changed(
+    alloc: Global,
+    sources: Sources<'_>,
+    name: &ValueName,
+    key: &Text,
+    change: &ValueChange,
+    slot: Slot,
+) -> Result<Vec<ListStep>, Refusal>
+    requires { IsProject (loaded_in sources) }
+    ensures meant { (may : MayBeMade change.now) → IfOk result (λ steps. AreMeant (one_changed (loaded_in sources.entry) name.now key.now change.now may slot) steps.items) }
+    ensures refused { (may : MayBeMade change.now) → RefusedAs result (one_changed (loaded_in sources.entry) name.now key.now change.now may slot) }
+{
+    let changed = changed_slot(alloc, sources, name, change, slot)?;
+    slot_steps(alloc, sources, key, change, &changed)
+}
+
+/// The steps that remove or replace elements of all values that are assigned to the variable that is named. Nothing for another change, or where one value alone
+/// may be changed.
+///
+/// # Errors
+/// The faults of `remove_from_all` or `replace_in_all`.
+fn all_changed(
+    alloc: Global,
+    sources: Sources<'_>,
+    name: &ValueName,
+    key: &Text,
+    change: &ValueChange,
+    slot: &Slot,
+) -> Result<Option<Vec<ListStep>>, Refusal>
+    requires { AreParsed sources.files.now sources.trees.now }
+    ensures made { (may : MayBeMade change.now) (one : Result (List Step) TheRefusal) → let meant = changed_by (loaded_in sources.entry) name.now key.now change.now may slot.now one in
+        MatchResult result (λ o. MatchOption o (meant ≡ one) (λ steps. AreMeant meant steps.items)) (λ e. e ≢ OutOfMemory → meant ≡ Err e) }
+{
+    match change {
+        ValueChange::Remove(values) => {
+            remove_from_all(alloc, sources, name, values.get(), key, slot)
+        }
+        ValueChange::Replace { old, new } => {
+            replace_in_all(alloc, sources, name, Pair { old, new }, key, slot)
+        }
+        _ => Ok(None),
+    }
+}
+
+/// The steps that change all values that are assigned to the variable that is named, or one value.
+///
+/// # Errors
+/// The faults of `all_changed` or `one_changed`.
 fn changed_steps(
     alloc: Global,
     sources: Sources<'_>,
@@ -170,8 +222,10 @@ fn changed_steps(
     ensures meant { (may : MayBeMade change.now) → IfOk result (λ steps. AreMeant (changed_steps (loaded_in sources.entry) name.now key.now change.now may slot) steps.items) }
     ensures refused { (may : MayBeMade change.now) → RefusedAs result (changed_steps (loaded_in sources.entry) name.now key.now change.now may slot) }
 {
-    let changed = changed_slot(alloc, sources, name, change, slot)?;
-    slot_steps(alloc, sources, key, change, &changed)
+    match all_changed(alloc, sources, name, key, change, &slot)? {
+        Some(steps) => Ok(steps),
+        None => one_changed(alloc, sources, name, key, change, slot),
+    }
 }
 
 /// The steps that change the value of a name. They may be done one after another on the project.

@@ -132,10 +132,6 @@ fn changed_value(
         ValueChange::AddAfter { after, .. } => {
             first_with_one(alloc, sources, slice::from_ref(after), places)
         }
-        ValueChange::Remove(values) => first_with_one(alloc, sources, values.get(), places),
-        ValueChange::Replace { old, .. } => {
-            first_with_one(alloc, sources, slice::from_ref(old), places)
-        }
         _ => Ok(None),
     }
 }
@@ -144,7 +140,7 @@ fn changed_value(
 ///
 /// # Errors
 /// Others are in other files, and no folder is given; or out of memory.
-fn others_of(
+pub(crate) fn others_of(
     alloc: Global,
     sources: Sources<'_>,
     folder: &Option<Text>,
@@ -163,7 +159,10 @@ fn others_of(
 }
 
 /// The name of the variable whose whole value is named, and the place of what `=` assigns.
-fn whole_variable<'n>(name: &'n ValueName, slot: &'n Slot) -> Option<(&'n Text, &'n CallRef)>
+pub(crate) fn whole_variable<'n>(
+    name: &'n ValueName,
+    slot: &'n Slot,
+) -> Option<(&'n Text, &'n CallRef)>
     ensures { option_map (λ v. (v.0.now, v.1.now)) result ≡ whole_variable name.entry.now.place.name name.entry.now.keys slot.entry.now }
 {
     if !name.keys.get().is_empty() {
@@ -179,7 +178,7 @@ fn whole_variable<'n>(name: &'n ValueName, slot: &'n Slot) -> Option<(&'n Text, 
 }
 
 /// A place, followed by others.
-fn with_others(
+pub(crate) fn with_others(
     alloc: Global,
     place: &CallRef,
     others: Vec<CallRef>,

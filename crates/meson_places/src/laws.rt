@@ -1,6 +1,7 @@
 //! Laws of places. The functions do nothing: what they ensure is the law.
 
 ghost use Rattle.meson_places.specs.Laws.{AddsToOneList, ArgumentStepsAreDoable, DeletesOneElement, FindsOneCall, KeepsKind, NewAreUnknown, NewAreWritten, PutsBehindFirst, RemovesWhatIsSaid, ReplacesWhatIsSaid, SetsOneValue, SlotsAreThere, SortsIntoOneList, ValuesAreThere};
+ghost use Rattle.meson_places.specs.AssignedEffects.{RemovesFromEach, ReplacesInEach};
 ghost use Rattle.meson_places.specs.BehindLaws.{ChangesOneValue, ChangesOwnValue, FollowsOwnValue, ReadByNobodyElse};
 ghost use Rattle.meson_places.specs.ColonLaws.{TakesLastColon};
 ghost use Rattle.meson_places.specs.LineLaws.{FindsOnLine};
@@ -80,6 +81,16 @@ pub fn removes_what_is_said()
 /// In the lists of a value exactly those elements that say a value become another one, each in its place.
 pub fn replaces_what_is_said()
     ensures { ReplacesWhatIsSaid }
+{}
+
+/// From all values that are assigned to a variable exactly those elements are removed that say one of some values.
+pub fn removes_from_each()
+    ensures { RemovesFromEach }
+{}
+
+/// In all values that are assigned to a variable exactly those elements, and those values without a list, that say a value become another one.
+pub fn replaces_in_each()
+    ensures { ReplacesInEach }
 {}
 
 /// The steps that change a value may be done one after another.

@@ -2,6 +2,8 @@
 #![tactic(auto)]
 
 mod additions;
+mod all_assigned;
+mod all_changed;
 pub mod arguments;
 mod assigned;
 mod assigned_arrays;

@@ -265,7 +265,7 @@ fn if_assigned(
 ///
 /// # Errors
 /// No expression is there; or the faults of `replace_in` or `if_assigned`.
-fn replace_whole(
+pub(crate) fn replace_whole(
     alloc: Global,
     sources: Sources<'_>,
     pair: Pair<'_>,
