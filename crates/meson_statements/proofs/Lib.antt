@@ -1,0 +1,7 @@
+mod Standing
+mod Words
+mod Continuing
+mod Utf8
+mod Lines
+mod Statements
+mod Writing

@@ -1,0 +1,4 @@
+pub mod Code
+pub mod Indented
+pub mod IndentRows
+pub mod inside

@@ -1,0 +1,85 @@
+//! Code that is given for statements.
+
+ghost use Rattle.std.specs.Prelude.{◌≡◌, IfOk, List, MatchOption, true, ℕ};
+ghost use Rattle.std.specs.Str.{IsTrimAscii};
+ghost use Rattle.meson_lex.specs.Kinds.{IsLineEnd};
+ghost use Rattle.meson_syntax.specs.Reads.{Reads};
+ghost use Rattle.meson_syntax.specs.Tree.{Plain};
+ghost use Rattle.meson_edit.specs.ExchangedLines.{IsLinesText, file_statements};
+ghost use Rattle.meson_statements.specs.Code.{IsStatements};
+ghost use Rattle.meson_statements.specs.Indented.{is_indent};
+
+use crate::indenting::indented;
+use meson_splice::Text;
+use meson_syntax::{ParseFault, parse};
+use std::alloc::{AllocError, Global};
+use std::marker::Model;
+
+/// A text that is one statement of the grammar or more. Contracts see its bytes.
+#[derive(Debug, Drop)]
+pub struct StatementCode {
+    text: Text,
+}
+
+impl Model for StatementCode {
+    ghost use Rattle.std.specs.Prelude.{ℕ, List};
+    ghost use Rattle.meson_statements.specs.Code.{IsStatements};
+
+    ghost Value = { List ℕ };
+
+    ghost view = { λ c. c.text };
+
+    ghost invariant = { λ c. IsStatements c.text };
+}
+
+/// Whether a text is one statement of the grammar or more.
+///
+/// # Errors
+/// Out of memory.
+fn has_statements(alloc: Global, text: &str) -> Result<bool, AllocError>
+    ensures yes { IfOk result (λ b. b ≡ true → IsStatements text.now) }
+    ensures no { IsStatements text.now → IfOk result (λ b. b ≡ true) }
+{
+    match parse(alloc, text.as_bytes()) {
+        Ok(tree) => Ok(!tree.block.statements.get().is_empty()),
+        Err(ParseFault::OutOfMemory) => Err(AllocError),
+        Err(_) => Ok(false),
+    }
+}
+
+impl StatementCode {
+    /// The code of a text but for the white space at both of its ends, if that is statements of the grammar.
+    ///
+    /// # Errors
+    /// Out of memory.
+    pub fn of(alloc: Global, text: &str) -> Result<Option<StatementCode>, AllocError>
+        ensures code { IfOk result (λ o. MatchOption o ((bytes : List ℕ) → IsTrimAscii text.now bytes → IsStatements bytes → ⊥) (IsTrimAscii text.now)) }
+    {
+        let code = text.trim_ascii();
+        if !has_statements(alloc, code)? {
+            return Ok(None);
+        }
+        let text = Text::of(String::from_str(alloc, code)?);
+        Ok(Some(StatementCode { text }))
+    }
+
+    /// The text.
+    pub fn get(&self) -> &str
+        ensures text { result.now ≡ self.now }
+        ensures statements { IsStatements self.now }
+    {
+        self.text.get()
+    }
+
+    /// The lines of the statements as they are written at a place: each with this indent, which is blanks, and this line end.
+    ///
+    /// # Errors
+    /// Out of memory.
+    pub fn lines(&self, alloc: Global, indent: &[u8], end: &[u8]) -> Result<Vec<u8>, AllocError>
+        requires indent { is_indent indent.now ≡ true }
+        requires end { IsLineEnd end.now }
+        ensures { (t : Plain) → Reads self.now t → IfOk result (λ v. IsLinesText v.items (file_statements t)) }
+    {
+        indented(alloc, self.text.get().as_bytes(), indent, end)
+    }
+}

@@ -1,0 +1,16 @@
+//! Laws of lines that are written. The functions do nothing: what they ensure is the law.
+
+ghost use Rattle.meson_statements.specs.IndentRows.{IndentRows};
+ghost use Rattle.meson_statements.specs.Indented.{IndentedAreLines, IndentedAreUtf8, IndentedSayTheSame};
+
+/// Lines that are indented are lines of the same statements. Each token and each comment stays as it is.
+pub fn indented()
+    ensures lines { IndentedAreLines }
+    ensures utf8 { IndentedAreUtf8 }
+    ensures said { IndentedSayTheSame }
+{}
+
+/// Examples of indented lines.
+pub fn indented_examples()
+    ensures { IndentRows }
+{}
