@@ -4,6 +4,13 @@ pub mod GoodNodes
 pub mod NameParts
 pub mod ReadFiles
 pub mod ReadParts
+pub mod ReadTurns
+pub mod TakenTurns
+pub mod WayTurns
+pub mod TakerLists
+pub mod HeldTexts
+pub mod ReadAnswers
+pub mod OwnMakers
 pub mod Searches
 pub mod SearchParts
 pub mod Steps

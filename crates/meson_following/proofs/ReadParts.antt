@@ -149,8 +149,8 @@ module _ (source : List ℕ) where
         ap (λ y. statement_words (stmt_view source y)) is ∙ ap statement_words (foreach_view source s names e b)
         ∙ ap (λ ws. mark k.WordForeach ++ ws) (sym (append_assoc (names_words (names_at source names)) (mark k.Colon) (items_part ++ ((new_line ∷ body_part) ++ mark k.WordEndforeach))))
 
-    pub items_good : AreRead (statement_words (stmt_view source x)) → AreGood items_part
-    items_good read = (within front_part items_part ((new_line ∷ body_part) ++ mark k.WordEndforeach) (statement_words (stmt_view source x)) iteration_words read).good
+    pub items_read : AreRead (statement_words (stmt_view source x)) → AreRead items_part
+    items_read = within front_part items_part ((new_line ∷ body_part) ++ mark k.WordEndforeach) (statement_words (stmt_view source x)) iteration_words
 
     body_words : statement_words (stmt_view source x) ≡ ((front_part ++ items_part) ++ new_line ∷ []) ++ (body_part ++ mark k.WordEndforeach)
     body_words =

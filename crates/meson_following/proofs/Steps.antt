@@ -3,16 +3,16 @@ use Rattle.std.proofs.Common.{◌≡◌, ◌++◌, refl, sym, ap, ap₂, ◌∙�
 use Rattle.std.specs.Prelude.{Bool, true, false, ◌||◌, List, []}
 use Rattle.std.proofs.lemmas.List.Sums.{fold-append}
 use Rattle.meson_lex.specs.declared.kinds.Span.{Span}
-use Rattle.meson_calls.specs.declared.call.CallRef.{CallRef}
+use Rattle.meson_following.specs.declared.walk.Question.{Question}
 use Rattle.meson_following.specs.declared.flows.Chosen as code_chosen
 use Rattle.meson_following.specs.declared.flows.Flow as code
 use Rattle.meson_following.specs.CodeFlows.{chosen_view, flow_view}
-use Rattle.meson_following.specs.Walks.{FlowsAs, met_unless}
-use Rattle.meson_following.specs.Flows.{Arrival, Flow, both_flow, either_flow, met_at, with_condition}
-use Rattle.meson_following.specs.Makers.{Known, joined}
+use Rattle.meson_following.specs.Walks.{Found, FlowsAs, met_by, met_unless}
+use Rattle.meson_following.specs.Flows.{Arrival, Flow, both_flow, either_flow, with_condition}
+use Rattle.meson_following.specs.Makers.{joined}
 
-module _ (quiet : Bool) (c : CallRef) where
-  none_met : (k : Known Span) → k ≡ met_unless quiet c k []
+module _ (quiet : Bool) (c : Question) where
+  none_met : (k : Found) → k ≡ met_unless quiet c k []
   none_met k = none quiet
     where
       none : (q : Bool) → k ≡ met_unless q c k []
@@ -20,7 +20,7 @@ module _ (quiet : Bool) (c : CallRef) where
       none false = refl
 
   -- without expressions that are evaluated
-  pub alone : (f : code.Flow) (k : Known Span) (meant : Flow Span) → flow_view f ≡ meant → FlowsAs quiet c f k k meant
+  pub alone : (f : code.Flow) (k : Found) (meant : Flow Span) → flow_view f ≡ meant → FlowsAs quiet c f k k meant
   alone f k meant is =
       record {
         now = ap (λ v. v.now) is;
@@ -30,14 +30,14 @@ module _ (quiet : Bool) (c : CallRef) where
         found = none_met k ∙ ap (λ v. met_unless quiet c k v.arrivals) is;
       }
 
-  met_both : (before middle after : Known Span) (xs ys : List (Arrival Span)) → middle ≡ met_unless quiet c before xs → after ≡ met_unless quiet c middle ys → after ≡ met_unless quiet c before (xs ++ ys)
+  met_both : (before middle after : Found) (xs ys : List (Arrival Span)) → middle ≡ met_unless quiet c before xs → after ≡ met_unless quiet c middle ys → after ≡ met_unless quiet c before (xs ++ ys)
   met_both before middle after xs ys first second = second ∙ ap (λ k. met_unless quiet c k ys) first ∙ joins quiet
     where
       joins : (q : Bool) → met_unless q c (met_unless q c before xs) ys ≡ met_unless q c before (xs ++ ys)
       joins true = refl
-      joins false = sym (fold-append (met_at c) before xs ys)
+      joins false = sym (fold-append (met_by c.variable.now c.aim) before xs ys)
 
-  module _ (f g h : code.Flow) (before middle after : Known Span) (F G : Flow Span) (first : FlowsAs quiet c f before middle F) (second : FlowsAs quiet c g middle after G) where
+  module _ (f g h : code.Flow) (before middle after : Found) (F G : Flow Span) (first : FlowsAs quiet c f before middle F) (second : FlowsAs quiet c g middle after G) where
     pub one_then : flow_view h ≡ both_flow (flow_view f) (flow_view g) → FlowsAs quiet c h before after (both_flow F G)
     one_then is =
         record {
@@ -69,7 +69,7 @@ module _ (quiet : Bool) (c : CallRef) where
         }
 
 -- the same flow, between what is the same
-pub moved : {quiet : Bool} {c : CallRef} {flow : code.Flow} {a b first last : Known Span} {meant same : Flow Span} → FlowsAs quiet c flow a b meant → a ≡ first → b ≡ last → meant ≡ same
+pub moved : {quiet : Bool} {c : Question} {flow : code.Flow} {a b first last : Found} {meant same : Flow Span} → FlowsAs quiet c flow a b meant → a ≡ first → b ≡ last → meant ≡ same
     → FlowsAs quiet c flow first last same
 moved {quiet} {c} f begins ends is =
     record {

@@ -21,7 +21,7 @@ use Rattle.meson_following.specs.CodeFlows.{chosen_view, flow_view}
 use Rattle.meson_following.specs.CodeMakers.{known_view}
 use Rattle.meson_following.specs.Flows.{Choice, Flow, around, both_flow, either_flow, flow_statements, going_on, known_if, looped, no_branch, with_block, with_condition}
 use Rattle.meson_following.specs.Makers.{Known, joined}
-use Rattle.meson_following.specs.Walks.{Chooses, Walks, asking, block_flow, branch_chosen, branches_chosen, call_effect, expression_flow, file_flow, here, loop_flow, met_unless, otherwise_flow, selection_flow, statement_flow, turn_flow, wanted}
+use Rattle.meson_following.specs.Walks.{Chooses, Walks, asking, block_flow, branch_chosen, branches_chosen, call_effect, expression_flow, file_flow, found_view, here, loop_flow, met_unless, otherwise_flow, selection_flow, statement_flow, turn_flow}
 use Rattle.meson_following.proofs.ReadParts.{block_is}
 use Rattle.meson_following.proofs.Walked.{block_walked, both_walked, condition_walked, either_walked}
 
@@ -129,7 +129,7 @@ module _ (w : Walk) (start middle now : Trail) (once flow : code.Flow) (before :
 
   pub loop_walked : Walks (asking w true) start middle once (turns k) → known_view before ≡ around k (flow_view once)
       → now.path.items ≡ middle.path.items
-      → known_view now.found ≡ met_unless w.quiet (wanted w.question) (known_view middle.found) (turn_flow w (here w middle) sets b (known_view before)).arrivals
+      → found_view now.found ≡ met_unless w.quiet w.question (found_view middle.found) (turn_flow w (here w middle) sets b (known_view before)).arrivals
       → flow_view flow ≡ looped (known_view before) (flow_view once) [] → Walks w start now flow (loop_flow w (here w start) sets b k)
   loop_walked first begins back found is =
       let begun : known_view before ≡ around k (turns k) = begins ∙ ap₂ (λ n t. joined k (joined n t)) first.flows.now first.flows.turned in
@@ -144,9 +144,9 @@ module _ (w : Walk) (start middle now : Trail) (once flow : code.Flow) (before :
               ∙ ap₂ (λ e n. known_if (turns k).leaves (joined e n)) first.flows.ended begun;
           leaves = ap (λ v. v.leaves) is ∙ first.flows.leaves;
           found =
-              found ∙ ap (λ f. met_unless w.quiet (wanted w.question) f (turn_flow w (here w middle) sets b (known_view before)).arrivals) first.flows.found
-              ∙ ap (λ q. met_unless w.quiet (wanted w.question) (known_view start.found) (turn_flow w q sets b (known_view before)).arrivals) there
-              ∙ ap (λ n. met_unless w.quiet (wanted w.question) (known_view start.found) (turns n).arrivals) begun;
+              found ∙ ap (λ f. met_unless w.quiet w.question f (turn_flow w (here w middle) sets b (known_view before)).arrivals) first.flows.found
+              ∙ ap (λ q. met_unless w.quiet w.question (found_view start.found) (turn_flow w q sets b (known_view before)).arrivals) there
+              ∙ ap (λ n. met_unless w.quiet w.question (found_view start.found) (turns n).arrivals) begun;
         };
       }
 

@@ -1,6 +1,6 @@
 -- Walks through parts of a file, one after another.
 use Rattle.std.proofs.Common.{◌≡◌, ℕ, List, refl, ap, ap₂, ◌∙◌}
-use Rattle.std.specs.Prelude.{Bool, true, false, not, ◌&&◌, [], ◌∷◌}
+use Rattle.std.specs.Prelude.{Bool, [], ◌∷◌}
 use Rattle.std.specs.List.{list_any}
 use Rattle.meson_lex.specs.declared.kinds.Span.{Span}
 use Rattle.meson_syntax.specs.Tree.{Expression}
@@ -15,10 +15,10 @@ use Rattle.meson_following.specs.declared.flows.Flow as code
 use Rattle.meson_following.specs.declared.walk.Trail.{Trail}
 use Rattle.meson_following.specs.declared.walk.Walk.{Walk}
 use Rattle.meson_following.specs.CodeFlows.{chosen_view, flow_view}
-use Rattle.meson_following.specs.Walks.{Chooses, Walks, met_unless, wanted}
+use Rattle.meson_following.specs.Walks.{Chooses, Walks, found_view, met_unless}
 use Rattle.meson_following.specs.CodeMakers.{known_view}
 use Rattle.meson_following.specs.Effects.{any_leaves_file, any_may_set}
-use Rattle.meson_following.specs.Flows.{Choice, Flow, around, both_flow, either_flow, flow_calls, is_in, joined_if, known_if, passed, touched_if, with_block, with_condition}
+use Rattle.meson_following.specs.Flows.{Choice, Flow, around, both_flow, either_flow, flow_calls, known_if, passed, touched_if, with_block, with_condition}
 use Rattle.meson_following.specs.Makers.{Known, joined}
 use Rattle.meson_following.proofs.Steps.{alone, one_condition, one_of_two, one_then}
 
@@ -33,14 +33,9 @@ module _ (w : Walk) where
       ∙ ap (λ v. list_any (does d v) (calls s.source.now)) variable
       ∙ ap (λ t. list_any (does d w.question.variable.now) (calls t)) source
 
-  one_met : (quiet : Bool) (k now : Known Span) (q : CallRef) (e : Expression Span)
-      → joined_if (not quiet && is_in (wanted w.question) q) k now ≡ met_unless quiet (wanted w.question) k (record { at_expression = placed q e; known = now } ∷ [])
-  one_met true k now q e = refl
-  one_met false k now q e = refl
-
   pub calls_walked : (before after : Trail) (f : code.Flow) (q : CallRef) (e : Expression Span) (cs : List (Call Span)) (k : Known Span) (sets leaves : Bool)
       → after.path.items ≡ before.path.items
-      → known_view after.found ≡ joined_if (not w.quiet && is_in (wanted w.question) q) (known_view before.found) (known_view f.now)
+      → found_view after.found ≡ met_unless w.quiet w.question (found_view before.found) (record { at_expression = placed q e; known = known_view f.now } ∷ [])
       → sets ≡ any_may_set w.question.variable.now cs → leaves ≡ any_leaves_file cs → flow_view f ≡ passed sets leaves k
       → Walks w before after f (flow_calls w.question.variable.now cs (placed q e) k)
   calls_walked before after f q e cs k sets leaves back met set leave is =
@@ -52,29 +47,29 @@ module _ (w : Walk) where
           ended = ap (λ v. v.ended) is ∙ ap₂ (λ b d. known_if b (touched_if d k)) leave set;
           leaves = ap (λ v. v.leaves) is ∙ leave;
           found =
-              met ∙ ap (joined_if (not w.quiet && is_in (wanted w.question) q) (known_view before.found)) (ap (λ v. v.now) is ∙ ap (λ b. touched_if b k) set)
-              ∙ one_met w.quiet (known_view before.found) (touched_if (any_may_set w.question.variable.now cs) k) q e;
+              met ∙ ap (λ now. met_unless w.quiet w.question (found_view before.found) (record { at_expression = placed q e; known = now } ∷ []))
+              (ap (λ v. v.now) is ∙ ap (λ b. touched_if b k) set);
         };
       }
 
   -- ---- one after another
 
   pub nothing_walked : (t : Trail) (f : code.Flow) (meant : Flow Span) → flow_view f ≡ meant → Walks w t t f meant
-  nothing_walked t f meant is = record { back = refl; flows = alone w.quiet (wanted w.question) f (known_view t.found) meant is }
+  nothing_walked t f meant is = record { back = refl; flows = alone w.quiet w.question f (found_view t.found) meant is }
 
   module _ (a b c : Trail) (f g h : code.Flow) (F G : Flow Span) (first : Walks w a b f F) (second : Walks w b c g G) where
     pub both_walked : flow_view h ≡ both_flow (flow_view f) (flow_view g) → Walks w a c h (both_flow F G)
     both_walked is =
         record {
           back = second.back ∙ first.back;
-          flows = one_then w.quiet (wanted w.question) f g h (known_view a.found) (known_view b.found) (known_view c.found) F G first.flows second.flows is;
+          flows = one_then w.quiet w.question f g h (found_view a.found) (found_view b.found) (found_view c.found) F G first.flows second.flows is;
         }
 
     pub either_walked : flow_view h ≡ either_flow (flow_view f) (flow_view g) → Walks w a c h (either_flow F G)
     either_walked is =
         record {
           back = second.back ∙ first.back;
-          flows = one_of_two w.quiet (wanted w.question) f g h (known_view a.found) (known_view b.found) (known_view c.found) F G first.flows second.flows is;
+          flows = one_of_two w.quiet w.question f g h (found_view a.found) (found_view b.found) (found_view c.found) F G first.flows second.flows is;
         }
 
   -- ---- branches
@@ -85,7 +80,7 @@ module _ (w : Walk) where
       record {
         taken = record {
           back = condition.back ∙ before.taken.back;
-          flows = one_condition w.quiet (wanted w.question) x.taken g x.taken (known_view a.found) (known_view b.found) (known_view c.found) X.taken G before.taken.flows condition.flows y is;
+          flows = one_condition w.quiet w.question x.taken g x.taken (found_view a.found) (found_view b.found) (found_view c.found) X.taken G before.taken.flows condition.flows y is;
         };
         left = ap (λ v. v.left) is ∙ condition.flows.now;
       }
@@ -96,7 +91,7 @@ module _ (w : Walk) where
       record {
         taken = record {
           back = inside.back ∙ before.taken.back;
-          flows = one_of_two w.quiet (wanted w.question) x.taken g y.taken (known_view a.found) (known_view b.found) (known_view c.found) X.taken G before.taken.flows inside.flows (ap (λ v. v.taken) is);
+          flows = one_of_two w.quiet w.question x.taken g y.taken (found_view a.found) (found_view b.found) (found_view c.found) X.taken G before.taken.flows inside.flows (ap (λ v. v.taken) is);
         };
         left = ap (λ v. v.left) is ∙ before.left;
       }

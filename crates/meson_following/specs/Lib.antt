@@ -7,6 +7,7 @@ pub mod Flows
 pub mod CodeFlows
 pub mod Walks
 pub mod Reads
+pub mod CodeReads
 pub mod Lists
 pub mod Following
 pub mod CodeFollowing
@@ -17,5 +18,7 @@ pub mod Samples
 pub mod Rows
 pub mod Infos
 pub mod Sharing
+pub mod CodeWays
+pub mod CodeOwning
 pub mod SharedLists
 pub mod Laws

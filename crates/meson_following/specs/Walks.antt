@@ -1,5 +1,6 @@
 -- What a walk of the code through a part of a file gives.
-use Rattle.std.specs.Prelude.{◌≡◌, ℕ, ◌+◌, ◌<◌, ◌^◌, Bool, List, length, if◌then◌else◌}
+use Rattle.std.specs.Prelude.{◌≡◌, ℕ, ◌+◌, ◌<◌, ◌^◌, Bool, List, [], ◌++◌, length, if◌then◌else◌, None}
+use Rattle.std.specs.List.{fold}
 use Rattle.meson_lex.specs.Significant.{Word}
 use Rattle.meson_lex.specs.declared.kinds.Span.{Span}
 use Rattle.meson_syntax.specs.Tree.{Block, Branches, Expression, Listing, Otherwise, Statement}
@@ -13,33 +14,62 @@ use Rattle.meson_calls.specs.Strings.{AreGood}
 use Rattle.meson_following.specs.declared.effects.Effect.{Effect}
 use Rattle.meson_following.specs.declared.flows.Chosen as code_chosen
 use Rattle.meson_following.specs.declared.flows.Flow as code
+use Rattle.meson_following.specs.declared.walk.Aim.{Aim}
+use Rattle.meson_following.specs.declared.walk.Aim.TheVariants as aim
+use Rattle.meson_following.specs.declared.walk.Found as code_found
 use Rattle.meson_following.specs.declared.walk.Question.{Question}
 use Rattle.meson_following.specs.declared.walk.Trail.{Trail}
 use Rattle.meson_following.specs.declared.walk.Walk.{Walk}
 use Rattle.meson_following.specs.CodeMakers.{known_view}
 use Rattle.meson_following.specs.Effects.{calls_of_listing, effect_of}
-use Rattle.meson_following.specs.Flows.{Arrival, Choice, Flow, all_branches, begun, flow_block, flow_branches, flow_call, flow_calls, flow_effect, flow_expression, flow_file, flow_loop, flow_otherwise, flow_statement, known_among, no_branch, with_block, with_condition}
+use Rattle.meson_following.specs.Flows.{Arrival, Choice, Flow, all_branches, begun, flow_block, flow_branches, flow_call, flow_calls, flow_effect, flow_expression, flow_file, flow_loop, flow_otherwise, flow_project, flow_statement, met_at, no_branch, with_block, with_condition}
 use Rattle.meson_following.specs.Makers.{Known}
+use Rattle.meson_following.specs.Reads.{read_places}
+use Rattle.meson_following.specs.Sharing.{has_one_of}
 
--- what is known at one place, by the expressions that are evaluated; a quiet walk keeps nothing of them
-abbrev pub met_unless : (quiet : Bool) → CallRef → Known Span → List (Arrival Span) → Known Span
-met_unless quiet c k arrivals = if quiet then k else known_among c k arrivals
+-- what is known at a place, and the places at which a variable is read
+pub record Found : Type 0 where
+  pub known : Known Span
+  pub reads : List CallRef
 
--- A flow is what was meant, and this is known of the place after it.
-pub record FlowsAs (quiet : Bool) (c : CallRef) (flow : code.Flow) (before after : Known Span) (meant : Flow Span) : Type 0 where
+abbrev pub found_view : code_found.Found → Found
+found_view f = record { known = known_view f.known; reads = f.reads.items }
+
+abbrev pub nothing_found : Found
+nothing_found = record { known = None; reads = [] }
+
+-- the reads in an expression that may see the value of one of these makers
+abbrev pub reads_seen : List ℕ → List CallRef → Arrival Span → List CallRef
+reads_seen x ms a = if has_one_of ms a.known then read_places x a.at_expression else []
+
+-- by an expression that is evaluated
+abbrev pub met_by : List ℕ → Aim → Found → Arrival Span → Found
+met_by x (aim.Place c) f a = record { known = met_at (place_at c) f.known a; reads = f.reads }
+met_by x (aim.Makers ms) f a = record { known = f.known; reads = f.reads ++ reads_seen x ms.now a }
+
+abbrev pub met_among : Question → Found → List (Arrival Span) → Found
+met_among q f arrivals = fold (met_by q.variable.now q.aim) f arrivals
+
+-- a quiet walk keeps nothing of them
+abbrev pub met_unless : (quiet : Bool) → Question → Found → List (Arrival Span) → Found
+met_unless quiet q f arrivals = if quiet then f else met_among q f arrivals
+
+-- A flow is what was meant, and this is found after it.
+pub record FlowsAs (quiet : Bool) (q : Question) (flow : code.Flow) (before after : Found) (meant : Flow Span) : Type 0 where
   pub now : known_view flow.now ≡ meant.now
   pub turned : known_view flow.turned ≡ meant.turned
   pub ended : known_view flow.ended ≡ meant.ended
   pub leaves : flow.leaves ≡ meant.leaves
-  pub found : after ≡ met_unless quiet c before meant.arrivals
+  pub found : after ≡ met_unless quiet q before meant.arrivals
 
 -- ---- a walk
 
 abbrev pub project_of : Question → Project Span
 project_of q = project (loaded_from q.files.now q.trees.now)
 
-abbrev pub wanted : Question → CallRef
-wanted q = place_at q.place
+-- the answer of a question
+abbrev pub answer : Question → Found
+answer q = met_among q nothing_found (flow_project (project_of q) q.variable.now).arrivals
 
 pub record MayWalk (w : Walk) : Type 0 where
   pub whole : IsProject (loaded_from w.question.files.now w.question.trees.now)
@@ -61,7 +91,7 @@ asking w quiet = record { question = w.question; file = w.file; name = w.name; s
 -- the walk is back where it began, and its flow is what was meant
 pub record Walks (w : Walk) (before after : Trail) (flow : code.Flow) (meant : Flow Span) : Type 0 where
   pub back : after.path.items ≡ before.path.items
-  pub flows : FlowsAs w.quiet (wanted w.question) flow (known_view before.found) (known_view after.found) meant
+  pub flows : FlowsAs w.quiet w.question flow (found_view before.found) (found_view after.found) meant
 
 -- the same for branches
 pub record Chooses (w : Walk) (before after : Trail) (chosen : code_chosen.Chosen) (meant : Choice Span) : Type 0 where

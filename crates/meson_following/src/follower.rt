@@ -7,10 +7,11 @@ ghost use Rattle.meson_calls.specs.Project.{expression_at, place_at};
 ghost use Rattle.meson_following.specs.CodeMakers.{known_view};
 ghost use Rattle.meson_following.specs.CodeFollowing.{followed_project, value_view};
 ghost use Rattle.meson_following.specs.Flows.{known_at};
+ghost use Rattle.meson_following.specs.Sharing.{reads_of_variable};
 ghost use Rattle.meson_calls.specs.Strings.{AreGood};
 
 use crate::makers::Known;
-use crate::walk::Question;
+use crate::walk::{Aim, Found, Question};
 use meson_calls::CallRef;
 use meson_calls::call::BorrowedPlace;
 use meson_splice::FileSet;
@@ -33,8 +34,11 @@ pub(crate) struct Value<'t> {
 }
 
 impl<'t> Follower<'t> {
-    /// What is known of a variable at a place.
-    pub(crate) fn known<'q>(
+    /// What is known of a variable where the expression at a place is evaluated, in whichever of the ways it is reached.
+    ///
+    /// # Errors
+    /// Out of memory.
+    pub fn known<'q>(
         &'q self,
         variable: &'q [u8],
         place: BorrowedPlace<'q>,
@@ -47,9 +51,30 @@ impl<'t> Follower<'t> {
             files: self.files,
             trees: self.trees,
             variable,
-            place,
+            aim: Aim::Place(place),
         };
-        question.known()
+        let Found { known, reads: _ } = question.answer()?;
+        Ok(known)
+    }
+
+    /// The places at which a variable is read when it may hold the value of one of these makers.
+    pub(crate) fn reads_of_variable(
+        &self,
+        variable: &[u8],
+        makers: &[CallRef],
+    ) -> Result<Vec<CallRef>, AllocError>
+        requires { IsProject (loaded_from self.now.files.now self.now.trees.now) }
+        ensures { IfOk result (λ reads. reads.items ≡ reads_of_variable (followed_project self.now) makers.now variable.now) }
+    {
+        let question = Question {
+            alloc: self.alloc,
+            files: self.files,
+            trees: self.trees,
+            variable,
+            aim: Aim::Makers(makers),
+        };
+        let Found { known: _, reads } = question.answer()?;
+        Ok(reads)
     }
 
     /// The expression at a place.

@@ -10,12 +10,16 @@ pub mod lists;
 pub mod makers;
 pub mod marks;
 pub mod names;
+mod owning;
+mod reader;
+mod reads;
 pub mod site;
 mod sources;
+mod takers;
 pub mod walk;
 mod walk_statements;
+mod ways;
 
 pub use follower::Follower;
 pub use makers::{Known, Made, Maker};
 pub use marks::{Following, Item, Mark, Way};
-pub use walk::Question;

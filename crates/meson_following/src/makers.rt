@@ -2,6 +2,7 @@
 
 ghost use Rattle.std.specs.Prelude.{◌≡◌, ◌&&◌, Some, IfOk, filter, map, not};
 ghost use Rattle.meson_following.specs.CodeMakers.{known_view, made_view, maker_view};
+ghost use Rattle.meson_following.specs.Following.{one_of_places};
 ghost use Rattle.meson_following.specs.Makers.{added, are_same, assigned, either_made, is_among, is_same_place, is_sure_among, joined, limited, made_by};
 ghost use Rattle.meson_following.specs.Makers.{made_unknown, of_both, renewed, sure_as_among, touched, unsure, with_maker};
 
@@ -42,6 +43,18 @@ pub(crate) fn is_same_place(place: &CallRef, other: &CallRef) -> bool
     ensures { result ≡ is_same_place place.now other.now }
 {
     place.file == other.file && place.path.steps.get() == other.path.steps.get()
+}
+
+/// Whether a place is one of these.
+pub(crate) fn is_one_of(places: &[CallRef], place: &CallRef) -> bool
+    ensures { result ≡ one_of_places places.now place.now }
+{
+    for other in places {
+        if is_same_place(other, place) {
+            return true;
+        }
+    }
+    false
 }
 
 /// Whether the values of two makers have the same place.

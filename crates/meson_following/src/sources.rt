@@ -21,7 +21,7 @@ use std::alloc::AllocError;
 
 impl<'t> Follower<'t> {
     /// What is met in the arguments of the call at a place: in those without a name after the first, and in `sources:`.
-    fn meet_sources(
+    pub(crate) fn meet_sources(
         &self,
         call: &CallRef,
         source: &'t [u8],

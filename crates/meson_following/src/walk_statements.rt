@@ -10,40 +10,39 @@ ghost use Rattle.meson_lex.specs.declared.kinds.Span.{Span};
 ghost use Rattle.meson_syntax.specs.View.{block_view, branch_view, branches_view, expr_view, names_at, stmt_view};
 ghost use Rattle.meson_calls.specs.Loading.{IsProject, loaded_from};
 ghost use Rattle.meson_calls.specs.Project.{child};
-ghost use Rattle.meson_calls.specs.Strings.{AreGood};
 ghost use Rattle.meson_calls.specs.inside.Walks.{else_view};
 ghost use Rattle.meson_variables.specs.Variables.{one_of_names};
 ghost use Rattle.meson_following.specs.CodeMakers.{known_view};
-ghost use Rattle.meson_following.specs.Flows.{Choice, known_at};
-ghost use Rattle.meson_following.specs.Walks.{AreRead, Chooses, FlowsAs, MayWalk, Walks, asking, met_unless, block_flow, branch_chosen, effect_flow, evaluated_flow, file_flow, here, loop_flow, project_of, selection_flow, statement_flow, turn_flow, wanted};
+ghost use Rattle.meson_following.specs.Flows.{Choice};
+ghost use Rattle.meson_following.specs.Walks.{AreRead, Chooses, FlowsAs, MayWalk, Walks, answer, asking, met_unless, block_flow, branch_chosen, effect_flow, evaluated_flow, file_flow, found_view, here, loop_flow, selection_flow, statement_flow, turn_flow};
 
 use crate::effects::Effect;
 use crate::flows::{Chosen, Flow};
 use crate::makers::{Known, Made, copy_known, touch};
-use crate::walk::{Question, Trail, Walk};
+use crate::walk::{Found, Question, Trail, Walk};
 use meson_lex::Span;
 use meson_syntax::{Block, Branch, Expr, Stmt};
 use meson_variables::setters::one_of;
 use std::alloc::{AllocError, Global};
 
 impl<'t> Question<'t> {
-    /// What is known of the variable where the expression at the place is evaluated, in whichever of the ways it is reached.
+    /// What is found in the project, in whichever of the ways its expressions are reached.
     ///
     /// # Errors
     /// Out of memory.
-    pub fn known(&self) -> Result<Known<'t>, AllocError>
+    pub(crate) fn answer(&self) -> Result<Found<'t>, AllocError>
         requires { IsProject (loaded_from self.now.files.now self.now.trees.now) }
-        ensures { IfOk result (λ k. known_view k ≡ known_at (project_of self.now) self.now.variable.now (wanted self.now)) }
+        ensures { IfOk result (λ f. found_view f ≡ answer self.now) }
     {
+        let mut found = Found::nothing(self.alloc);
         let Some(root) = self.files.find("meson.build") else {
-            return Ok(None);
+            return Ok(found);
         };
-        let mut found = None;
         self.in_file(self.trees.len(), false, root, None, &mut found)?;
         Ok(found)
     }
 
-    /// The flow through the file of this number, where this many files may be inside one another. `found` is what is known at the place so far.
+    /// The flow through the file of this number, where this many files may be inside one another. `found` is what is found so far.
     #[cycle(evaluation)]
     fn in_file(
         &self,
@@ -51,10 +50,10 @@ impl<'t> Question<'t> {
         quiet: bool,
         file: usize,
         now: Known<'t>,
-        found: &mut Known<'t>,
+        found: &mut Found<'t>,
     ) -> Result<Flow<'t>, AllocError>
         requires { IsProject (loaded_from self.now.files.now self.now.trees.now) }
-        ensures { IfOk result (λ f. FlowsAs quiet (wanted self.now) f (known_view found.old) (known_view found.new)
+        ensures { IfOk result (λ f. FlowsAs quiet self.now f (found_view found.old) (found_view found.new)
             (file_flow self.now left file (known_view now.entry))) }
     {
         if left == 0 || file >= self.trees.len() {
@@ -70,10 +69,10 @@ impl<'t> Question<'t> {
         };
         let mut trail = Trail {
             path: Vec::new(self.alloc),
-            found: found.take(),
+            found: found.take(self.alloc),
         };
         let flow = walk.in_block(&self.trees[file].block, now, &mut trail)?;
-        *found = trail.found.take();
+        *found = trail.found.take(self.alloc);
         Ok(flow)
     }
 }
@@ -188,7 +187,7 @@ impl<'t> Walk<'t> {
         trail: &mut Trail<'t>,
     ) -> Result<Flow<'t>, AllocError>
         requires walks { MayWalk self.now }
-        requires good { AreGood (expression_words (expr_view self.now.source.now value.now)) }
+        requires good { AreRead (expression_words (expr_view self.now.source.now value.now)) }
         ensures { IfOk result (λ f. Walks self.now trail.old trail.new f
             (evaluated_flow self.now (child (here self.now trail.old) 0) (expr_view self.now.source.now value.now) (known_view now.entry))) }
     {
@@ -198,7 +197,7 @@ impl<'t> Walk<'t> {
                 arguments,
                 ..
             } => {
-                let mut flow = self.in_arguments(arguments, now, trail)?;
+                let mut flow = self.in_arguments(value, arguments, now, trail)?;
                 let effect = self.effect(*name, arguments)?;
                 let now = flow.now.take();
                 let next = self.after_effect(effect, now, trail)?;
@@ -252,7 +251,7 @@ impl<'t> Walk<'t> {
         trail: &mut Trail<'t>,
     ) -> Result<Flow<'t>, AllocError>
         requires walks { MayWalk self.now }
-        requires items { AreGood (expression_words (expr_view self.now.source.now items.now)) }
+        requires items { AreRead (expression_words (expr_view self.now.source.now items.now)) }
         requires body { AreRead (block_words (block_view self.now.source.now body.now)) }
         ensures { (s : Span) → let source = self.now.source.now in
             let loop = tree.iteration s (names_at source names.now) (expr_view source items.now) (block_view source body.now) in
@@ -299,7 +298,7 @@ impl<'t> Walk<'t> {
         requires walks { MayWalk self.now }
         requires good { AreRead (block_words (block_view self.now.source.now body.now)) }
         ensures back { OnOk result (trail.new.path.items ≡ trail.old.path.items) }
-        ensures found { OnOk result (known_view trail.new.found ≡ met_unless self.now.quiet (wanted self.now.question) (known_view trail.old.found)
+        ensures found { OnOk result (found_view trail.new.found ≡ met_unless self.now.quiet self.now.question (found_view trail.old.found)
             (turn_flow self.now (here self.now trail.old) sets (block_view self.now.source.now body.now) (known_view before.now)).arrivals) }
     {
         if self.quiet {
@@ -383,7 +382,7 @@ impl<'t> Walk<'t> {
     ) -> Result<Chosen<'t>, AllocError>
         requires walks { MayWalk self.now }
         requires small { number < 2 ^ 63 }
-        requires condition { AreGood (expression_words (branch_view self.now.source.now branch.now).0) }
+        requires condition { AreRead (expression_words (branch_view self.now.source.now branch.now).0) }
         requires block { AreRead (block_words (branch_view self.now.source.now branch.now).1) }
         ensures { (start : Trail) (before : Choice Span) → Chooses self.now start trail.old chosen.entry before
             → IfOk result (λ c. Chooses self.now start trail.new c

@@ -8,9 +8,9 @@ use Rattle.meson_syntax.specs.Grammar.{block_words, branches_words, expression_w
 use Rattle.meson_syntax.specs.Tree.{Statement, branches_of, call, iteration}
 use Rattle.meson_syntax.specs.View.{block_view, branch_view, branches_view, expr_view, list_view, name_at, names_at, stmt_view, text_at}
 use Rattle.meson_calls.specs.Project.{child}
-use Rattle.meson_calls.specs.Strings.{AreGood}
 use Rattle.meson_calls.specs.inside.Walks.{else_view}
 use Rattle.meson_calls.proofs.StatementParts.{branch_block, foreach_view}
+use Rattle.meson_calls.proofs.WalkedWords.{condition_fits}
 use Rattle.meson_calls.specs.ChosenNotes.{call_with}
 use Rattle.meson_calls.proofs.GoodNotes.{call_view}
 use Rattle.meson_following.proofs.GoodNodes.{call_good}
@@ -20,10 +20,10 @@ use Rattle.meson_following.specs.declared.walk.Trail.{Trail}
 use Rattle.meson_following.specs.CodeMakers.{known_view}
 use Rattle.meson_following.specs.Flows.{going_on, no_branch}
 use Rattle.meson_following.specs.Makers.{touched}
-use Rattle.meson_following.specs.Walks.{AreRead, Chooses, Walks, arguments_flow, branch_chosen, call_effect, effect_flow, evaluated_flow, file_flow, here, otherwise_flow, project_of, statement_flow, wanted}
+use Rattle.meson_following.specs.Walks.{AreRead, Chooses, Walks, arguments_flow, branch_chosen, call_effect, effect_flow, evaluated_flow, file_flow, found_view, here, otherwise_flow, project_of, statement_flow}
 use Rattle.meson_following.proofs.Measures.{all_words, file_step, inner_step, lower_step}
 use Rattle.meson_following.proofs.ReadFiles.{block_read, block_within, file_named, file_walked, no_file_left, past_files, within_files}
-use Rattle.meson_following.proofs.ReadParts.{assigned_is, body_less, body_read, branch_good, branch_less, branches_long, branches_read, evaluated_is, else_read, items_good, last_read, selection_within, stmt_read, stmt_within}
+use Rattle.meson_following.proofs.ReadParts.{assigned_is, body_less, body_read, branch_good, branch_less, branches_long, branches_read, evaluated_is, else_read, items_read, last_read, selection_within, stmt_read, stmt_within}
 use Rattle.meson_following.proofs.Steps.{alone, moved}
 use Rattle.meson_following.proofs.Turns.{block_ended, block_turn, branch_walked, selection_ended, selection_turn, selection_walked}
 use Rattle.meson_following.proofs.Walked.{both_walked, nothing_walked}
@@ -40,7 +40,7 @@ Question::in_file-returns-then-left-eq0 t c =
       | Question::in_file-then-left-eq0-via-then-left-eq0 w ↦ let e = w.if-left-eq0.true in let none : 0 ≡ c.args.left = omega (arith, e) in subst (λ n. going_on (touched k) ≡ file_flow q n c.args.file k) none (no_file_left q c.args.file k)
       | Question::in_file-then-left-eq0-via-else-left-eq0+then-file-self w ↦ let e = w.if-file-self.true in past_files q c.args.left c.args.file k (omega (arith, e))
     ] in
-    alone c.args.quiet (wanted q) c.going_on.result (known_view c.args.found.now) (file_flow q c.args.left c.args.file k) (c.going_on.ensures ∙ ap going_on c.in_ok-touch.ensures ∙ meant)
+    alone c.args.quiet q c.going_on.result (found_view c.args.found.now) (file_flow q c.args.left c.args.file k) (c.going_on.ensures ∙ ap going_on c.in_ok-touch.ensures ∙ meant)
 
 pub Question::in_file-name-requires : goal.Question::in_file-name-requires
 Question::in_file-name-requires t c =
@@ -174,7 +174,7 @@ Question::in_file-returns t c =
     let walked = c.in_ok-flow.ensures in
     let meant = file_walked q c.args.file c.index-self-file.result lt c.requires c.args.left c.bytes.result.now tree c.name.result.now c.new.result.items k some c.bytes.ensures refl
     (file_named q c.args.file c.index-self-file.result lt c.requires c.name.result.now c.name.ensures).0 c.new.ensures.items in
-    moved walked.flows (ap known_view c.take.ensures.value) (ap known_view (sym c.take-2.ensures.value)) meant
+    moved walked.flows c.take.ensures (sym c.take-2.ensures) meant
 
 -- ---- a selection
 
@@ -220,6 +220,7 @@ Walk::in_selection-in_branch-requires t c =
     let less : block_of (get_or bs c.loop-i.i b) ≤ whole = omega (arith, one) in
     let good = branch_good w.source.now b bs WordIf c.loop-i.i c.loop-i-test.true c.requires.branches.good in
     let small : c.loop-i.i < 2 ^ 63 = let within = c.loop-i-test.true in omega (arith, few, fits, within) in
+    let condition_few = condition_fits w.source.now bs c.loop-i.i b (2 ^ 64) c.loop-i-test.true fits in
     let block_fits : length (block_words (branch_view w.source.now (get_or bs c.loop-i.i b)).1) < 2 ^ 64 = omega (arith, one, fits) in (
       lower_step w.left (all_words (project_of w.question)) (block_of b) whole 0 2 t (subst (λ x. block_of x ≤ whole) (sym c.index-branches-i.is) less) (omega arith) (sym c.decreases),
       (
@@ -227,7 +228,7 @@ Walk::in_selection-in_branch-requires t c =
         (
           small,
           (
-            subst (λ x. AreGood (expression_words (branch_view w.source.now x).0)) (sym c.index-branches-i.is) good.0,
+            subst (λ x. AreRead (expression_words (branch_view w.source.now x).0)) (sym c.index-branches-i.is) (record { good = good.0; fits = condition_few }),
             subst (λ x. AreRead (block_words (branch_view w.source.now x).1)) (sym c.index-branches-i.is) (record { good = good.1; fits = block_fits }),
           ),
         ),
@@ -289,7 +290,7 @@ Walk::in_stmt-in_evaluated-requires t c =
     let whole = length (statement_words (stmt_view w.source.now c.args.stmt.now)) in
     let less : words ≤ whole = let same = ap (λ s. length (statement_words s)) is in omega (arith, same) in (
       lower_step w.left (all_words (project_of w.question)) words whole 2 4 t less (omega arith) (sym c.decreases),
-      (c.requires.walks, subst (λ s. AreGood (statement_words s)) is c.requires.good.good),
+      (c.requires.walks, subst (λ s. AreRead (statement_words s)) is c.requires.good),
     )
 
 pub Walk::in_stmt-in_selection-requires : goal.Walk::in_stmt-in_selection-requires
@@ -326,7 +327,7 @@ Walk::in_stmt-in_iteration-requires t c =
       (
         c.requires.walks,
         (
-          items_good source x it.span it.names it.items it.body it.is c.requires.good,
+          items_read source x it.span it.names it.items it.body it.is c.requires.good,
           body_read source x it.span it.names it.items it.body it.is c.requires.good,
         ),
       ),
@@ -353,7 +354,10 @@ Walk::in_stmt-returns-in-Foreach t c =
 
 pub Walk::in_evaluated-in_arguments-requires : goal.Walk::in_evaluated-in_arguments-requires
 Walk::in_evaluated-in_arguments-requires t c =
-    record { good = call_good c.args.self.now.source.now c.args.value.now c.in-Call.span c.in-Call.name c.in-Call.arguments c.in-Call.is c.requires.good }
+    record {
+      read = c.requires.good;
+      good = call_good c.args.self.now.source.now c.args.value.now c.in-Call.span c.in-Call.name c.in-Call.arguments c.in-Call.is c.requires.good.good;
+    }
 
 pub Walk::in_evaluated-returns-in_ok-next-in-Call : goal.Walk::in_evaluated-returns-in_ok-next-in-Call
 Walk::in_evaluated-returns-in_ok-next-in-Call t c =
@@ -363,8 +367,9 @@ Walk::in_evaluated-returns-in_ok-next-in-Call t c =
     let called = call_with (text_at w.source.now c.in-Call.name) (list_view w.source.now c.in-Call.arguments) in
     let e = call c.in-Call.span (name_at w.source.now c.in-Call.name) (list_view w.source.now c.in-Call.arguments) in
     let is : expr_view w.source.now c.args.value.now ≡ e = ap (expr_view w.source.now) c.in-Call.is ∙ call_view w.source.now c.in-Call.span c.in-Call.name c.in-Call.arguments in
-    let first = c.in_ok-flow-in-Call.ensures e in
     let F = arguments_flow w q e (list_view w.source.now c.in-Call.arguments) k in
+    let first : Walks w c.args.trail.now c.in_arguments.new.trail c.in_ok-flow-in-Call.flow F =
+    subst (λ x. Walks w c.args.trail.now c.in_arguments.new.trail c.in_ok-flow-in-Call.flow (arguments_flow w q x (list_view w.source.now c.in-Call.arguments) k)) is c.in_ok-flow-in-Call.ensures in
     let second : Walks w c.in_arguments.new.trail c.after_effect.new.trail c.in_ok-next-in-Call.next (effect_flow w (call_effect w called) F.now) =
     subst (λ f. Walks w c.in_arguments.new.trail c.after_effect.new.trail c.in_ok-next-in-Call.next (effect_flow w f F.now)) c.in_ok-effect-in-Call.ensures
     (subst (λ n. Walks w c.in_arguments.new.trail c.after_effect.new.trail c.in_ok-next-in-Call.next (effect_flow w c.in_ok-effect-in-Call.effect n)) (ap known_view c.take-now.ensures.value ∙ first.flows.now) c.in_ok-next-in-Call.ensures) in
