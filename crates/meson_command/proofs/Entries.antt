@@ -1,7 +1,9 @@
 -- Words of `arg` mean the command of an entry.
-use Rattle.std.proofs.Common.{◌≡◌, ◌∙◌, ◌∷◌, ℕ, Bool, true, false, List, [], Option, Some, None, Result, Ok, Err, bytes_eq, codes, refl, sym, ap, ap₂, subst}
-use Rattle.std.specs.Prelude.{if◌then◌else◌, ok_or, option_and_then, option_map, unwrap_or}
+use Rattle.std.proofs.Common.{◌≡◌, ◌∙◌, ◌∷◌, ◌&&◌, ℕ, Bool, true, false, List, [], Option, Some, None, Result, Ok, Err, bytes_eq, codes, refl, sym, ap, ap₂, subst}
+use Rattle.std.specs.Prelude.{if◌then◌else◌, is_some, ok_or, option_and_then, option_map, unwrap_or}
 use Rattle.clap.specs.Words.{Row, Text, first_of}
+use Rattle.serde_json.specs.Data.{Data, array}
+use Rattle.serde_json.specs.Find.{as_array, get}
 use Rattle.meson_splice.specs.Patch.{then_ok}
 use Rattle.meson_steps.specs.Code.{code_of, is_code}
 use Rattle.meson_steps.specs.GivenWords.{after_first, begins_colon, meant_by}
@@ -15,13 +17,13 @@ use Rattle.meson_steps.specs.declared.given.Given.TheVariants as given
 use Rattle.meson_json.specs.Arguments.{change_to, command_to, keys_in, place_named}
 use Rattle.meson_json.specs.Each.{each_of}
 use Rattle.meson_json.specs.Operations.{argument_operation}
-use Rattle.meson_json.specs.Scripts.{after_at, argument_entry, entry_of, value_name, values_at}
+use Rattle.meson_json.specs.Scripts.{after_at, argument_entry, entry_of, flag_at, given, sorted_at, value_name, values_at}
 use Rattle.meson_json.specs.Settings.{given_value}
 use Rattle.meson_json.specs.declared.fault.ScriptFault.{ScriptFault}
 use Rattle.meson_json.specs.declared.fault.ScriptFault.TheVariants.{BadField, UnknownOperation}
 use Rattle.meson_json.specs.declared.names.ArgumentOperation.{ArgumentOperation}
 use Rattle.meson_json.specs.declared.names.ArgumentOperation.TheVariants as operation
-use Rattle.meson_command.specs.Actions.{run, word_at, words_at}
+use Rattle.meson_command.specs.Actions.{has_flag, run, word_at, words_at}
 use Rattle.meson_command.specs.Arguments.{after_meant, argument_action, keys_meant, requested, value_named, values_meant}
 use Rattle.meson_command.specs.Entries.{WordsMeanTheEntry, data_of, entry_of_words, items_of}
 use Rattle.meson_command.specs.declared.asked.Action.{Action}
@@ -95,11 +97,11 @@ named_in folder key name = record { place = record { name = name; folder = folde
 abbrev value_in : Option Text → List Text → PlaceName → ValueName
 value_in folder keys name = record { place = record { name = name; folder = folder }; keys = keys }
 
-abbrev by_words : Option Text → Option Text → Option ArgumentOperation → Option PlaceName → Option Given → List Given → Result Action UsageFault
-by_words folder w o p after values =
+abbrev by_words : Option Text → Option Text → Option ArgumentOperation → Option PlaceName → Option Given → Bool → List Given → Result Action UsageFault
+by_words folder w o p after sorted values =
     then_ok (ok_or o Usage) (λ operation.
     then_ok (ok_or (option_and_then (λ keys. option_map (value_in folder keys) p) (keys_meant operation w)) Usage) (λ name.
-    then_ok (then_ok (ok_or (Some values) NotCode) (λ values. then_ok (ok_or (Some after) NotCode) (λ it. ok_or (command_to operation name it values) Usage))) (λ c. Ok (requested operation c))))
+    then_ok (then_ok (ok_or (Some values) NotCode) (λ values. then_ok (ok_or (Some after) NotCode) (λ it. ok_or (command_to operation name it sorted values) Usage))) (λ c. Ok (requested operation c))))
 
 -- the values that an operation reads
 abbrev read_by : ArgumentOperation → List Given → List Given
@@ -115,17 +117,30 @@ abbrev after_by : ArgumentOperation → Option Given → Option Given
 after_by operation.Add after = after
 after_by o after = None
 
+-- and whether each goes into its place
+abbrev sorted_by : ArgumentOperation → Bool → Bool
+sorted_by operation.Add sorted = sorted
+sorted_by o sorted = false
+
 abbrev Reads : Type 0
 Reads = ArgumentOperation → Result (List Given) ScriptFault
 
 abbrev ReadsAfter : Type 0
 ReadsAfter = ArgumentOperation → Result (Option Given) ScriptFault
 
-abbrev by_entry : ℕ → Option Text → Text → Option ArgumentOperation → Option PlaceName → ReadsAfter → Reads → Result Command ScriptFault
-by_entry i folder key o p after read =
+abbrev ReadsSorted : Type 0
+ReadsSorted = ArgumentOperation → (has_after : Bool) → Result Bool ScriptFault
+
+-- which is refused beside a value after which values are added
+abbrev sorted_read : ℕ → Bool → ReadsSorted
+sorted_read i sorted operation has = if sorted_by operation sorted && has then Err (BadField i (codes "sorted")) else Ok (sorted_by operation sorted)
+
+abbrev by_entry : ℕ → Option Text → Text → Option ArgumentOperation → Option PlaceName → ReadsSorted → ReadsAfter → Reads → Result Command ScriptFault
+by_entry i folder key o p flag after read =
     then_ok (ok_or o (UnknownOperation i)) (λ operation.
     then_ok (then_ok (ok_or p (BadField i (codes "id"))) (λ place. Ok (named_in folder key place))) (λ name.
-    then_ok (read operation) (λ gs. then_ok (after operation) (λ it. ok_or (command_to operation name it gs) (BadField i (codes "values"))))))
+    then_ok (read operation) (λ gs. then_ok (after operation) (λ it.
+    then_ok (flag operation (is_some it)) (λ sorted. ok_or (command_to operation name it sorted gs) (BadField i (codes "values")))))))
 
 one-change : (i : ℕ) (name : ValueName) (c : Option ValueChange) (made : Command)
     → then_ok (ok_or (option_map (commands.Argument name) c) Usage) (λ k. Ok (run k)) ≡ Ok (run made)
@@ -134,111 +149,142 @@ one-change i name None made e = cc
 one-change i name (Some change) made e = run-of (commands.Argument name change) made e
 
 -- what is reported is no run
-no-run : (folder w : Option Text) (p : Option PlaceName) (after : Option Given) (values : List Given) (made : Command) → by_words folder w (Some operation.Info) p after values ≡ Ok (run made) → ⊥
-no-run folder None None after values made e = let none : ⊥ = cc in none
-no-run folder None (Some name) None [] made e = let none : ⊥ = cc in none
-no-run folder None (Some name) None (g ∷ gs) made e = let none : ⊥ = cc in none
-no-run folder None (Some name) (Some it) values made e = let none : ⊥ = cc in none
-no-run folder (Some key) None after values made e = let none : ⊥ = cc in none
-no-run folder (Some key) (Some name) None [] made e = let none : ⊥ = cc in none
-no-run folder (Some key) (Some name) None (g ∷ gs) made e = let none : ⊥ = cc in none
-no-run folder (Some key) (Some name) (Some it) values made e = let none : ⊥ = cc in none
+no-run : (folder w : Option Text) (p : Option PlaceName) (after : Option Given) (sorted : Bool) (values : List Given) (made : Command)
+    → by_words folder w (Some operation.Info) p after sorted values ≡ Ok (run made) → ⊥
+no-run folder None None after sorted values made e = let none : ⊥ = cc in none
+no-run folder None (Some name) None false [] made e = let none : ⊥ = cc in none
+no-run folder None (Some name) None false (g ∷ gs) made e = let none : ⊥ = cc in none
+no-run folder None (Some name) None true values made e = let none : ⊥ = cc in none
+no-run folder None (Some name) (Some it) sorted values made e = let none : ⊥ = cc in none
+no-run folder (Some key) None after sorted values made e = let none : ⊥ = cc in none
+no-run folder (Some key) (Some name) None false [] made e = let none : ⊥ = cc in none
+no-run folder (Some key) (Some name) None false (g ∷ gs) made e = let none : ⊥ = cc in none
+no-run folder (Some key) (Some name) None true values made e = let none : ⊥ = cc in none
+no-run folder (Some key) (Some name) (Some it) sorted values made e = let none : ⊥ = cc in none
 
-same-made : (i : ℕ) (folder w : Option Text) (o : Option ArgumentOperation) (p : Option PlaceName) (after : Option Given) (values : List Given) (made : Command)
-    → by_words folder w o p after values ≡ Ok (run made) → by_entry i folder (unwrap_or w []) o p (λ operation. Ok (after_by operation after)) (λ operation. Ok (read_by operation values)) ≡ Ok made
-same-made i folder w None p after values made e = cc
-same-made i folder w (Some operation.Info) p after values made e = absurd (no-run folder w p after values made e)
-same-made i folder None (Some operation.Set) p after values made e = cc
-same-made i folder None (Some operation.Add) p after values made e = cc
-same-made i folder None (Some operation.Remove) p after values made e = cc
-same-made i folder None (Some operation.Replace) p after values made e = cc
-same-made i folder None (Some operation.Delete) p after values made e = cc
-same-made i folder (Some key) (Some operation.Set) None after values made e = cc
-same-made i folder (Some key) (Some operation.Add) None after values made e = cc
-same-made i folder (Some key) (Some operation.Remove) None after values made e = cc
-same-made i folder (Some key) (Some operation.Replace) None after values made e = cc
-same-made i folder (Some key) (Some operation.Delete) None after values made e = cc
-same-made i folder (Some key) (Some operation.Set) (Some name) None values made e = one-change i (named_in folder key name) (change_to operation.Set None values) made e
-same-made i folder (Some key) (Some operation.Add) (Some name) after values made e = one-change i (named_in folder key name) (change_to operation.Add after values) made e
-same-made i folder (Some key) (Some operation.Remove) (Some name) None values made e = one-change i (named_in folder key name) (change_to operation.Remove None values) made e
-same-made i folder (Some key) (Some operation.Replace) (Some name) None values made e = one-change i (named_in folder key name) (change_to operation.Replace None values) made e
-same-made i folder (Some key) (Some operation.Delete) (Some name) None [] made e = one-change i (named_in folder key name) (change_to operation.Delete None []) made e
-same-made i folder (Some key) (Some operation.Delete) (Some name) None (g ∷ gs) made e = cc
-same-made i folder (Some key) (Some operation.Set) (Some name) (Some it) values made e = cc
-same-made i folder (Some key) (Some operation.Remove) (Some name) (Some it) values made e = cc
-same-made i folder (Some key) (Some operation.Replace) (Some name) (Some it) values made e = cc
-same-made i folder (Some key) (Some operation.Delete) (Some name) (Some it) values made e = cc
+abbrev same_change : ℕ → Option Text → Text → PlaceName → (o : ArgumentOperation) → Option Given → Bool → List Given → Command → Type 0
+same_change i folder key name o after sorted values made =
+    then_ok (ok_or (option_map (commands.Argument (named_in folder key name)) (change_to o after sorted values)) Usage) (λ k. Ok (run k)) ≡ Ok (run made)
+    → ok_or (option_map (commands.Argument (named_in folder key name)) (change_to o after sorted values)) (BadField i (codes "values")) ≡ Ok made
 
-by-reads : (i : ℕ) (folder : Option Text) (key : Text) (o : Option ArgumentOperation) (p : Option PlaceName) (after : Option Given) (values : List Given) (made : Command)
+made-by : (i : ℕ) (folder : Option Text) (key : Text) (name : PlaceName) (o : ArgumentOperation) (after : Option Given) (sorted : Bool) (values : List Given) (made : Command)
+    → same_change i folder key name o after sorted values made
+made-by i folder key name o after sorted values made e = one-change i (named_in folder key name) (change_to o after sorted values) made e
+
+same-made : (i : ℕ) (folder w : Option Text) (o : Option ArgumentOperation) (p : Option PlaceName) (after : Option Given) (sorted : Bool) (values : List Given) (made : Command)
+    → by_words folder w o p after sorted values ≡ Ok (run made)
+    → by_entry i folder (unwrap_or w []) o p (sorted_read i sorted) (λ operation. Ok (after_by operation after)) (λ operation. Ok (read_by operation values)) ≡ Ok made
+same-made i folder w None p after sorted values made e = cc
+same-made i folder w (Some operation.Info) p after sorted values made e = absurd (no-run folder w p after sorted values made e)
+same-made i folder None (Some operation.Set) p after sorted values made e = cc
+same-made i folder None (Some operation.Add) p after sorted values made e = cc
+same-made i folder None (Some operation.Remove) p after sorted values made e = cc
+same-made i folder None (Some operation.Replace) p after sorted values made e = cc
+same-made i folder None (Some operation.Delete) p after sorted values made e = cc
+same-made i folder (Some key) (Some operation.Set) None after sorted values made e = cc
+same-made i folder (Some key) (Some operation.Add) None after sorted values made e = cc
+same-made i folder (Some key) (Some operation.Remove) None after sorted values made e = cc
+same-made i folder (Some key) (Some operation.Replace) None after sorted values made e = cc
+same-made i folder (Some key) (Some operation.Delete) None after sorted values made e = cc
+same-made i folder (Some key) (Some operation.Set) (Some name) None false values made e = made-by i folder key name operation.Set None false values made e
+same-made i folder (Some key) (Some operation.Add) (Some name) None false values made e = made-by i folder key name operation.Add None false values made e
+same-made i folder (Some key) (Some operation.Add) (Some name) None true values made e = made-by i folder key name operation.Add None true values made e
+same-made i folder (Some key) (Some operation.Add) (Some name) (Some it) false values made e = made-by i folder key name operation.Add (Some it) false values made e
+same-made i folder (Some key) (Some operation.Add) (Some name) (Some it) true values made e = cc
+same-made i folder (Some key) (Some operation.Remove) (Some name) None false values made e = made-by i folder key name operation.Remove None false values made e
+same-made i folder (Some key) (Some operation.Replace) (Some name) None false values made e = made-by i folder key name operation.Replace None false values made e
+same-made i folder (Some key) (Some operation.Delete) (Some name) None false [] made e = made-by i folder key name operation.Delete None false [] made e
+same-made i folder (Some key) (Some operation.Delete) (Some name) None false (g ∷ gs) made e = cc
+same-made i folder (Some key) (Some operation.Set) (Some name) None true values made e = cc
+same-made i folder (Some key) (Some operation.Remove) (Some name) None true values made e = cc
+same-made i folder (Some key) (Some operation.Replace) (Some name) None true values made e = cc
+same-made i folder (Some key) (Some operation.Delete) (Some name) None true values made e = cc
+same-made i folder (Some key) (Some operation.Set) (Some name) (Some it) false values made e = cc
+same-made i folder (Some key) (Some operation.Remove) (Some name) (Some it) false values made e = cc
+same-made i folder (Some key) (Some operation.Replace) (Some name) (Some it) false values made e = cc
+same-made i folder (Some key) (Some operation.Delete) (Some name) (Some it) false values made e = cc
+same-made i folder (Some key) (Some operation.Set) (Some name) (Some it) true values made e = cc
+same-made i folder (Some key) (Some operation.Remove) (Some name) (Some it) true values made e = cc
+same-made i folder (Some key) (Some operation.Replace) (Some name) (Some it) true values made e = cc
+same-made i folder (Some key) (Some operation.Delete) (Some name) (Some it) true values made e = cc
+
+by-reads : (i : ℕ) (folder : Option Text) (key : Text) (o : Option ArgumentOperation) (p : Option PlaceName) (after : Option Given) (sorted : Bool) (values : List Given) (made : Command)
+    → (flag : ReadsSorted) → ((operation : ArgumentOperation) (has : Bool) → flag operation has ≡ sorted_read i sorted operation has)
     → (last : ReadsAfter) → ((operation : ArgumentOperation) → last operation ≡ Ok (after_by operation after))
     → (read : Reads) → ((operation : ArgumentOperation) → read operation ≡ Ok (read_by operation values))
-    → by_entry i folder key o p (λ operation. Ok (after_by operation after)) (λ operation. Ok (read_by operation values)) ≡ Ok made → by_entry i folder key o p last read ≡ Ok made
-by-reads i folder key None p after values made last both read each e = e
-by-reads i folder key (Some operation) None after values made last both read each e = e
-by-reads i folder key (Some operation) (Some name) after values made last both read each e =
-    ap₂ (λ (r : Result (List Given) ScriptFault) (a : Result (Option Given) ScriptFault). then_ok r (λ gs. then_ok a (λ it. ok_or (command_to operation (named_in folder key name) it gs) (BadField i (codes "values")))))
-    (each operation) (both operation) ∙ e
+    → by_entry i folder key o p (sorted_read i sorted) (λ operation. Ok (after_by operation after)) (λ operation. Ok (read_by operation values)) ≡ Ok made
+    → by_entry i folder key o p flag last read ≡ Ok made
+by-reads i folder key None p after sorted values made flag flags last both read each e = e
+by-reads i folder key (Some operation) None after sorted values made flag flags last both read each e = e
+by-reads i folder key (Some operation) (Some name) after sorted values made flag flags last both read each e =
+    ap₂ (λ (r : Result (List Given) ScriptFault) (a : Result (Option Given) ScriptFault). then_ok r (λ gs. then_ok a (λ it.
+    then_ok (flag operation (is_some it)) (λ s. ok_or (command_to operation (named_in folder key name) it s gs) (BadField i (codes "values"))))))
+    (each operation) (both operation)
+    ∙ ap (λ (f : Result Bool ScriptFault). then_ok f (λ s. ok_or (command_to operation (named_in folder key name) (after_by operation after) s (read_by operation values)) (BadField i (codes "values"))))
+    (flags operation (is_some (after_by operation after)))
+    ∙ e
 
-of-words : (folder : Option Text) (rows : List Row) (after : Option Given) (a : Option (Option Given)) (values : List Given) (vs : Option (List Given)) (made : Command) → a ≡ Some after → vs ≡ Some values
-    → then_ok (ok_or (argument_operation (word_at (codes "OPERATION") rows)) Usage) (λ operation.
+-- the request of the words where their values, that of `--after` and whether `--sorted` is given are these
+abbrev by_rows : Option Text → List Row → Option (List Given) → Option (Option Given) → Bool → Result Action UsageFault
+by_rows folder rows vs a s =
+    then_ok (ok_or (argument_operation (word_at (codes "OPERATION") rows)) Usage) (λ operation.
     then_ok (ok_or (value_named folder operation rows) Usage) (λ name.
-    then_ok (then_ok (ok_or vs NotCode) (λ values. then_ok (ok_or a NotCode) (λ it. ok_or (command_to operation name it values) Usage))) (λ c. Ok (requested operation c))))
-    ≡ Ok (run made)
+    then_ok (then_ok (ok_or vs NotCode) (λ values. then_ok (ok_or a NotCode) (λ it. ok_or (command_to operation name it s values) Usage))) (λ c. Ok (requested operation c))))
+
+of-words : (folder : Option Text) (rows : List Row) (after : Option Given) (a : Option (Option Given)) (sorted s : Bool) (values : List Given) (vs : Option (List Given)) (made : Command)
+    → a ≡ Some after → s ≡ sorted → vs ≡ Some values → by_rows folder rows vs a s ≡ Ok (run made)
     → by_words folder (first_of (codes "KEY") rows) (argument_operation (word_at (codes "OPERATION") rows))
-    (place_named (word_at (codes "FUNCTION") rows) (word_at (codes "ID") rows)) after values ≡ Ok (run made)
-of-words folder rows after a values vs made ends is e =
-    subst (λ (v : Option (List Given)). then_ok (ok_or (argument_operation (word_at (codes "OPERATION") rows)) Usage) (λ operation.
-    then_ok (ok_or (value_named folder operation rows) Usage) (λ name.
-    then_ok (then_ok (ok_or v NotCode) (λ values. then_ok (ok_or (Some after) NotCode) (λ it. ok_or (command_to operation name it values) Usage))) (λ c. Ok (requested operation c))))
-    ≡ Ok (run made)) is
-    (subst (λ (b : Option (Option Given)). then_ok (ok_or (argument_operation (word_at (codes "OPERATION") rows)) Usage) (λ operation.
-    then_ok (ok_or (value_named folder operation rows) Usage) (λ name.
-    then_ok (then_ok (ok_or vs NotCode) (λ values. then_ok (ok_or b NotCode) (λ it. ok_or (command_to operation name it values) Usage))) (λ c. Ok (requested operation c))))
-    ≡ Ok (run made)) ends e)
+    (place_named (word_at (codes "FUNCTION") rows) (word_at (codes "ID") rows)) after sorted values ≡ Ok (run made)
+of-words folder rows after a sorted s values vs made ends on is e =
+    subst (λ (v : Option (List Given)). by_rows folder rows v (Some after) sorted ≡ Ok (run made)) is
+    (subst (λ (b : Option (Option Given)). by_rows folder rows vs b sorted ≡ Ok (run made)) ends
+    (subst (λ (t : Bool). by_rows folder rows vs a t ≡ Ok (run made)) on e))
 
-entered : (i : ℕ) (folder : Option Text) (rows : List Row) (after : Option Given) (values : List Given) (made : Command)
+entered : (i : ℕ) (folder : Option Text) (rows : List Row) (after : Option Given) (sorted : Bool) (values : List Given) (made : Command)
+    → (flag : ReadsSorted) → ((operation : ArgumentOperation) (has : Bool) → flag operation has ≡ sorted_read i sorted operation has)
     → (last : ReadsAfter) → ((operation : ArgumentOperation) → last operation ≡ Ok (after_by operation after))
     → (read : Reads) → ((operation : ArgumentOperation) → read operation ≡ Ok (read_by operation values))
-    → after_meant (first_of (codes "ELEMENT") rows) ≡ Some after → values_meant (words_at (codes "VALUE") rows) ≡ Some values → argument_action folder rows ≡ Ok (run made)
+    → has_flag (codes "sorted") rows ≡ sorted → after_meant (first_of (codes "ELEMENT") rows) ≡ Some after → values_meant (words_at (codes "VALUE") rows) ≡ Some values
+    → argument_action folder rows ≡ Ok (run made)
     → by_entry i folder (word_at (codes "KEY") rows) (argument_operation (word_at (codes "OPERATION") rows))
-    (place_named (word_at (codes "FUNCTION") rows) (word_at (codes "ID") rows)) last read ≡ Ok made
+    (place_named (word_at (codes "FUNCTION") rows) (word_at (codes "ID") rows)) flag last read ≡ Ok made
 unfolding argument_action
-entered i folder rows after values made last both read each ends meant e =
-    by-reads i folder (word_at (codes "KEY") rows) _ _ after values made last both read each
-    (same-made i folder (first_of (codes "KEY") rows) _ _ after values made
-    (of-words folder rows after (after_meant (first_of (codes "ELEMENT") rows)) values (values_meant (words_at (codes "VALUE") rows)) made ends meant e))
+entered i folder rows after sorted values made flag flags last both read each on ends meant e =
+    by-reads i folder (word_at (codes "KEY") rows) _ _ after sorted values made flag flags last both read each
+    (same-made i folder (first_of (codes "KEY") rows) _ _ after sorted values made
+    (of-words folder rows after (after_meant (first_of (codes "ELEMENT") rows)) sorted (has_flag (codes "sorted") rows) values (values_meant (words_at (codes "VALUE") rows)) made ends on meant e))
+
+-- ---- what is read of the entry
 
 set-read : (i : ℕ) (rows : List Row) (values : List Given) → values_meant (words_at (codes "VALUE") rows) ≡ Some values
     → ok_or (each_of given_value (items_of values)) (BadField i (codes "values")) ≡ Ok values
 set-read i rows values meant =
     ap (λ (r : Option (List Given)). ok_or r (BadField i (codes "values"))) (values-read (words_at (codes "VALUE") rows) values meant)
 
-each-read : (i : ℕ) (folder : Option Text) (rows : List Row) (after : Option Given) (values : List Given) → values_meant (words_at (codes "VALUE") rows) ≡ Some values
-    → (operation : ArgumentOperation) → values_at i operation (entry_of_words folder rows after values) ≡ Ok (read_by operation values)
-each-read i None rows None values meant operation.Set = set-read i rows values meant
-each-read i None rows None values meant operation.Add = set-read i rows values meant
-each-read i None rows None values meant operation.Remove = set-read i rows values meant
-each-read i None rows None values meant operation.Replace = set-read i rows values meant
-each-read i None rows None values meant operation.Delete = refl
-each-read i None rows None values meant operation.Info = refl
-each-read i None rows (Some it) values meant operation.Set = set-read i rows values meant
-each-read i None rows (Some it) values meant operation.Add = set-read i rows values meant
-each-read i None rows (Some it) values meant operation.Remove = set-read i rows values meant
-each-read i None rows (Some it) values meant operation.Replace = set-read i rows values meant
-each-read i None rows (Some it) values meant operation.Delete = refl
-each-read i None rows (Some it) values meant operation.Info = refl
-each-read i (Some folder) rows None values meant operation.Set = set-read i rows values meant
-each-read i (Some folder) rows None values meant operation.Add = set-read i rows values meant
-each-read i (Some folder) rows None values meant operation.Remove = set-read i rows values meant
-each-read i (Some folder) rows None values meant operation.Replace = set-read i rows values meant
-each-read i (Some folder) rows None values meant operation.Delete = refl
-each-read i (Some folder) rows None values meant operation.Info = refl
-each-read i (Some folder) rows (Some it) values meant operation.Set = set-read i rows values meant
-each-read i (Some folder) rows (Some it) values meant operation.Add = set-read i rows values meant
-each-read i (Some folder) rows (Some it) values meant operation.Remove = set-read i rows values meant
-each-read i (Some folder) rows (Some it) values meant operation.Replace = set-read i rows values meant
-each-read i (Some folder) rows (Some it) values meant operation.Delete = refl
-each-read i (Some folder) rows (Some it) values meant operation.Info = refl
+has-values : (folder : Option Text) (rows : List Row) (after : Option Given) (sorted : Bool) (values : List Given)
+    → get (codes "values") (entry_of_words folder rows after sorted values) ≡ Some (array (items_of values))
+has-values None rows None false values = refl
+has-values None rows None true values = refl
+has-values None rows (Some it) false values = refl
+has-values None rows (Some it) true values = refl
+has-values (Some folder) rows None false values = refl
+has-values (Some folder) rows None true values = refl
+has-values (Some folder) rows (Some it) false values = refl
+has-values (Some folder) rows (Some it) true values = refl
+
+all-read : (i : ℕ) (folder : Option Text) (rows : List Row) (after : Option Given) (sorted : Bool) (values : List Given) → values_meant (words_at (codes "VALUE") rows) ≡ Some values
+    → given (λ v. option_and_then (each_of given_value) (as_array v)) i (codes "values") [] (get (codes "values") (entry_of_words folder rows after sorted values)) ≡ Ok values
+all-read i folder rows after sorted values meant =
+    ap (λ (o : Option Data). given (λ v. option_and_then (each_of given_value) (as_array v)) i (codes "values") [] o) (has-values folder rows after sorted values) ∙ set-read i rows values meant
+
+each-read : (i : ℕ) (folder : Option Text) (rows : List Row) (after : Option Given) (sorted : Bool) (values : List Given) → values_meant (words_at (codes "VALUE") rows) ≡ Some values
+    → (operation : ArgumentOperation) → values_at i operation (entry_of_words folder rows after sorted values) ≡ Ok (read_by operation values)
+each-read i folder rows after sorted values meant operation.Set = all-read i folder rows after sorted values meant
+each-read i folder rows after sorted values meant operation.Add = all-read i folder rows after sorted values meant
+each-read i folder rows after sorted values meant operation.Remove = all-read i folder rows after sorted values meant
+each-read i folder rows after sorted values meant operation.Replace = all-read i folder rows after sorted values meant
+each-read i folder rows after sorted values meant operation.Delete = refl
+each-read i folder rows after sorted values meant operation.Info = refl
 
 -- the value of `--after` is read from its data
 after-read : (w : Option Text) (g : Given) → after_meant w ≡ Some (Some g) → IsRead g
@@ -249,29 +295,65 @@ after-read (Some word) g e = go (meant_by word) refl e
     go None is h = cc
     go (Some x) is h = let same : x ≡ g = cc in word-read word (begins_colon word) g (is ∙ ap Some same)
 
-last-read : (i : ℕ) (folder : Option Text) (rows : List Row) (after : Option Given) (values : List Given) → after_meant (first_of (codes "ELEMENT") rows) ≡ Some after
-    → (operation : ArgumentOperation) → after_at i operation (entry_of_words folder rows after values) ≡ Ok (after_by operation after)
-last-read i None rows None values ends operation.Add = refl
-last-read i (Some folder) rows None values ends operation.Add = refl
-last-read i folder rows (Some g) values ends operation.Add =
+last-read : (i : ℕ) (folder : Option Text) (rows : List Row) (after : Option Given) (sorted : Bool) (values : List Given) → after_meant (first_of (codes "ELEMENT") rows) ≡ Some after
+    → (operation : ArgumentOperation) → after_at i operation (entry_of_words folder rows after sorted values) ≡ Ok (after_by operation after)
+last-read i None rows None false values ends operation.Add = refl
+last-read i None rows None true values ends operation.Add = refl
+last-read i (Some folder) rows None false values ends operation.Add = refl
+last-read i (Some folder) rows None true values ends operation.Add = refl
+last-read i folder rows (Some g) sorted values ends operation.Add =
     ap (λ (o : Option Given). ok_or (option_map Some o) (BadField i (codes "after"))) (after-read (first_of (codes "ELEMENT") rows) g ends)
-last-read i folder rows after values ends operation.Set = refl
-last-read i folder rows after values ends operation.Remove = refl
-last-read i folder rows after values ends operation.Replace = refl
-last-read i folder rows after values ends operation.Delete = refl
-last-read i folder rows after values ends operation.Info = refl
+last-read i folder rows after sorted values ends operation.Set = refl
+last-read i folder rows after sorted values ends operation.Remove = refl
+last-read i folder rows after sorted values ends operation.Replace = refl
+last-read i folder rows after sorted values ends operation.Delete = refl
+last-read i folder rows after sorted values ends operation.Info = refl
+
+has-sorted : (i : ℕ) (folder : Option Text) (rows : List Row) (after : Option Given) (sorted : Bool) (values : List Given)
+    → flag_at i (codes "sorted") (entry_of_words folder rows after sorted values) ≡ Ok sorted
+has-sorted i None rows None false values = refl
+has-sorted i None rows None true values = refl
+has-sorted i None rows (Some it) false values = refl
+has-sorted i None rows (Some it) true values = refl
+has-sorted i (Some folder) rows None false values = refl
+has-sorted i (Some folder) rows None true values = refl
+has-sorted i (Some folder) rows (Some it) false values = refl
+has-sorted i (Some folder) rows (Some it) true values = refl
+
+flag-read : (i : ℕ) (folder : Option Text) (rows : List Row) (after : Option Given) (sorted : Bool) (values : List Given) (operation : ArgumentOperation) (has : Bool)
+    → sorted_at i operation has (entry_of_words folder rows after sorted values) ≡ sorted_read i sorted operation has
+flag-read i folder rows after sorted values operation.Add has =
+    ap (λ (r : Result Bool ScriptFault). then_ok r (λ s. if s && has then Err (BadField i (codes "sorted")) else Ok s)) (has-sorted i folder rows after sorted values)
+flag-read i folder rows after sorted values operation.Set has = refl
+flag-read i folder rows after sorted values operation.Remove has = refl
+flag-read i folder rows after sorted values operation.Replace has = refl
+flag-read i folder rows after sorted values operation.Delete has = refl
+flag-read i folder rows after sorted values operation.Info has = refl
+
+made-in : (i : ℕ) (folder : Option Text) (rows : List Row) (after : Option Given) (sorted : Bool) (values : List Given) (made : Command)
+    → has_flag (codes "sorted") rows ≡ sorted → after_meant (first_of (codes "ELEMENT") rows) ≡ Some after → values_meant (words_at (codes "VALUE") rows) ≡ Some values
+    → argument_action folder rows ≡ Ok (run made)
+    → by_entry i folder (word_at (codes "KEY") rows) (argument_operation (word_at (codes "OPERATION") rows))
+    (place_named (word_at (codes "FUNCTION") rows) (word_at (codes "ID") rows))
+    (λ o has. sorted_at i o has (entry_of_words folder rows after sorted values)) (λ o. after_at i o (entry_of_words folder rows after sorted values))
+    (λ o. values_at i o (entry_of_words folder rows after sorted values)) ≡ Ok made
+made-in i folder rows after sorted values made on ends meant e =
+    entered i folder rows after sorted values made (λ o has. sorted_at i o has (entry_of_words folder rows after sorted values)) (flag-read i folder rows after sorted values)
+    (λ o. after_at i o (entry_of_words folder rows after sorted values)) (last-read i folder rows after sorted values ends)
+    (λ o. values_at i o (entry_of_words folder rows after sorted values)) (each-read i folder rows after sorted values meant) on ends meant e
+
+entry-made : (i : ℕ) (folder : Option Text) (rows : List Row) (after : Option Given) (sorted : Bool) (values : List Given) (made : Command)
+    → has_flag (codes "sorted") rows ≡ sorted → after_meant (first_of (codes "ELEMENT") rows) ≡ Some after → values_meant (words_at (codes "VALUE") rows) ≡ Some values
+    → argument_action folder rows ≡ Ok (run made) → entry_of i (entry_of_words folder rows after sorted values) ≡ Ok made
+unfolding entry_of argument_entry value_name
+entry-made i None rows None false values made on ends meant e = made-in i None rows None false values made on ends meant e
+entry-made i None rows None true values made on ends meant e = made-in i None rows None true values made on ends meant e
+entry-made i None rows (Some it) false values made on ends meant e = made-in i None rows (Some it) false values made on ends meant e
+entry-made i None rows (Some it) true values made on ends meant e = made-in i None rows (Some it) true values made on ends meant e
+entry-made i (Some folder) rows None false values made on ends meant e = made-in i (Some folder) rows None false values made on ends meant e
+entry-made i (Some folder) rows None true values made on ends meant e = made-in i (Some folder) rows None true values made on ends meant e
+entry-made i (Some folder) rows (Some it) false values made on ends meant e = made-in i (Some folder) rows (Some it) false values made on ends meant e
+entry-made i (Some folder) rows (Some it) true values made on ends meant e = made-in i (Some folder) rows (Some it) true values made on ends meant e
 
 pub entry-law : WordsMeanTheEntry
-unfolding entry_of argument_entry value_name
-entry-law i None rows None values made ends meant e =
-    entered i None rows None values made (λ o. after_at i o (entry_of_words None rows None values)) (last-read i None rows None values ends)
-    (λ o. values_at i o (entry_of_words None rows None values)) (each-read i None rows None values meant) ends meant e
-entry-law i None rows (Some it) values made ends meant e =
-    entered i None rows (Some it) values made (λ o. after_at i o (entry_of_words None rows (Some it) values)) (last-read i None rows (Some it) values ends)
-    (λ o. values_at i o (entry_of_words None rows (Some it) values)) (each-read i None rows (Some it) values meant) ends meant e
-entry-law i (Some folder) rows None values made ends meant e =
-    entered i (Some folder) rows None values made (λ o. after_at i o (entry_of_words (Some folder) rows None values)) (last-read i (Some folder) rows None values ends)
-    (λ o. values_at i o (entry_of_words (Some folder) rows None values)) (each-read i (Some folder) rows None values meant) ends meant e
-entry-law i (Some folder) rows (Some it) values made ends meant e =
-    entered i (Some folder) rows (Some it) values made (λ o. after_at i o (entry_of_words (Some folder) rows (Some it) values)) (last-read i (Some folder) rows (Some it) values ends)
-    (λ o. values_at i o (entry_of_words (Some folder) rows (Some it) values)) (each-read i (Some folder) rows (Some it) values meant) ends meant e
+entry-law i folder rows after values made ends meant e = entry-made i folder rows after (has_flag (codes "sorted") rows) values made refl ends meant e

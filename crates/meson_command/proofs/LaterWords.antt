@@ -1,5 +1,5 @@
 -- From the function of `arg` on any words are the id, the key and the values.
-use Rattle.std.proofs.Common.{◌≡◌, ◌∙◌, ◌∷◌, ℕ, Bool, List, [], Option, Some, None, Result, Ok, codes, refl, ap}
+use Rattle.std.proofs.Common.{◌≡◌, ◌∙◌, ◌∷◌, ℕ, Bool, false, List, [], Option, Some, None, Result, Ok, codes, refl, ap}
 use Rattle.std.specs.Prelude.{if◌then◌else◌, ok_or, option_and_then, option_map}
 use Rattle.clap.proofs.OnLiterals.{clap_on_literals}
 use Rattle.meson_splice.specs.Patch.{then_ok}
@@ -18,7 +18,7 @@ use Rattle.meson_command.specs.Actions.{action_of, run}
 use Rattle.meson_command.specs.Arguments.{action_within, argument_action, requested, values_meant}
 use Rattle.meson_command.specs.Asking.{asked_from, no_flags}
 use Rattle.meson_command.specs.Program.{argument, command, default_options, history, kwargs, list, program, redo, target, undo}
-use Rattle.meson_command.specs.Rows.{CodeIsExpressionOrRefused, LaterWordsArePlain}
+use Rattle.meson_command.specs.RowsOfArguments.{CodeIsExpressionOrRefused, LaterWordsArePlain}
 use Rattle.meson_command.specs.declared.asked.Action.{Action}
 use Rattle.meson_command.specs.declared.asked.Asked.{Asked}
 use Rattle.meson_command.specs.declared.fault.UsageFault.{UsageFault}
@@ -26,7 +26,7 @@ use Rattle.meson_command.specs.declared.fault.UsageFault.TheVariants.{NotCode, U
 
 -- what is made of one word is made of its value
 one-value : (o : Option Given) (n : ValueName) (g : Action → Result Asked UsageFault)
-    → then_ok (then_ok (then_ok (ok_or (option_and_then (λ value. option_map (λ values. value ∷ values) (Some [])) o) NotCode) (λ values. then_ok (ok_or (Some None) NotCode) (λ it. ok_or (command_to operation.Set n it values) Usage)))
+    → then_ok (then_ok (then_ok (ok_or (option_and_then (λ value. option_map (λ values. value ∷ values) (Some [])) o) NotCode) (λ values. then_ok (ok_or (Some None) NotCode) (λ it. ok_or (command_to operation.Set n it false values) Usage)))
     (λ c. Ok (requested operation.Set c))) g
     ≡ then_ok (ok_or o NotCode) (λ value. g (run (commands.Argument n (change.Set value))))
 one-value None n g = refl

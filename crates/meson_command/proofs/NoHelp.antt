@@ -4,7 +4,7 @@ use Rattle.std.specs.Prelude.{not, ◌&&◌, ◌||◌, ◌==◌, length, IfOk, b
 use Rattle.clap.specs.Words.{Row, Text, first_of}
 use Rattle.meson_calls.specs.declared.call.Role.{Role}
 use Rattle.meson_splice.specs.Patch.{then_ok}
-use Rattle.meson_command.specs.Actions.{action_of, count_in, kwargs_action, history_by, kwargs_by, has_flag, list_by, list_with, options_action, options_by, is_json, other_action, rename_action, script_action, target_action, target_by, target_words, undo_of, unknown_members, word_at, words_at}
+use Rattle.meson_command.specs.Actions.{action_of, count_in, kwargs_action, history_by, kwargs_by, has_flag, list_by, list_with, misplaces_sorted, options_action, options_by, is_json, other_action, rename_action, script_action, target_action, target_by, target_words, undo_of, unknown_members, word_at, words_at}
 use Rattle.meson_command.specs.Arguments.{action_within, argument_action, command_meant, requested, value_named}
 use Rattle.meson_command.specs.Asking.{asked_from, is_dry, names_no_folder, texts_fit, title_in, with_texts, with_title, without_help_text, without_text}
 use Rattle.meson_command.specs.declared.asked.Action.{Action}
@@ -93,7 +93,8 @@ rename_action-plain folder rows = after _ _ (λ c. ok _ tt)
 target_action-plain : (folder : Option Text) (rows : List Row) → Answers IsPlain (target_action folder rows)
 unfolding target_action
 target_action-plain folder rows =
-    either (bytes_eq (word_at (codes "OPERATION") rows) (codes "rename")) _ _ (rename_action-plain folder rows) (after _ _ (λ o. ok _ (target-plain o (target_words folder rows))))
+    either (misplaces_sorted rows) _ _ (err Usage)
+    (either (bytes_eq (word_at (codes "OPERATION") rows) (codes "rename")) _ _ (rename_action-plain folder rows) (after _ _ (λ o. ok _ (target-plain o (target_words folder rows)))))
 
 kwargs_action-plain : (folder : Option Text) (rows : List Row) → Answers IsPlain (kwargs_action folder rows)
 unfolding kwargs_action
@@ -163,7 +164,7 @@ unfolding argument_action
 argument-plain folder rows =
     after (ok_or (argument_operation (word_at (codes "OPERATION") rows)) Usage) _ (λ operation.
     after (ok_or (value_named folder operation rows) Usage) _ (λ name.
-    after (command_meant operation name (first_of (codes "ELEMENT") rows) (words_at (codes "VALUE") rows)) _ (λ c. ok _ (requested-plain operation c))))
+    after (command_meant operation name (first_of (codes "ELEMENT") rows) (has_flag (codes "sorted") rows) (words_at (codes "VALUE") rows)) _ (λ c. ok _ (requested-plain operation c))))
 
 within-plain : (folder : Option Text) (name : Text) (rows : List Row) → Answers IsPlain (action_within folder name rows)
 unfolding action_within

@@ -14,7 +14,7 @@ use Rattle.clap.specs.Words.{Row, Text, fault_of, first_of, matches_of, subcomma
 use Rattle.clap.specs.declared.error.kind.ErrorKind.TheVariants.{DisplayHelp, DisplayVersion}
 use Rattle.meson_calls.specs.declared.call.Role.{Role}
 use Rattle.meson_splice.specs.Patch.{then_ok}
-use Rattle.meson_command.specs.Actions.{action_of, count_in, history_by, kwargs_action, kwargs_by, list_by, list_with, listing_of, options_action, options_by, other_action, target_action, undo_of, word_at, words_at, rename_action, target_by, target_words}
+use Rattle.meson_command.specs.Actions.{action_of, count_in, has_flag, history_by, kwargs_action, kwargs_by, list_by, list_with, listing_of, misplaces_sorted, options_action, options_by, other_action, target_action, undo_of, word_at, words_at, rename_action, target_by, target_words}
 use Rattle.meson_command.specs.Arguments.{after_meant, action_within, argument_action, command_meant, keys_meant, requested, value_named, values_meant}
 use Rattle.meson_command.specs.Asking.{answer, asked_from, asked_of, help, is_dry, names_no_folder, texts_fit, title_in, version, with_texts, with_title}
 use Rattle.meson_json.specs.Counts.{count_of}
@@ -268,15 +268,28 @@ rename-unknown : (folder : Option Text) (rows : List Row) → rename_action fold
 unfolding rename_action
 rename-unknown folder rows e = missing (renaming_of (record { id = word_at (codes "ID") rows; folder = folder }) (words_at (codes "SOURCE") rows)) _ (λ c x. cc) e
 
+misplaced : (given adds : Bool) → (given && not adds) ≡ true → (given ≡ true) × (adds ≡ false)
+misplaced true false e = (refl, refl)
+misplaced true true e = cc
+misplaced false adds e = cc
+
 target-unknown : (folder : Option Text) (rows : List Row) → target_action folder rows ≡ Err Usage → IsNoTarget rows
 unfolding target_action
-target-unknown folder rows e = by_word (bytes_eq (word_at (codes "OPERATION") rows) (codes "rename")) refl e
+target-unknown folder rows e = by_sorted (misplaces_sorted rows) refl e
   where
     by_word : (b : Bool) → bytes_eq (word_at (codes "OPERATION") rows) (codes "rename") ≡ b
         → (if b then rename_action folder rows
         else then_ok (ok_or (operation_of_word (word_at (codes "OPERATION") rows)) Usage) (λ o. Ok (target_by o (target_words folder rows)))) ≡ Err Usage → IsNoTarget rows
-    by_word true is e = inr (named (word_at (codes "OPERATION") rows) (codes "rename") is, other_names _ (words_at (codes "SOURCE") rows) (rename-unknown folder rows e))
+    by_word true is e = inr (inl (named (word_at (codes "OPERATION") rows) (codes "rename") is, other_names _ (words_at (codes "SOURCE") rows) (rename-unknown folder rows e)))
     by_word false is e = inl (another (word_at (codes "OPERATION") rows) (codes "rename") is, missing (operation_of_word (word_at (codes "OPERATION") rows)) _ (λ o x. cc) e)
+
+    by_sorted : (b : Bool) → misplaces_sorted rows ≡ b
+        → (if b then Err Usage else (if bytes_eq (word_at (codes "OPERATION") rows) (codes "rename") then rename_action folder rows
+        else then_ok (ok_or (operation_of_word (word_at (codes "OPERATION") rows)) Usage) (λ o. Ok (target_by o (target_words folder rows))))) ≡ Err Usage → IsNoTarget rows
+    by_sorted true is e =
+        let both = misplaced (has_flag (codes "sorted") rows) (bytes_eq (word_at (codes "OPERATION") rows) (codes "add")) is in
+        inr (inr (both.0, another (word_at (codes "OPERATION") rows) (codes "add") both.1))
+    by_sorted false is e = by_word (bytes_eq (word_at (codes "OPERATION") rows) (codes "rename")) refl e
 
 -- of another subcommand than `arg`
 unknown : (folder : Option Text) (name : Text) (rows : List Row) → (bytes_eq name (codes "target") || (bytes_eq name (codes "kwargs") || is_other name)) ≡ true
@@ -294,26 +307,28 @@ unknown folder name rows k e =
 
 -- ---- which of the words of `arg` is unknown
 
--- the number of values is wrong, as each of them is code or another word
-other-values : (o : ArgumentOperation) (name : ValueName) (vs : Option (List Given)) (it : Option (Option Given))
-    → then_ok (ok_or vs NotCode) (λ values. then_ok (ok_or it NotCode) (λ after. ok_or (command_to o name after values) Usage)) ≡ Err Usage
-    → (values : List Given) × (after : Option Given) × (vs ≡ Some values) × (it ≡ Some after) × (change_to o after values ≡ None)
-other-values o name None it e = cc
-other-values o name (Some values) None e = cc
-other-values o name (Some values) (Some after) e = (values, after, refl, refl, of_values o after e)
+-- the number of values is wrong or the operation does not take an option, as each of them is code or another word
+other-values : (o : ArgumentOperation) (name : ValueName) (sorted : Bool) (vs : Option (List Given)) (it : Option (Option Given))
+    → then_ok (ok_or vs NotCode) (λ values. then_ok (ok_or it NotCode) (λ after. ok_or (command_to o name after sorted values) Usage)) ≡ Err Usage
+    → (values : List Given) × (after : Option Given) × (vs ≡ Some values) × (it ≡ Some after) × (change_to o after sorted values ≡ None)
+other-values o name sorted None it e = cc
+other-values o name sorted (Some values) None e = cc
+other-values o name sorted (Some values) (Some after) e = (values, after, refl, refl, of_values o after sorted e)
   where
     no_change : (c : Option ValueChange) → ok_or (option_map (commands.Argument name) c) Usage ≡ Err Usage → c ≡ None
     no_change None e = refl
     no_change (Some change) e = cc
 
-    of_values : (o : ArgumentOperation) (a : Option Given) → ok_or (command_to o name a values) Usage ≡ Err Usage → change_to o a values ≡ None
-    of_values of_argument.Info None e = refl
-    of_values of_argument.Info (Some g) e = refl
-    of_values of_argument.Set a e = no_change (change_to of_argument.Set a values) e
-    of_values of_argument.Add a e = no_change (change_to of_argument.Add a values) e
-    of_values of_argument.Remove a e = no_change (change_to of_argument.Remove a values) e
-    of_values of_argument.Replace a e = no_change (change_to of_argument.Replace a values) e
-    of_values of_argument.Delete a e = no_change (change_to of_argument.Delete a values) e
+    of_values : (o : ArgumentOperation) (a : Option Given) (s : Bool) → ok_or (command_to o name a s values) Usage ≡ Err Usage → change_to o a s values ≡ None
+    of_values of_argument.Info None false e = refl
+    of_values of_argument.Info None true e = refl
+    of_values of_argument.Info (Some g) false e = refl
+    of_values of_argument.Info (Some g) true e = refl
+    of_values of_argument.Set a s e = no_change (change_to of_argument.Set a s values) e
+    of_values of_argument.Add a s e = no_change (change_to of_argument.Add a s values) e
+    of_values of_argument.Remove a s e = no_change (change_to of_argument.Remove a s values) e
+    of_values of_argument.Replace a s e = no_change (change_to of_argument.Replace a s values) e
+    of_values of_argument.Delete a s e = no_change (change_to of_argument.Delete a s values) e
 
 after_command : (r : Result Command UsageFault) (f : Command → Action) → then_ok r (λ c. Ok (f c)) ≡ Err Usage → r ≡ Err Usage
 after_command (Ok c) f e = cc
@@ -337,18 +352,18 @@ argument-unknown folder rows e = by_operation (argument_operation (word_at (code
     unnamed o of (Some word) has (Some name) is e = cc
 
     by_name_of : (o : ArgumentOperation) → argument_operation (word_at (codes "OPERATION") rows) ≡ Some o → (n : Option ValueName) → value_named folder o rows ≡ n
-        → then_ok (ok_or n Usage) (λ name. then_ok (command_meant o name (first_of (codes "ELEMENT") rows) (words_at (codes "VALUE") rows)) (λ c. Ok (requested o c))) ≡ Err Usage
+        → then_ok (ok_or n Usage) (λ name. then_ok (command_meant o name (first_of (codes "ELEMENT") rows) (has_flag (codes "sorted") rows) (words_at (codes "VALUE") rows)) (λ c. Ok (requested o c))) ≡ Err Usage
         → IsNoArgument rows
     by_name_of o of None is e = unnamed o of (first_of (codes "KEY") rows) refl (place_named (word_at (codes "FUNCTION") rows) (word_at (codes "ID") rows)) refl is
     by_name_of o of (Some name) is e =
-        let meant = after_command (command_meant o name (first_of (codes "ELEMENT") rows) (words_at (codes "VALUE") rows)) (requested o) e in
-        let given = other-values o name (values_meant (words_at (codes "VALUE") rows)) (after_meant (first_of (codes "ELEMENT") rows)) meant in
+        let meant = after_command (command_meant o name (first_of (codes "ELEMENT") rows) (has_flag (codes "sorted") rows) (words_at (codes "VALUE") rows)) (requested o) e in
+        let given = other-values o name (has_flag (codes "sorted") rows) (values_meant (words_at (codes "VALUE") rows)) (after_meant (first_of (codes "ELEMENT") rows)) meant in
         inr (inr (inr (o, given.0, given.1, of, given.2, given.3, given.4)))
 
     by_operation : (o : Option ArgumentOperation) → argument_operation (word_at (codes "OPERATION") rows) ≡ o
         → then_ok (ok_or o Usage) (λ operation.
         then_ok (ok_or (value_named folder operation rows) Usage) (λ name.
-        then_ok (command_meant operation name (first_of (codes "ELEMENT") rows) (words_at (codes "VALUE") rows)) (λ c. Ok (requested operation c)))) ≡ Err Usage
+        then_ok (command_meant operation name (first_of (codes "ELEMENT") rows) (has_flag (codes "sorted") rows) (words_at (codes "VALUE") rows)) (λ c. Ok (requested operation c)))) ≡ Err Usage
         → IsNoArgument rows
     by_operation None of e = inl of
     by_operation (Some o) of e = by_name_of o of (value_named folder o rows) refl e

@@ -1,5 +1,5 @@
 -- The request of the words of a subcommand.
-use Rattle.std.specs.Prelude.{ℕ, Bool, false, true, ◌||◌, ◌==◌, not, List, [], ◌∷◌, codes, bytes_eq, find, map, if◌then◌else◌, Option, Some, None, ok_or, unwrap_or, Result, Ok, Err, length}
+use Rattle.std.specs.Prelude.{ℕ, Bool, false, true, ◌&&◌, ◌||◌, ◌==◌, not, List, [], ◌∷◌, codes, bytes_eq, find, map, if◌then◌else◌, Option, Some, None, ok_or, unwrap_or, Result, Ok, Err, length}
 use Rattle.std.specs.Option.{option_map_or}
 use Rattle.clap.specs.Words.{Row, Text, all_of, first_of}
 use Rattle.meson_calls.specs.declared.call.CallName.{CallName}
@@ -49,7 +49,7 @@ has_flag name rows = bytes_eq (word_at name rows) (codes "true")
 abbrev pub run : Command → Action
 run command = Run (record { commands = command ∷ [] })
 
--- ---- target ID OPERATION [SOURCE]... [--subdir SUBDIR] [--type KIND]
+-- ---- target ID OPERATION [SOURCE]... [--subdir SUBDIR] [--type KIND] [--sorted]
 
 -- in the folder alone if one is named
 abbrev pub target_words : Option Text → List Row → TargetMembers
@@ -59,6 +59,7 @@ target_words folder rows = record {
   sources = words_at (codes "SOURCE") rows;
   subdir = word_at (codes "SUBDIR") rows;
   target_kind = word_or (codes "executable") (codes "KIND") rows;
+  sorted = has_flag (codes "sorted") rows;
 }
 
 abbrev pub target_by : TargetOperation → TargetMembers → Action
@@ -74,11 +75,16 @@ rename_action folder rows =
 
 -- ---- any words of target
 
+-- `--sorted` is given, and the operation is not the addition of sources, which alone takes it
+abbrev pub misplaces_sorted : List Row → Bool
+misplaces_sorted rows = has_flag (codes "sorted") rows && not (bytes_eq (word_at (codes "OPERATION") rows) (codes "add"))
+
 unfoldable pub target_action : Option Text → List Row → Result Action UsageFault
 target_action folder rows =
-    if bytes_eq (word_at (codes "OPERATION") rows) (codes "rename") then rename_action folder rows
+    if misplaces_sorted rows then Err Usage
+    else (if bytes_eq (word_at (codes "OPERATION") rows) (codes "rename") then rename_action folder rows
     else then_ok (ok_or (operation_of_word (word_at (codes "OPERATION") rows)) Usage) (λ operation.
-    Ok (target_by operation (target_words folder rows)))
+    Ok (target_by operation (target_words folder rows))))
 
 -- ---- kwargs OPERATION FUNCTION ID [KEY VALUE]...
 

@@ -10,7 +10,7 @@ use Rattle.meson_json.specs.Arguments.{command_to, keys_in, keys_left_out, place
 use Rattle.meson_json.specs.Operations.{argument_operation}
 use Rattle.meson_json.specs.declared.names.ArgumentOperation.{ArgumentOperation}
 use Rattle.meson_json.specs.declared.names.ArgumentOperation.TheVariants as operation
-use Rattle.meson_command.specs.Actions.{action_of, run, word_at, words_at}
+use Rattle.meson_command.specs.Actions.{action_of, has_flag, run, word_at, words_at}
 use Rattle.meson_json.specs.declared.target.TargetOperation.{TargetOperation}
 use Rattle.meson_json.specs.declared.target.TargetOperation.TheVariants as target
 use Rattle.meson_command.specs.Operations.{operation_of_word}
@@ -19,7 +19,7 @@ use Rattle.meson_command.specs.declared.asked.Action.TheVariants.{Info}
 use Rattle.meson_command.specs.declared.fault.UsageFault.{UsageFault}
 use Rattle.meson_command.specs.declared.fault.UsageFault.TheVariants.{NotCode, Usage}
 
--- ---- arg OPERATION [--after ELEMENT] FUNCTION ID [KEY [VALUE]...]
+-- ---- arg OPERATION [--after ELEMENT] [--sorted] FUNCTION ID [KEY [VALUE]...]
 
 -- the values of words, if each word is one
 unfoldable pub values_meant : List Text → Option (List Given)
@@ -43,11 +43,12 @@ abbrev pub after_meant : Option Text → Option (Option Given)
 after_meant None = Some None
 after_meant (Some word) = option_map Some (meant_by word)
 
--- the command that the operation, the name of the value, the word of the value after which values are added, and further words mean
-abbrev pub command_meant : ArgumentOperation → ValueName → (after : Option Text) → List Text → Result Command UsageFault
-command_meant operation name after words =
+-- the command that the operation, the name of the value, the word of the value after which values are added, whether each goes into its place, and further
+-- words mean
+abbrev pub command_meant : ArgumentOperation → ValueName → (after : Option Text) → (sorted : Bool) → List Text → Result Command UsageFault
+command_meant operation name after sorted words =
     then_ok (ok_or (values_meant words) NotCode) (λ values.
-    then_ok (ok_or (after_meant after) NotCode) (λ it. ok_or (command_to operation name it values) Usage))
+    then_ok (ok_or (after_meant after) NotCode) (λ it. ok_or (command_to operation name it sorted values) Usage))
 
 -- what is reported is no run
 abbrev pub requested : ArgumentOperation → Command → Action
@@ -58,7 +59,8 @@ unfoldable pub argument_action : Option Text → List Row → Result Action Usag
 argument_action folder rows =
     then_ok (ok_or (argument_operation (word_at (codes "OPERATION") rows)) Usage) (λ operation.
     then_ok (ok_or (value_named folder operation rows) Usage) (λ name.
-    then_ok (command_meant operation name (first_of (codes "ELEMENT") rows) (words_at (codes "VALUE") rows)) (λ c. Ok (requested operation c))))
+    then_ok (command_meant operation name (first_of (codes "ELEMENT") rows) (has_flag (codes "sorted") rows) (words_at (codes "VALUE") rows))
+    (λ c. Ok (requested operation c))))
 
 -- ---- any subcommand
 

@@ -74,27 +74,31 @@ HasNoKey rows =
     (operation : ArgumentOperation) × (argument_operation (word_at (codes "OPERATION") rows) ≡ Some operation)
     × (first_of (codes "KEY") rows ≡ None) × (keys_left_out operation ≡ None)
 
--- the values of `arg` are not as many as its operation takes, or it does not take `--after`
+-- the values of `arg` are not as many as its operation takes, it does not take `--after` or `--sorted`, or both are given
 abbrev pub HasOtherValues : List Row → Type 0
 HasOtherValues rows =
     (operation : ArgumentOperation) × (values : List Given) × (after : Option Given) × (argument_operation (word_at (codes "OPERATION") rows) ≡ Some operation)
     × (values_meant (words_at (codes "VALUE") rows) ≡ Some values) × (after_meant (first_of (codes "ELEMENT") rows) ≡ Some after)
-    × (change_to operation after values ≡ None)
+    × (change_to operation after (has_flag (codes "sorted") rows) values ≡ None)
 
 -- the operation of `arg` is unknown, its function and id name no place, its key is missing, its values are not as many as it takes, or it does not take
--- `--after`
+-- `--after` or `--sorted`
 abbrev pub IsNoArgument : List Row → Type 0
 IsNoArgument rows =
     (argument_operation (word_at (codes "OPERATION") rows) ≡ None)
     ⊎ ((place_named (word_at (codes "FUNCTION") rows) (word_at (codes "ID") rows) ≡ None) ⊎ (HasNoKey rows ⊎ HasOtherValues rows))
 
--- the operation of `target` is unknown, or `rename` has not two names
+-- `--sorted` is given with another operation of `target` than the addition of sources
+abbrev pub MisplacesSorted : List Row → Type 0
+MisplacesSorted rows = (has_flag (codes "sorted") rows ≡ true) × (word_at (codes "OPERATION") rows ≢ codes "add")
+
+-- the operation of `target` is unknown, `rename` has not two names, or `--sorted` is given with another one than `add`
 abbrev pub IsNoTarget : List Row → Type 0
 IsNoTarget rows =
     ((word_at (codes "OPERATION") rows ≢ codes "rename") × (operation_of_word (word_at (codes "OPERATION") rows) ≡ None))
-    ⊎ ((word_at (codes "OPERATION") rows ≡ codes "rename") × (length (words_at (codes "SOURCE") rows) ≢ 2))
+    ⊎ (((word_at (codes "OPERATION") rows ≡ codes "rename") × (length (words_at (codes "SOURCE") rows) ≢ 2)) ⊎ MisplacesSorted rows)
 
--- the subcommand's operation, function, id or number is not valid, `rename` has not two names, the key of `arg` is missing, its values are not as many as it takes, or two listings are requested or one of a function without a name
+-- the subcommand's operation, function, id or number is not valid, `rename` has not two names, `--sorted` is given with another one than `add`, the key of `arg` is missing, its values are not as many as it takes, or two listings are requested or one of a function without a name
 abbrev pub IsUnknown : Text → List Row → Type 0
 IsUnknown subcommand rows =
     ((subcommand ≡ codes "target") × IsNoTarget rows)
@@ -114,8 +118,8 @@ abbrev pub TextsAreMisused : List Row → Text → List Row → Type 0
 TextsAreMisused own subcommand rows =
     (asked : Action) × (action_within (first_of (codes "FOLDER") own) subcommand rows ≡ Ok asked) × (texts_fit asked (first_of (codes "FILE") own) (is_dry own) ≡ false)
 
--- if clap takes the words and the usage is wrong: the folder is empty, a word is unknown or not a number, `rename` has not two names, `arg` has no place or other values, two
--- listings are requested or one of a function without a name, or a folder or texts do not fit
+-- if clap takes the words and the usage is wrong: the folder is empty, a word is unknown or not a number, `rename` has not two names, `arg` has no place or other
+-- values, `--sorted` or `--after` is given with other operations, two listings are requested or one of a function without a name, or a folder or texts do not fit
 abbrev pub UsageMeansUnknown : Type 0
 UsageMeansUnknown = (words : List Text) → fault_of program words ≡ [] → asked_by words ≡ Err Usage
     → (names_no_folder (first_of (codes "DIR") (matches_of program words)) ≡ true)

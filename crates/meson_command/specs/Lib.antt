@@ -6,5 +6,6 @@ pub mod Arguments
 pub mod Asking
 pub mod Entries
 pub mod Rows
+pub mod RowsOfArguments
 pub mod Messages
 pub mod Laws

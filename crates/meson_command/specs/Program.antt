@@ -53,20 +53,20 @@ with_alias alias a = on_top (λ s. record s { aliases = s.aliases ++ alias ∷ [
 abbrev pub of_words : App → List Rule → App
 of_words named rules = fold with_rule named rules
 
--- target ID OPERATION [SOURCE]... [-s|--subdir SUBDIR] [--type KIND]; `s` is 115
+-- target ID OPERATION [SOURCE]... [-s|--subdir SUBDIR] [--type KIND] [--sorted]; `s` is 115
 unfoldable pub target : App
 target = of_words (with_alias (codes "tgt") (new_app (codes "target"))) (required_word (codes "ID") ∷ required_word (codes "OPERATION") ∷ many (codes "SOURCE")
-    ∷ short_option (codes "SUBDIR") (codes "subdir") 115 ∷ option (codes "KIND") (codes "type") ∷ help ∷ [])
+    ∷ short_option (codes "SUBDIR") (codes "subdir") 115 ∷ option (codes "KIND") (codes "type") ∷ flag (codes "sorted") (codes "sorted") ∷ help ∷ [])
 
 -- kwargs OPERATION FUNCTION ID [KEY VALUE]...
 unfoldable pub kwargs : App
 kwargs = of_words (new_app (codes "kwargs")) (required_word (codes "OPERATION") ∷ required_word (codes "FUNCTION") ∷ required_word (codes "ID")
     ∷ many (codes "KEY VALUE") ∷ help ∷ [])
 
--- arg OPERATION [--after ELEMENT] FUNCTION ID [KEY [VALUE]...]
+-- arg OPERATION [--after ELEMENT] [--sorted] FUNCTION ID [KEY [VALUE]...]
 unfoldable pub argument : App
 argument = of_words (new_app (codes "arg")) (required_word (codes "OPERATION") ∷ ending_word (codes "FUNCTION") ∷ required_word (codes "ID")
-    ∷ word (codes "KEY") ∷ many (codes "VALUE") ∷ option (codes "ELEMENT") (codes "after") ∷ help ∷ [])
+    ∷ word (codes "KEY") ∷ many (codes "VALUE") ∷ option (codes "ELEMENT") (codes "after") ∷ flag (codes "sorted") (codes "sorted") ∷ help ∷ [])
 
 -- default-options OPERATION [OPTION VALUE]...
 unfoldable pub default_options : App

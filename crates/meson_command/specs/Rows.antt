@@ -1,15 +1,5 @@
 -- Command lines, each with its request.
-use Rattle.std.specs.Prelude.{◌≡◌, ℕ, ◌==◌, Bool, false, true, List, [], ◌∷◌, ◌++◌, codes, if◌then◌else◌, Option, Some, None, ok_or, Result, Ok, Err}
-use Rattle.meson_splice.specs.Patch.{then_ok}
-use Rattle.meson_steps.specs.Code.{is_code}
-use Rattle.meson_steps.specs.GivenWords.{meant_by}
-use Rattle.meson_steps.specs.declared.argument.Callee.TheVariants as callee
-use Rattle.meson_steps.specs.declared.argument.PlaceName.{PlaceName}
-use Rattle.meson_steps.specs.declared.argument.PlaceName.TheVariants as name
-use Rattle.meson_steps.specs.declared.argument.ValueChange.{ValueChange}
-use Rattle.meson_steps.specs.declared.argument.ValueChange.TheVariants as change
-use Rattle.meson_steps.specs.declared.given.Given.TheVariants as given
-use Rattle.meson_json.specs.Arguments.{keys_in}
+use Rattle.std.specs.Prelude.{◌≡◌, ℕ, ◌==◌, Bool, false, true, List, [], ◌∷◌, ◌++◌, codes, if◌then◌else◌, Option, Some, None, Result, Ok, Err}
 use Rattle.meson_calls.specs.declared.call.Role.TheVariants as role
 use Rattle.meson_steps.specs.declared.command.Command.TheVariants as command
 use Rattle.meson_steps.specs.declared.command.Setting.TheVariants as setting
@@ -22,34 +12,34 @@ use Rattle.meson_command.specs.declared.asked.Action.TheVariants.{Info, ScriptTe
 use Rattle.meson_command.specs.declared.asked.Asked.{Asked}
 use Rattle.meson_command.specs.declared.asked.Flags.{Flags}
 use Rattle.meson_command.specs.declared.fault.UsageFault.{UsageFault}
-use Rattle.meson_command.specs.declared.fault.UsageFault.TheVariants.{Usage, OddWords, RepeatedKey, Unsupported, BadTitle, NotCode}
+use Rattle.meson_command.specs.declared.fault.UsageFault.TheVariants.{Usage, OddWords, RepeatedKey, Unsupported, BadTitle}
 use Rattle.meson_calls.specs.Searching.{anywhere}
 
 -- a byte before the first of some words
-abbrev onto : ℕ → List (List ℕ) → List (List ℕ)
+abbrev pub onto : ℕ → List (List ℕ) → List (List ℕ)
 onto b [] = (b ∷ []) ∷ []
 onto b (word ∷ words) = (b ∷ word) ∷ words
 
 -- the words between single spaces (32)
-abbrev words_in : List ℕ → List (List ℕ)
+abbrev pub words_in : List ℕ → List (List ℕ)
 words_in [] = [] ∷ []
 words_in (b ∷ bytes) = if b == 32 then [] ∷ words_in bytes else onto b (words_in bytes)
 
-abbrev in_place : Action → Result Asked UsageFault
+abbrev pub in_place : Action → Result Asked UsageFault
 in_place action = Ok (record { dir = None; title = []; flags = no_flags; texts = None; action = action })
 
-abbrev there : List ℕ → Action → Result Asked UsageFault
+abbrev pub there : List ℕ → Action → Result Asked UsageFault
 there dir action = Ok (record { dir = Some dir; title = []; flags = no_flags; texts = None; action = action })
 
 abbrev named : List ℕ → Action → Result Asked UsageFault
 named title action = Ok (record { dir = None; title = title; flags = no_flags; texts = None; action = action })
 
 -- in place, with these flags
-abbrev flagged : Flags → Action → Result Asked UsageFault
+abbrev pub flagged : Flags → Action → Result Asked UsageFault
 flagged flags action = Ok (record { dir = None; title = []; flags = flags; texts = None; action = action })
 
 -- shown and not done
-abbrev dry : Flags
+abbrev pub dry : Flags
 dry = record no_flags { dry_run = true }
 
 abbrev shown : Action → Result Asked UsageFault
@@ -60,11 +50,11 @@ abbrev in_json : Action → Result Asked UsageFault
 in_json = flagged (record no_flags { json = true })
 
 -- with the texts of a file of that name, and these flags
-abbrev texted : Flags → List ℕ → Action → Result Asked UsageFault
+abbrev pub texted : Flags → List ℕ → Action → Result Asked UsageFault
 texted flags texts action = Ok (record { dir = None; title = []; flags = flags; texts = Some texts; action = action })
 
 -- a line after the program's name has this request
-abbrev asks : List ℕ → Result Asked UsageFault → Type 0
+abbrev pub asks : List ℕ → Result Asked UsageFault → Type 0
 asks line asked = asked_by (codes "T" ∷ words_in line) ≡ asked
 
 -- the same for `undo` after a title, which may have blanks or be empty
@@ -119,84 +109,6 @@ Done =
     × asks (codes "undo --check=") (in_place (UndoChecked 1 []))
     × asks (codes "history --forget 2") (in_place (ForgetOldest 2))
     × asks (codes "--sourcedir d history --forget all") (there (codes "d") ForgetAll)
-
--- a value is changed, in this folder alone if it is one
-abbrev changed_in : Option (List ℕ) → PlaceName → List (List ℕ) → ValueChange → Action
-changed_in folder place keys change = run (command.Argument (record { place = record { name = place; folder = folder }; keys = keys }) change)
-
-abbrev changed : PlaceName → List (List ℕ) → ValueChange → Action
-changed = changed_in None
-
--- a call of a target
-abbrev target_of : List ℕ → PlaceName
-target_of id = name.Call callee.Target id
-
--- which value is changed, and to what
-abbrev pub Values : Type 0
-Values =
-    asks (codes "arg set dependency z version >=2")
-    (in_place (changed (name.Call (callee.Function (codes "dependency")) (codes "z")) (codes "version" ∷ []) (change.Set (given.Text (codes ">=2")))))
-    × asks (codes "arg set target e c_args -DX") (in_place (changed (target_of (codes "e")) (codes "c_args" ∷ []) (change.Set (given.Text (codes "-DX")))))
-    × asks (codes "arg set target e c_args -- --help")
-    (in_place (changed (target_of (codes "e")) (codes "c_args" ∷ []) (change.SetAll (given.Text (codes "--") ∷ given.Text (codes "--help") ∷ []))))
-    × asks (codes "arg set target e install true") (in_place (changed (target_of (codes "e")) (codes "install" ∷ []) (change.Set (given.Switch true))))
-    × asks (codes "arg set target e k a false True")
-    (in_place (changed (target_of (codes "e")) (codes "k" ∷ [])
-    (change.SetAll (given.Text (codes "a") ∷ given.Switch false ∷ given.Text (codes "True") ∷ []))))
-    × asks (codes "arg set -- target e k v") (in_place (changed (target_of (codes "e")) (codes "k" ∷ []) (change.Set (given.Text (codes "v")))))
-    × asks (codes "arg set project / license.0 MIT")
-    (in_place (changed (name.Project (codes "/")) (codes "license" ∷ codes "0" ∷ []) (change.Set (given.Text (codes "MIT")))))
-    × asks (codes "arg remove target e c_args -DX true")
-    (in_place (changed (target_of (codes "e")) (codes "c_args" ∷ []) (change.Remove (given.Text (codes "-DX") ∷ given.Switch true ∷ []))))
-    × asks (codes "arg replace target e c_args -DX -DY")
-    (in_place (changed (target_of (codes "e")) (codes "c_args" ∷ []) (change.Replace (given.Text (codes "-DX")) (given.Text (codes "-DY")))))
-    × asks (codes "arg delete target e install") (in_place (changed (target_of (codes "e")) (codes "install" ∷ []) change.Delete))
-    × asks (codes "arg delete target --help -x") (in_place (changed (target_of (codes "--help")) (codes "-x" ∷ []) change.Delete))
-    × asks (codes "arg delete variable x .") (in_place (changed (name.Variable (codes "x")) [] change.Delete))
-    × asks (codes "arg delete at s/meson.build:12 .") (in_place (changed (name.Line (codes "s/meson.build") 12) [] change.Delete))
-    × asks (codes "--in src arg delete target e k") (in_place (changed_in (Some (codes "src")) (target_of (codes "e")) (codes "k" ∷ []) change.Delete))
-    × asks (codes "--in=. --sourcedir d arg delete target e k")
-    (there (codes "d") (changed_in (Some (codes ".")) (target_of (codes "e")) (codes "k" ∷ []) change.Delete))
-    × asks (codes "--json --dry-run arg delete target e k")
-    (flagged (record dry { json = true }) (changed (target_of (codes "e")) (codes "k" ∷ []) change.Delete))
-    × asks (codes "--texts t --dry-run arg delete target e k") (texted dry (codes "t") (changed (target_of (codes "e")) (codes "k" ∷ []) change.Delete))
-    × asks (codes "arg --help") (Ok help)
-    × asks (codes "arg set --help") (Ok help)
-    × asks (codes "arg set target e k") (Err Usage)
-    × asks (codes "arg remove target e k") (Err Usage)
-    × asks (codes "arg replace target e k v") (Err Usage)
-    × asks (codes "arg replace target e k u v w") (Err Usage)
-    × asks (codes "arg delete target e k v") (Err Usage)
-    × asks (codes "arg delete target e") (Err Usage)
-    × asks (codes "arg delete target --help") (Err Usage)
-    × asks (codes "arg grow target e k v") (Err Usage)
-    × asks (codes "arg set at meson.build . v") (Err Usage)
-    × asks (codes "arg set at meson.build:0 . v") (Err Usage)
-    × asks (codes "arg set -x target e k v") (Err Usage)
-    × asks (codes "arg --in s delete target e k") (Err Usage)
-    × asks (codes "--in s --in s arg delete target e k") (Err Usage)
-    × asks (codes "--in") (Err Usage)
-    × asks (codes "--in s target e add_target a.c") (Err Usage)
-    × asks (codes "--in s default-options set b_lto true") (Err Usage)
-    × asks (codes "--in s command -") (Err Usage)
-    × asks (codes "--in s list") (Err Usage)
-    × asks (codes "--texts t arg delete target e k") (Err Usage)
-
--- From the function on any words are the id, the key and the values.
-abbrev pub LaterWordsArePlain : Type 0
-LaterWordsArePlain = (id key word : List ℕ)
-    → asked_by (codes "T" ∷ codes "arg" ∷ codes "set" ∷ codes "target" ∷ id ∷ key ∷ word ∷ [])
-    ≡ then_ok (ok_or (meant_by word) NotCode) (λ value. in_place (changed (target_of id) (keys_in key) (change.Set value)))
-
--- a value with this code
-abbrev asks_code : List ℕ → Result Asked UsageFault → Type 0
-asks_code code asked = asked_by (codes "T" ∷ codes "arg" ∷ codes "set" ∷ codes "target" ∷ codes "e" ∷ codes "k" ∷ (58 ∷ code) ∷ []) ≡ asked
-
--- A word after a colon (58) is code if it is an expression, and is refused otherwise.
-abbrev pub CodeIsExpressionOrRefused : Type 0
-CodeIsExpressionOrRefused = (code : List ℕ)
-    → (is_code code ≡ true → asks_code code (in_place (changed (target_of (codes "e")) (codes "k" ∷ []) (change.Set (given.Code code)))))
-    × (is_code code ≡ false → asks_code code (Err NotCode))
 
 -- what it is for
 abbrev pub Titled : Type 0
@@ -314,22 +226,6 @@ Listed =
     × asks (codes "history --of test") (Err Usage)
     × wants (codes "--json list --of=") true
     × wants (codes "list --of test --json") false
-
--- what is reported of a value; the key may be left out
-abbrev infos_in : Option (List ℕ) → PlaceName → List (List ℕ) → Action
-infos_in folder place keys = Info (command.ArgumentInfo (record { place = record { name = place; folder = folder }; keys = keys }))
-
-abbrev pub Infos : Type 0
-Infos =
-    asks (codes "arg info target e c_args.0") (in_place (infos_in None (target_of (codes "e")) (codes "c_args" ∷ codes "0" ∷ [])))
-    × asks (codes "arg info target e") (in_place (infos_in None (target_of (codes "e")) []))
-    × asks (codes "arg info variable x .") (in_place (infos_in None (name.Variable (codes "x")) []))
-    × asks (codes "--in src arg info target --help") (in_place (infos_in (Some (codes "src")) (target_of (codes "--help")) []))
-    × asks (codes "--texts t arg info at s/meson.build:12") (texted no_flags (codes "t") (infos_in None (name.Line (codes "s/meson.build") 12) []))
-    × asks (codes "arg info target e k v") (Err Usage)
-    × asks (codes "arg info target") (Err Usage)
-    × asks (codes "arg info at meson.build") (Err Usage)
-    × asks (codes "arg add target e") (Err Usage)
 
 -- what is listed, which scripts are meant, help and the version
 abbrev pub Other : Type 0

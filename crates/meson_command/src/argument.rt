@@ -1,14 +1,14 @@
-//! `arg OPERATION [--after ELEMENT] FUNCTION ID [KEY [VALUE]...]`.
+//! `arg OPERATION [--after ELEMENT] [--sorted] FUNCTION ID [KEY [VALUE]...]`.
 
 ghost use Rattle.std.specs.Prelude.{◌≡◌, ◌≢◌, Err, IfErr, IfOk, None, Ok, Some, codes, option_map};
 ghost use Rattle.clap.specs.Words.{first_of, found_of, rows_of};
-ghost use Rattle.meson_command.specs.Actions.{words_at};
+ghost use Rattle.meson_command.specs.Actions.{has_flag, words_at};
 ghost use Rattle.meson_command.specs.Arguments.{after_meant, argument_action, command_meant, keys_meant, value_named, values_meant};
 ghost use Rattle.meson_command.specs.declared.fault.UsageFault.TheVariants.{NotCode, OutOfMemory};
 
 use crate::asked::Action;
 use crate::fault::UsageFault;
-use crate::words::{run, word_or, words_at};
+use crate::words::{is_set, run, word_or, words_at};
 use clap::ArgMatches;
 use meson_json::argument::{command_to, keys_in, keys_left_out, place_named};
 use meson_json::names::{ArgumentOperation, find_argument_operation};
@@ -98,7 +98,7 @@ fn value_named(
     Ok(Some(ValueName { place, keys }))
 }
 
-/// The command that the operation, the name of the value, `--after` and further words mean.
+/// The command that the operation, the name of the value, `--after`, `--sorted` and further words mean.
 fn command_meant(
     alloc: Global,
     operation: ArgumentOperation,
@@ -106,14 +106,17 @@ fn command_meant(
     matches: &ArgMatches<'_>,
 ) -> Result<Command, UsageFault>
     ensures ok { let rows = rows_of (found_of matches.now) in
-        IfOk result (λ c. command_meant operation name (first_of (codes "ELEMENT") rows) (words_at (codes "VALUE") rows) ≡ Ok c) }
+        IfOk result (λ c.
+        command_meant operation name (first_of (codes "ELEMENT") rows) (has_flag (codes "sorted") rows) (words_at (codes "VALUE") rows) ≡ Ok c) }
     ensures refused { let rows = rows_of (found_of matches.now) in
-        IfErr result (λ e. e ≢ OutOfMemory → command_meant operation name (first_of (codes "ELEMENT") rows) (words_at (codes "VALUE") rows) ≡ Err e) }
+        IfErr result (λ e. e ≢ OutOfMemory
+        → command_meant operation name (first_of (codes "ELEMENT") rows) (has_flag (codes "sorted") rows) (words_at (codes "VALUE") rows) ≡ Err e) }
 {
     let words = words_at(alloc, matches, "VALUE")?;
     let values = values_meant(alloc, words.get())?;
     let after = after_meant(alloc, matches.get_str("ELEMENT"))?;
-    match command_to(operation, name, after, values) {
+    let sorted = is_set(matches, "sorted");
+    match command_to(operation, name, after, sorted, values) {
         Some(command) => Ok(command),
         None => Err(UsageFault::Usage),
     }
@@ -123,7 +126,7 @@ fn command_meant(
 ///
 /// # Errors
 /// The operation is unknown; it needs a key that is missing; the function and the id name no place; a value is not code; the values are not as many as the
-/// operation takes; or it does not take `--after`.
+/// operation takes; or it does not take `--after` or `--sorted`, or both are given.
 #[tactic(auto, unfolding(crate::specs::Arguments::argument_action))]
 pub(crate) fn argument_action(
     alloc: Global,

@@ -3,7 +3,7 @@
 use crate::choices::ARGUMENT_OPERATIONS;
 use crate::keys::{all_quoted, split_pair};
 use crate::shell::quoted;
-use crate::words::word_or;
+use crate::words::{is_set, word_or};
 use clap::ArgMatches;
 use meson_json::Remarks;
 use meson_json::argument::place_named;
@@ -111,6 +111,28 @@ fn explain_after(alloc: Global, remarks: &mut Remarks, operation: &str) -> Resul
     )
 }
 
+/// Explains that the operation does not take `--sorted`.
+pub(crate) fn explain_sorted(
+    alloc: Global,
+    remarks: &mut Remarks,
+    operation: &str,
+) -> Result<(), AllocError> {
+    remarks.note(format!(in alloc; "{operation} does not take --sorted")?)?;
+    remarks.help_words(
+        alloc,
+        "--sorted says that add puts what it adds in order; no other operation adds to a list in order",
+    )
+}
+
+/// Explains that `--sorted` and `--after` say different things.
+fn explain_sorted_after(alloc: Global, remarks: &mut Remarks) -> Result<(), AllocError> {
+    remarks.note_words(alloc, "--sorted does not go with --after")?;
+    remarks.help_words(
+        alloc,
+        "--after ELEMENT says where add puts its values; --sorted finds the place of each in the order of the list",
+    )
+}
+
 /// Explains that the key is missing.
 fn explain_no_key(alloc: Global, remarks: &mut Remarks) -> Result<(), AllocError> {
     remarks.note_words(
@@ -150,6 +172,14 @@ pub(crate) fn explain_argument(
     }
     if words.get_str("ELEMENT").is_some() && operation != "add" {
         return explain_after(alloc, remarks, operation);
+    }
+    if is_set(words, "sorted") {
+        if operation != "add" {
+            return explain_sorted(alloc, remarks, operation);
+        }
+        if words.get_str("ELEMENT").is_some() {
+            return explain_sorted_after(alloc, remarks);
+        }
     }
     let many = words.get_strs("VALUE").map_or(0, |values| values.len());
     let fits = match operation {

@@ -312,12 +312,13 @@ fn shown(alloc: Global, action: Action) -> Asked
 
 /// The request of the words of a command line, of which the first is the program's name. They are those of the Rewriter page of the Meson manual; `undo`,
 /// `redo`, `history`, `list`, `unset`, `--title`, `--dry-run`, `--json`, `--explain`, `--exit-code`, `--no-log`, `--texts`, `--strict`, `--subdir`,
-/// `--type`, `arg` and `--in` are this program's own. Values, ids and names are passed on as given.
+/// `--type`, `--sorted`, `arg` and `--in` are this program's own. Values, ids and names are passed on as given.
 ///
 /// # Errors
 /// The first of these faults, in this order. A word is missing, unknown or one too many, a number or a place is not valid, two listings are requested or one of
 /// a function without a name, the folder is empty, or `--in` goes with words that take no folder. In words that are names with values, the last name has no
-/// value. A name is repeated. The operation is not done here. A value of `arg` is not code. Its values are more or fewer than its operation takes.
+/// value. A name is repeated. The operation is not done here. A value of `arg` is not code. Its values are more or fewer than its operation takes, or
+/// it does not take `--after` or `--sorted`.
 /// Texts are named for what writes, or standard input would be read twice. The title is not valid. And out of memory, at any time.
 pub fn command_of(alloc: Global, words: &[String]) -> Result<Asked, UsageFault>
     ensures ok { IfOk result (λ a. asked_by (map string_bytes words.now) ≡ Ok (without_text a)) }

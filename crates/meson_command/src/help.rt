@@ -69,9 +69,12 @@ both_libraries, library, jar.
 A SUBDIR is a folder that a subdir call enters, without a slash at its end.
 A SOURCE is a name as the build file writes it: relative to the folder of the
 build file, not to the working folder.
+add --sorted puts each source in its place if the list is in order: it has four
+names or more, each less than the next byte by byte. Else it goes to the end.
 
 Examples:
   meson_rewrite target tide add moon.c sun.c
+  meson_rewrite target tide add --sorted moon.c
   meson_rewrite target tide rm tide.c
   meson_rewrite target tide rename station.c gauge.c
   meson_rewrite target harbor add_extra_files harbor.h
@@ -135,7 +138,9 @@ Operations:
           keyword or entry is inserted after the others
   add     add the values that its list does not have yet, at the end; of a
           sum, to its last list; an absent key gets the array of them;
-          with --after, after the first element of its lists that is ELEMENT
+          with --after, after the first element of its lists that is ELEMENT;
+          with --sorted, each in its place in the last list, if that is in
+          order; else at the end
   remove  remove each element of its lists that is one of the values; a value
           without a list goes with its argument or entry, if it is the value
   replace  takes two values, OLD and NEW: put NEW in the place of each element
@@ -162,6 +167,10 @@ Values:
   :CODE        a Meson expression without comments, as :zlib or :[]
   other words  the text
 
+A list is in order if it has four texts or more, or four identifiers or more,
+each less than the next byte by byte. A text that begins with - has no place in
+it, and no other order is known.
+
 From FUNCTION on no word is an option, so values may begin with -; write
 --after=ELEMENT for an element that does.
 A text replaces a text or an array of texts, a truth value a truth value, and
@@ -182,6 +191,7 @@ Examples:
   meson_rewrite arg set target tide c_args -DTIDE -DPIER
   meson_rewrite arg add target harbor c_args -DHARBOR
   meson_rewrite arg add --after tide.c variable tide_sources . moon.c
+  meson_rewrite arg add --sorted variable tide_sources . moon.c
   meson_rewrite arg remove dependency zlib version '<2'
   meson_rewrite arg replace target tide dependencies :zlib :zlib_ng
   meson_rewrite arg set target harbor install_dir \":get_option('bindir')\"
@@ -194,6 +204,8 @@ Examples:
 pub(crate) const PLACE_FUNCTION: &str = "Where the value is, see Places";
 
 pub(crate) const AFTER: &str = "Of add: put the values after this element";
+
+pub(crate) const SORTED: &str = "Of add: put each in its place in a list in order";
 
 pub(crate) const DEFAULT_OPTIONS: &str = "Edit the default options of the project";
 

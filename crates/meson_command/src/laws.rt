@@ -3,12 +3,14 @@
 ghost use Rattle.meson_command.specs.Entries.{WordsMeanTheEntry};
 ghost use Rattle.meson_command.specs.Laws.{HelpWhereAsked, JsonWhereWanted, OddWordsAreOdd, PairsAreTheWords, UnsetIsDelete, UsageMeansUnknown, VersionWhereAsked};
 ghost use Rattle.meson_command.specs.Laws.{TextsWriteNothing};
-ghost use Rattle.meson_command.specs.Rows.{CodeIsExpressionOrRefused, Done, Flagged, Infos, Json, LaterWordsArePlain, Listed, Other, Refused, Shown, Texts, Titled, Values};
+ghost use Rattle.meson_command.specs.Rows.{Done, Flagged, Json, Listed, Other, Refused, Shown, Texts, Titled};
+ghost use Rattle.meson_command.specs.RowsOfArguments.{CodeIsExpressionOrRefused, Infos, LaterWordsArePlain, Sorted, Values};
 
 /// The requests of some command lines.
 pub fn rows()
     ensures done { Done }
     ensures values { Values }
+    ensures sorted { Sorted }
     ensures infos { Infos }
     ensures titled { Titled }
     ensures shown { Shown }
@@ -26,7 +28,7 @@ pub fn values_are_words()
     ensures code { CodeIsExpressionOrRefused }
 {}
 
-/// Words of `arg` mean the command of the entry of a script with the same function, id, key, values and folder.
+/// Words of `arg` mean the command of the entry of a script with the same function, id, key, values, options and folder.
 pub fn words_mean_the_entry()
     ensures { WordsMeanTheEntry }
 {}
@@ -54,9 +56,10 @@ pub fn texts_write_nothing()
     ensures { TextsWriteNothing }
 {}
 
-/// Words that clap takes are wrong usage only in these cases: the folder is empty, an operation or a function is unknown, `rename` has not two names, a number
-/// is not valid, two listings are requested or one of a function without a name, the function and the id of `arg` name no place, its key is missing, its values
-/// are not as many as its operation takes, a folder is named for another subcommand, or texts are named for what writes or would read standard input, too.
+/// Words that clap takes are wrong usage only in these cases: the folder is empty, an operation or a function is unknown, `rename` has not two names,
+/// `--sorted` or `--after` goes with an operation that does not take it, or both are given, a number is not valid, two listings are requested or one of a
+/// function without a name, the function and the id of `arg` name no place, its key is missing, its values are not as many as its operation takes, a folder is
+/// named for another subcommand, or texts are named for what writes or would read standard input, too.
 pub fn usage_means_unknown()
     ensures { UsageMeansUnknown }
 {}

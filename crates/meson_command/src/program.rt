@@ -180,6 +180,7 @@ fn target<'h>(alloc: Global) -> Result<Command<'h>, AllocError>
     let command = with_many(alloc, command, "SOURCE", "Names of sources or extra files");
     let command = with_short_option(alloc, command, "SUBDIR", "subdir", 's', help::SUBDIR);
     let command = with_option(alloc, command, "KIND", "type", help::KIND);
+    let command = with_flag(alloc, command, "sorted", "sorted", help::SORTED);
     with_help(alloc, command)
 }
 
@@ -215,6 +216,7 @@ fn argument<'h>(alloc: Global) -> Result<Command<'h>, AllocError>
     let command = with_optional(alloc, command, "KEY", "Which value of it, see Keys");
     let command = with_many(alloc, command, "VALUE", "What it becomes, see Values");
     let command = with_option(alloc, command, "ELEMENT", "after", help::AFTER);
+    let command = with_flag(alloc, command, "sorted", "sorted", help::SORTED);
     with_help(alloc, command)
 }
 

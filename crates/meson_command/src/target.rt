@@ -1,15 +1,15 @@
-//! `target ID OPERATION [SOURCE]... [--subdir SUBDIR] [--type KIND]`, and `target ID rename OLD NEW`.
+//! `target ID OPERATION [SOURCE]... [--subdir SUBDIR] [--type KIND] [--sorted]`, and `target ID rename OLD NEW`.
 
 ghost use Rattle.std.specs.Prelude.{◌≡◌, ◌≢◌, Err, IfErr, IfOk, Ok, option_map};
 ghost use Rattle.clap.specs.Words.{found_of, rows_of};
-ghost use Rattle.meson_command.specs.Actions.{rename_action, target_action, target_by, target_words};
+ghost use Rattle.meson_command.specs.Actions.{misplaces_sorted, rename_action, target_action, target_by, target_words};
 ghost use Rattle.meson_command.specs.declared.fault.UsageFault.TheVariants.{OutOfMemory};
 
 use crate::argument::folder_named;
 use crate::asked::Action;
 use crate::fault::UsageFault;
 use crate::operations::find_target_operation;
-use crate::words::{run, word_or, words_at};
+use crate::words::{is_set, run, word_or, words_at};
 use clap::ArgMatches;
 use meson_calls::CallName;
 use meson_json::owned;
@@ -30,6 +30,7 @@ fn target_words(
         sources: words_at(alloc, matches, "SOURCE")?,
         subdir: owned(alloc, word_or(matches, "SUBDIR", ""))?,
         target_kind: owned(alloc, word_or(matches, "KIND", "executable"))?,
+        sorted: is_set(matches, "sorted"),
     })
 }
 
@@ -72,10 +73,17 @@ fn rename_action(
     }
 }
 
+/// Whether `--sorted` is given, and the operation is not the addition of sources.
+fn misplaces_sorted(matches: &ArgMatches<'_>) -> bool
+    ensures { result ≡ misplaces_sorted (rows_of (found_of matches.now)) }
+{
+    is_set(matches, "sorted") && word_or(matches, "OPERATION", "") != "add"
+}
+
 /// The request of the words of `target`, in the folder alone if one is named.
 ///
 /// # Errors
-/// The operation is unknown.
+/// The operation is unknown, there are not two names to rename, or `--sorted` is given with another operation than `add`.
 #[tactic(auto, unfolding(crate::specs::Actions::target_action))]
 pub(crate) fn target_action(
     alloc: Global,
@@ -86,6 +94,9 @@ pub(crate) fn target_action(
     ensures refused { IfErr result (λ e. e ≢ OutOfMemory
         → target_action (option_map (λ f. f.now) folder.entry) (rows_of (found_of matches.now)) ≡ Err e) }
 {
+    if misplaces_sorted(matches) {
+        return Err(UsageFault::Usage);
+    }
     let word = word_or(matches, "OPERATION", "");
     if word == "rename" {
         return rename_action(alloc, folder, matches);

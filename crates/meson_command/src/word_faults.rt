@@ -1,6 +1,6 @@
 //! What explains words that clap takes, and that are no request.
 
-use crate::argument_faults::{explain_argument, explain_code};
+use crate::argument_faults::{explain_argument, explain_code, explain_sorted};
 use crate::choices::{FUNCTIONS, KWARGS_OPERATIONS, OPTIONS_OPERATIONS, TARGET_OPERATIONS};
 use crate::clap_faults::add_usage;
 use crate::fault::UsageFault;
@@ -48,7 +48,7 @@ fn meant_function(word: &str) -> Option<&'static str> {
     }
 }
 
-/// Explains that the operation on a target is not known.
+/// Explains that the operation on a target is not known, that it does not take `--sorted`, or that `rename` has not two names.
 fn explain_target(
     alloc: Global,
     remarks: &mut Remarks,
@@ -56,10 +56,13 @@ fn explain_target(
 ) -> Result<(), AllocError> {
     let operation = word_or(words, "OPERATION", "");
     let many = words.get_strs("SOURCE").map_or(0, |names| names.len());
-    if operation == "rename" && many != 2 {
-        return remarks.note_words(alloc, "rename takes two names, the old one and the new one");
-    }
     if TARGET_OPERATIONS.has(operation) {
+        if is_set(words, "sorted") && operation != "add" {
+            return explain_sorted(alloc, remarks, operation);
+        }
+        if operation == "rename" && many != 2 {
+            return remarks.note_words(alloc, "rename takes two names, the old one and the new one");
+        }
         return Ok(());
     }
     let id = word_or(words, "ID", "");

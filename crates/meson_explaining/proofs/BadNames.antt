@@ -219,6 +219,7 @@ module _ (l : Loaded) where
   bad_meant (command.SourcesAdd target sources) =
       names_meant target (command.SourcesAdd target) (λ names c. sources_added (project l) c names) (λ names. refl)
       (λ names none c. after is_bad (checked_names names) _ (names_free names none) (λ u. once_free is_bad bad_of_names sources_key (keyword sources_key c.it) _)) (λ c. refl) sources refl refl
+  bad_meant (command.SourcesAddSorted target sources) = λ e. absurd (let none : ◌≡◌ {A = Result (List Step) Refusal} (Ok []) (Err refusal.BadName) = e in let no : ⊥ = cc in no)
   bad_meant (command.SourcesRemove target sources) =
       names_meant target (command.SourcesRemove target) (λ names c. sources_removed (project l) c names) (λ names. refl)
       (λ names none c. after is_bad (checked_names names) _ (names_free names none)

@@ -240,6 +240,7 @@ module _ (l : Loaded) (why : Refusal) (gone : is_gone why ≡ true)
   gone_meant (command.SourcesAdd target names) =
       never_of (command.SourcesAdd target names) role.Target target (λ c. sources_added (project l) c names) refl
       (λ c. after is_gone (checked_names names) _ (names_valid is_gone gone_of_names refl names) (λ u. once_free is_gone gone_of_names sources_key (keyword sources_key c.it) _))
+  gone_meant (command.SourcesAddSorted target names) = λ e. absurd (let none : ◌≡◌ {A = Result (List Step) Refusal} (Ok []) (Err why) = e in let no : ⊥ = cc in no)
   gone_meant (command.SourcesRemove target names) =
       gone_of_target l target (sources_at l target) (command.SourcesRemove target) (λ c. once sources_key (keyword sources_key c.it) (source_marks (project l) c)) (λ ns. refl)
       (λ c. once_free is_gone gone_of_names sources_key (keyword sources_key c.it) (source_marks (project l) c)) (λ c found marks got. sources_same l target c found marks got)

@@ -28,6 +28,7 @@ use Rattle.meson_calls.specs.Searching.{anywhere}
 -- the kind of the call that a command is about, and what is to name it; a change of a value is about none
 abbrev pub subject : Command → Role × CallName
 subject (command.SourcesAdd target sources) = (role.Target, target)
+subject (command.SourcesAddSorted target sources) = (role.Target, target)
 subject (command.SourcesRemove target sources) = (role.Target, target)
 subject (command.SourcesRename target old new) = (role.Target, target)
 subject (command.ExtraAdd target sources) = (role.Target, target)

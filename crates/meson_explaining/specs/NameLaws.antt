@@ -12,6 +12,7 @@ use Rattle.meson_explaining.specs.Names.{meant_name}
 -- each name of a command, with the command that has this name alone, as the old name and the new one of a renaming
 abbrev pub alone : Command → List (List ℕ × Command)
 alone (command.SourcesAdd target sources) = map (λ s. (s, command.SourcesAdd target (s ∷ []))) sources
+alone (command.SourcesAddSorted target sources) = map (λ s. (s, command.SourcesAddSorted target (s ∷ []))) sources
 alone (command.SourcesRemove target sources) = map (λ s. (s, command.SourcesRemove target (s ∷ []))) sources
 alone (command.SourcesRename target old new) = (old, command.SourcesRename target old old) ∷ (new, command.SourcesRename target new new) ∷ []
 alone (command.ExtraAdd target sources) = map (λ s. (s, command.ExtraAdd target (s ∷ []))) sources

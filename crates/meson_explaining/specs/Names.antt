@@ -47,6 +47,7 @@ find_key test pairs = option_map (λ p. p.0) (find test pairs)
 
 abbrev pub bad_name : Command → Option (List ℕ)
 bad_name (command.SourcesAdd target sources) = find is_empty_name sources
+bad_name (command.SourcesAddSorted target sources) = find is_empty_name sources
 bad_name (command.SourcesRemove target sources) = find is_empty_name sources
 bad_name (command.SourcesRename target old new) = find is_empty_name (old ∷ new ∷ [])
 bad_name (command.ExtraAdd target sources) = find is_empty_name sources

@@ -147,6 +147,7 @@ pub(crate) fn bad_name(command: &Command) -> Option<&str>
 {
     match command {
         Command::SourcesAdd { sources, .. }
+        | Command::SourcesAddSorted { sources, .. }
         | Command::SourcesRemove { sources, .. }
         | Command::ExtraAdd { sources, .. }
         | Command::ExtraRemove { sources, .. } => first_empty(sources.get()),

@@ -24,6 +24,7 @@ pub(crate) fn subject_of(command: &Command) -> Subject<'_>
 {
     match command {
         Command::SourcesAdd { target, .. }
+        | Command::SourcesAddSorted { target, .. }
         | Command::SourcesRemove { target, .. }
         | Command::SourcesRename { target, .. }
         | Command::ExtraAdd { target, .. }

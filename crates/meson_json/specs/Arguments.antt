@@ -1,5 +1,5 @@
 -- What names a value, and the changes of a value, as words and scripts give them.
-use Rattle.std.specs.Prelude.{ℕ, ◌==◌, nat_lt, Bool, List, [], ◌∷◌, length, bytes_eq, codes, if◌then◌else◌, Option, Some, None, option_map}
+use Rattle.std.specs.Prelude.{ℕ, ◌==◌, nat_lt, Bool, false, true, List, [], ◌∷◌, length, bytes_eq, codes, if◌then◌else◌, Option, Some, None, option_map}
 use Rattle.std.specs.List.{after_first, before_first, position_or_len}
 use Rattle.meson_steps.specs.declared.argument.Callee.{Callee}
 use Rattle.meson_steps.specs.declared.argument.Callee.TheVariants as callee
@@ -77,18 +77,29 @@ change_by operation.Delete [] = Some change.Delete
 change_by operation.Delete (g ∷ gs) = None
 change_by operation.Info gs = None
 
--- the same, with the value after which values are added, if one is given; only `add` takes it
-abbrev pub change_to : ArgumentOperation → (after : Option Given) → List Given → Option ValueChange
-change_to o None gs = change_by o gs
-change_to operation.Add (Some it) (g ∷ gs) = Some (change.AddAfter it (g ∷ gs))
-change_to o (Some it) gs = None
+-- values go after another one; only `add` puts them there
+abbrev pub after_to : ArgumentOperation → (after : Given) → List Given → Option ValueChange
+after_to operation.Add it (g ∷ gs) = Some (change.AddAfter it (g ∷ gs))
+after_to o it gs = None
 
--- the command of an operation with the name of a value, the value after which values are added, and further values, if there are as many as it takes; a
--- report takes none
-abbrev pub command_to : ArgumentOperation → ValueName → (after : Option Given) → List Given → Option Command
-command_to operation.Info name None [] = Some (command.ArgumentInfo name)
-command_to operation.Info name after gs = None
-command_to o name after gs = option_map (command.Argument name) (change_to o after gs)
+-- or each into its place; only `add` does so
+abbrev pub sorted_to : ArgumentOperation → List Given → Option ValueChange
+sorted_to operation.Add (g ∷ gs) = Some (change.AddSorted (g ∷ gs))
+sorted_to o gs = None
+
+-- the same, with the value after which values are added, if one is given, and whether each goes into its place; not both
+abbrev pub change_to : ArgumentOperation → (after : Option Given) → (sorted : Bool) → List Given → Option ValueChange
+change_to o None false gs = change_by o gs
+change_to o None true gs = sorted_to o gs
+change_to o (Some it) false gs = after_to o it gs
+change_to o (Some it) true gs = None
+
+-- the command of an operation with the name of a value, the value after which values are added, whether each goes into its place, and further values, if
+-- there are as many as it takes; a report takes none
+abbrev pub command_to : ArgumentOperation → ValueName → (after : Option Given) → (sorted : Bool) → List Given → Option Command
+command_to operation.Info name None false [] = Some (command.ArgumentInfo name)
+command_to operation.Info name after sorted gs = None
+command_to o name after sorted gs = option_map (command.Argument name) (change_to o after sorted gs)
 
 -- a report may leave the keys out: then it is of the place itself
 abbrev pub keys_left_out : ArgumentOperation → Option (List (List ℕ))

@@ -12,16 +12,20 @@ use Rattle.meson_steps.specs.declared.command.Command.TheVariants as command
 abbrev pub value_members : ValueChange → List (List ℕ)
 value_members (change.Set g) = codes "function" ∷ codes "id" ∷ codes "key" ∷ codes "in" ∷ codes "values" ∷ []
 value_members (change.SetAll gs) = codes "function" ∷ codes "id" ∷ codes "key" ∷ codes "in" ∷ codes "values" ∷ []
-value_members (change.Add gs) = codes "function" ∷ codes "id" ∷ codes "key" ∷ codes "in" ∷ codes "values" ∷ []
+value_members (change.Add gs) =
+    codes "function" ∷ codes "id" ∷ codes "key" ∷ codes "in" ∷ codes "values" ∷ codes "sorted" ∷ []
 value_members (change.AddAfter g gs) =
-    codes "function" ∷ codes "id" ∷ codes "key" ∷ codes "in" ∷ codes "values" ∷ codes "after" ∷ []
+    codes "function" ∷ codes "id" ∷ codes "key" ∷ codes "in" ∷ codes "values" ∷ codes "after" ∷ codes "sorted" ∷ []
+value_members (change.AddSorted gs) =
+    codes "function" ∷ codes "id" ∷ codes "key" ∷ codes "in" ∷ codes "values" ∷ codes "sorted" ∷ []
 value_members (change.Remove gs) = codes "function" ∷ codes "id" ∷ codes "key" ∷ codes "in" ∷ codes "values" ∷ []
 value_members (change.Replace old new) = codes "function" ∷ codes "id" ∷ codes "key" ∷ codes "in" ∷ codes "values" ∷ []
 value_members change.Delete = codes "function" ∷ codes "id" ∷ codes "key" ∷ codes "in" ∷ []
 
 -- those that the operation of a command uses
 abbrev pub used_members : Command → List (List ℕ)
-used_members (command.SourcesAdd target sources) = codes "target" ∷ codes "sources" ∷ codes "in" ∷ []
+used_members (command.SourcesAdd target sources) = codes "target" ∷ codes "sources" ∷ codes "in" ∷ codes "sorted" ∷ []
+used_members (command.SourcesAddSorted target sources) = codes "target" ∷ codes "sources" ∷ codes "in" ∷ codes "sorted" ∷ []
 used_members (command.SourcesRemove target sources) = codes "target" ∷ codes "sources" ∷ codes "in" ∷ []
 used_members (command.SourcesRename target old new) = codes "target" ∷ codes "sources" ∷ codes "in" ∷ []
 used_members (command.ExtraAdd target sources) = codes "target" ∷ codes "sources" ∷ codes "in" ∷ []

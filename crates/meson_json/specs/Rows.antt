@@ -127,6 +127,39 @@ ValueEntries =
     × gives (codes "[{'type':'arg','operation':'set','function':'target','id':'e','key':'k','values':[1]}]") (Err (BadField 0 (codes "values")))
     × gives_known (codes "[{'type':'arg','operation':'delete','function':'target','id':'e','key':'k','values':[]}]") (Err (UnknownMember 0 (codes "values")))
 
+-- each in its place: `sorted` may be `false`, goes with additions alone, and is not `true` beside `after`
+abbrev pub SortedEntries : Type 0
+SortedEntries =
+    stands_for (codes "[{'type':'target','target':'e','operation':'src_add','sources':['b.c'],'sorted':true}]")
+    (command.SourcesAddSorted (anywhere (codes "e")) (codes "b.c" ∷ []))
+    × stands_for (codes "[{'type':'target','target':'e','operation':'src_add','sources':['b.c'],'sorted':false}]")
+    (command.SourcesAdd (anywhere (codes "e")) (codes "b.c" ∷ []))
+    × stands_for (codes "[{'type':'target','target':'e','operation':'src_rm','sources':['b.c'],'sorted':1}]")
+    (command.SourcesRemove (anywhere (codes "e")) (codes "b.c" ∷ []))
+    × gives (codes "[{'type':'target','target':'e','operation':'src_add','sources':['b.c'],'sorted':'yes'}]") (Err (BadField 0 (codes "sorted")))
+    × gives (codes "[{'type':'target','target':'e','operation':'src_add','in':1,'sorted':1}]") (Err (BadField 0 (codes "in")))
+    × stands_for (codes "[{'type':'arg','operation':'add','function':'target','id':'e','key':'c_args','values':['-DX'],'sorted':true}]")
+    (command.Argument (at_keys (called callee.Target (codes "e")) (codes "c_args" ∷ [])) (change.AddSorted (given.Text (codes "-DX") ∷ [])))
+    × stands_for (codes "[{'type':'arg','operation':'add','function':'target','id':'e','key':'c_args','values':['-DX'],'after':true,'sorted':false}]")
+    (command.Argument (at_keys (called callee.Target (codes "e")) (codes "c_args" ∷ [])) (change.AddAfter (given.Switch true) (given.Text (codes "-DX") ∷ [])))
+    × stands_for (codes "[{'type':'arg','operation':'remove','function':'target','id':'e','key':'c_args','values':['-DX'],'sorted':1}]")
+    (command.Argument (at_keys (called callee.Target (codes "e")) (codes "c_args" ∷ [])) (change.Remove (given.Text (codes "-DX") ∷ [])))
+    × gives (codes "[{'type':'arg','operation':'add','function':'target','id':'e','key':'c_args','values':['-DX'],'sorted':null}]")
+    (Err (BadField 0 (codes "sorted")))
+    × gives (codes "[{'type':'arg','operation':'add','function':'target','id':'e','key':'c_args','values':['-DX'],'after':'-DY','sorted':true}]")
+    (Err (BadField 0 (codes "sorted")))
+    × gives (codes "[{'type':'arg','operation':'add','function':'target','id':'e','key':'c_args','values':[],'sorted':1}]") (Err (BadField 0 (codes "sorted")))
+    × gives (codes "[{'type':'arg','operation':'add','function':'target','id':'e','key':'c_args','values':['-DX'],'after':1,'sorted':1}]")
+    (Err (BadField 0 (codes "after")))
+    × gives (codes "[{'type':'arg','operation':'add','function':'target','id':'e','key':'c_args','values':[],'sorted':true}]")
+    (Err (BadField 0 (codes "values")))
+    × gives_known (codes "[{'type':'arg','operation':'set','function':'target','id':'e','key':'c_args','values':['-DX'],'sorted':true}]")
+    (Err (UnknownMember 0 (codes "sorted")))
+    × gives_known (codes "[{'type':'target','target':'e','operation':'extra_files_add','sources':['x.h'],'sorted':true}]")
+    (Err (UnknownMember 0 (codes "sorted")))
+    × gives_known (codes "[{'type':'target','target':'e','operation':'src_add','sources':['b.c'],'sorted':false}]")
+    (Ok (command.SourcesAdd (anywhere (codes "e")) (codes "b.c" ∷ []) ∷ []))
+
 -- what is reported of a value; the key may be left out, and there are no values
 abbrev pub InfoEntries : Type 0
 InfoEntries =

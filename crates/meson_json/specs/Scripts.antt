@@ -1,8 +1,8 @@
 -- The commands of a JSON value, or the first fault.
-use Rattle.std.specs.Prelude.{ℕ, ◌+◌, List, [], ◌∷◌, bytes_eq, codes, is_some, nat_lt, if◌then◌else◌, Option, Some, None, ok_or, option_and_then, option_map, Result, Ok, Err}
+use Rattle.std.specs.Prelude.{ℕ, ◌+◌, Bool, false, ◌&&◌, List, [], ◌∷◌, bytes_eq, codes, is_some, nat_lt, if◌then◌else◌, Option, Some, None, ok_or, option_and_then, option_map, Result, Ok, Err}
 use Rattle.serde_json.specs.Data.{Data, array, string, Items, no_items, item, Members, no_members}
 use Rattle.serde_json.specs.Events.{items_len}
-use Rattle.serde_json.specs.Find.{get, as_array, as_object, as_str}
+use Rattle.serde_json.specs.Find.{get, as_array, as_bool, as_object, as_str}
 use Rattle.meson_splice.specs.Patch.{then_ok}
 use Rattle.meson_json.specs.Arguments.{command_to, keys_in, keys_left_out, place_named}
 use Rattle.meson_json.specs.Each.{each_of, each_member, names_of_members}
@@ -44,6 +44,10 @@ abbrev pub given : {A : Type 0} → (Data → Option A) → ℕ → List ℕ →
 given read i name otherwise None = Ok otherwise
 given read i name otherwise (Some d) = ok_or (read d) (BadField i name)
 
+-- a truth value, or `false` if there is no such member
+abbrev pub flag_at : ℕ → List ℕ → Data → Result Bool ScriptFault
+flag_at i name d = given as_bool i name false (get name d)
+
 -- ---- entries of type `target`
 
 -- the folder of an entry, if it names one
@@ -60,6 +64,11 @@ target_folder i target.ExtraAdd d = folder_at i d
 target_folder i target.ExtraRemove d = folder_at i d
 target_folder i target.Info d = folder_at i d
 
+-- whether sources go each into its place; only their addition reads it
+abbrev pub target_sorted : ℕ → TargetOperation → Data → Result Bool ScriptFault
+target_sorted i target.SourcesAdd d = flag_at i (codes "sorted") d
+target_sorted i operation d = Ok false
+
 unfoldable pub target_members : ℕ → TargetOperation → Data → Result TargetMembers ScriptFault
 target_members i operation d =
     then_ok (required_text i (codes "target") d) (λ target.
@@ -67,7 +76,8 @@ target_members i operation d =
     then_ok (given as_str i (codes "subdir") [] (get (codes "subdir") d)) (λ subdir.
     then_ok (given as_str i (codes "target_type") (codes "executable") (get (codes "target_type") d)) (λ kind.
     then_ok (target_folder i operation d) (λ folder.
-    Ok (record { target = target; folder = folder; sources = sources; subdir = subdir; target_kind = kind }))))))
+    then_ok (target_sorted i operation d) (λ sorted.
+    Ok (record { target = target; folder = folder; sources = sources; subdir = subdir; target_kind = kind; sorted = sorted })))))))
 
 -- `rename`: the sources are the old name and the new one
 unfoldable pub rename_entry : ℕ → Data → Result Command ScriptFault
@@ -159,10 +169,18 @@ abbrev pub after_at : ℕ → ArgumentOperation → Data → Result (Option Give
 after_at i argument.Add d = given (λ v. option_map Some (given_value v)) i (codes "after") None (get (codes "after") d)
 after_at i operation d = Ok None
 
+-- whether each of the values goes into its place; only `add` reads it, which puts them after another one or into their places
+abbrev pub sorted_at : ℕ → ArgumentOperation → (has_after : Bool) → Data → Result Bool ScriptFault
+sorted_at i argument.Add has_after d =
+    then_ok (flag_at i (codes "sorted") d) (λ sorted. if sorted && has_after then Err (BadField i (codes "sorted")) else Ok sorted)
+sorted_at i operation has_after d = Ok false
+
 abbrev pub value_command : ℕ → ArgumentOperation → ValueName → Data → Result Command ScriptFault
 value_command i operation name d =
     then_ok (values_at i operation d) (λ gs.
-    then_ok (after_at i operation d) (λ after. ok_or (command_to operation name after gs) (BadField i (codes "values"))))
+    then_ok (after_at i operation d) (λ after.
+    then_ok (sorted_at i operation (is_some after) d) (λ sorted.
+    ok_or (command_to operation name after sorted gs) (BadField i (codes "values")))))
 
 unfoldable pub value_name : ℕ → ArgumentOperation → Data → Result ValueName ScriptFault
 value_name i operation d =

@@ -1,5 +1,5 @@
 -- The command of an operation on a target.
-use Rattle.std.specs.Prelude.{ℕ, List, [], ◌∷◌, Option, Some, None}
+use Rattle.std.specs.Prelude.{ℕ, Bool, false, true, List, [], ◌∷◌, Option, Some, None}
 use Rattle.meson_calls.specs.declared.call.CallName.{CallName}
 use Rattle.meson_steps.specs.declared.command.Command.{Command}
 use Rattle.meson_steps.specs.declared.command.Command.TheVariants as command
@@ -11,8 +11,13 @@ use Rattle.meson_json.specs.declared.target.TargetOperation.TheVariants as targe
 abbrev pub named_by : TargetMembers → CallName
 named_by m = record { id = m.target; folder = m.folder }
 
+-- sources are added, each in its place if they are to be sorted
+abbrev pub addition_of : (sorted : Bool) → CallName → List (List ℕ) → Command
+addition_of false target sources = command.SourcesAdd target sources
+addition_of true target sources = command.SourcesAddSorted target sources
+
 abbrev pub target_command : TargetOperation → TargetMembers → Command
-target_command target.SourcesAdd m = command.SourcesAdd (named_by m) m.sources
+target_command target.SourcesAdd m = addition_of m.sorted (named_by m) m.sources
 target_command target.SourcesRemove m = command.SourcesRemove (named_by m) m.sources
 target_command target.TargetRemove m = command.TargetRemove (named_by m)
 target_command target.TargetAdd m = command.TargetAdd m.target m.target_kind m.subdir m.sources

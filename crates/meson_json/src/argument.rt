@@ -1,7 +1,7 @@
 //! What names a value, and the changes and reports of a value, by a script or on the command line.
 
 ghost use Rattle.std.specs.Prelude.{◌≡◌, IfOk};
-ghost use Rattle.meson_json.specs.Arguments.{callee_of, change_by, change_to, command_to, keys_in, keys_left_out, line_named, place_named, replaced_by, set_to};
+ghost use Rattle.meson_json.specs.Arguments.{after_to, callee_of, change_by, change_to, command_to, keys_in, keys_left_out, line_named, place_named, replaced_by, set_to, sorted_to};
 
 use crate::count::count_of;
 use crate::members::owned;
@@ -125,17 +125,10 @@ fn change_by(operation: ArgumentOperation, values: Vec<Given>) -> Option<ValueCh
     }
 }
 
-/// The same, with the value after which values are added, if one is given. Only `add` takes it.
-fn change_to(
-    operation: ArgumentOperation,
-    after: Option<Given>,
-    values: Vec<Given>,
-) -> Option<ValueChange>
-    ensures { result ≡ change_to operation after values.items }
+/// The change that adds values after another one. Only `add` does so.
+fn after_to(operation: ArgumentOperation, after: Given, values: Vec<Given>) -> Option<ValueChange>
+    ensures { result ≡ after_to operation after values.items }
 {
-    let Some(after) = after else {
-        return change_by(operation, values);
-    };
     if values.is_empty() || !matches!(operation, ArgumentOperation::Add) {
         return None;
     }
@@ -143,24 +136,52 @@ fn change_to(
     Some(ValueChange::AddAfter { after, values })
 }
 
-/// The command that an operation, the name of a value, the value after which values are added, and further values mean, if there are as many as it takes. A
-/// report takes none.
+/// The change that adds values, each in its place. Only `add` does so.
+fn sorted_to(operation: ArgumentOperation, values: Vec<Given>) -> Option<ValueChange>
+    ensures { result ≡ sorted_to operation values.items }
+{
+    if !matches!(operation, ArgumentOperation::Add) || values.is_empty() {
+        return None;
+    }
+    Some(ValueChange::AddSorted(Many::of(values)))
+}
+
+/// The same as `change_by`, with the value after which values are added, if one is given, and whether each goes into its place. Not both.
+fn change_to(
+    operation: ArgumentOperation,
+    after: Option<Given>,
+    sorted: bool,
+    values: Vec<Given>,
+) -> Option<ValueChange>
+    ensures { result ≡ change_to operation after sorted values.items }
+{
+    match (after, sorted) {
+        (None, false) => change_by(operation, values),
+        (None, true) => sorted_to(operation, values),
+        (Some(after), false) => after_to(operation, after, values),
+        (Some(_), true) => None,
+    }
+}
+
+/// The command that an operation, the name of a value, the value after which values are added, whether each goes into its place, and further values mean, if
+/// there are as many as it takes. A report takes none.
 pub fn command_to(
     operation: ArgumentOperation,
     name: ValueName,
     after: Option<Given>,
+    sorted: bool,
     values: Vec<Given>,
 ) -> Option<Command>
-    ensures { result ≡ command_to operation name after values.items }
+    ensures { result ≡ command_to operation name after sorted values.items }
 {
     if let ArgumentOperation::Info = operation {
-        return if after.is_none() && values.is_empty() {
+        return if after.is_none() && !sorted && values.is_empty() {
             Some(Command::ArgumentInfo { name })
         } else {
             None
         };
     }
-    match change_to(operation, after, values) {
+    match change_to(operation, after, sorted, values) {
         Some(change) => Some(Command::Argument { name, change }),
         None => None,
     }

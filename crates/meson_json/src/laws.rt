@@ -1,12 +1,13 @@
 //! Laws of scripts and logs. The functions do nothing: what they ensure is the law.
 
-ghost use Rattle.meson_json.specs.Rows.{ArgumentEntries, Faults, InfoEntries, KnownMembers, Logs, RefusingChangesNothing, TargetEntries, ValueEntries};
+ghost use Rattle.meson_json.specs.Rows.{ArgumentEntries, Faults, InfoEntries, KnownMembers, Logs, RefusingChangesNothing, SortedEntries, TargetEntries, ValueEntries};
 
 /// Which commands some texts are, and why some are not valid.
 pub fn script_rows()
     ensures targets { TargetEntries }
     ensures arguments { ArgumentEntries }
     ensures values { ValueEntries }
+    ensures sorted { SortedEntries }
     ensures infos { InfoEntries }
     ensures faults { Faults }
     ensures known { KnownMembers }

@@ -17,6 +17,7 @@ mod script_remarks;
 pub mod target;
 mod texts_file;
 mod title;
+mod value_entry;
 mod version;
 
 pub use choices::Choice;

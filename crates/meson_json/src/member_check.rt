@@ -35,10 +35,10 @@ fn is_known_of_value(change: &ValueChange, name: &str) -> bool
     match change {
         ValueChange::Set(_)
         | ValueChange::SetAll(_)
-        | ValueChange::Add(_)
         | ValueChange::Remove(_)
         | ValueChange::Replace { .. } => name == "values",
-        ValueChange::AddAfter { .. } => name == "values" || name == "after",
+        ValueChange::Add(_) | ValueChange::AddSorted(_) => name == "values" || name == "sorted",
+        ValueChange::AddAfter { .. } => name == "values" || name == "after" || name == "sorted",
         ValueChange::Delete => false,
     }
 }
@@ -51,8 +51,10 @@ fn is_known(command: &Command, name: &str) -> bool
         return true;
     }
     match command {
-        Command::SourcesAdd { .. }
-        | Command::SourcesRemove { .. }
+        Command::SourcesAdd { .. } | Command::SourcesAddSorted { .. } => {
+            name == "target" || name == "sources" || name == "in" || name == "sorted"
+        }
+        Command::SourcesRemove { .. }
         | Command::SourcesRename { .. }
         | Command::ExtraAdd { .. }
         | Command::ExtraRemove { .. } => name == "target" || name == "sources" || name == "in",

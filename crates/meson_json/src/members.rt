@@ -5,7 +5,7 @@ ghost use Rattle.serde_json.specs.Find.{as_array, as_object, as_str, get};
 ghost use Rattle.serde_json.specs.View.{items_view, members_view, view};
 ghost use Rattle.meson_json.specs.Each.{each_member, each_of, names_of_members};
 ghost use Rattle.meson_json.specs.Members.{member_text};
-ghost use Rattle.meson_json.specs.Scripts.{given, required_text};
+ghost use Rattle.meson_json.specs.Scripts.{flag_at, folder_at, given, required_text};
 ghost use Rattle.meson_json.specs.Settings.{given_value, option_value, setting_of};
 ghost use Rattle.meson_json.specs.declared.fault.ScriptFault.TheVariants.{BadField, OutOfMemory};
 
@@ -67,6 +67,43 @@ pub(crate) fn text_or(
     };
     match member.as_str() {
         Some(text) => Ok(owned(alloc, text)?),
+        None => Err(bad_field(alloc, index, name)?),
+    }
+}
+
+/// The folder of an entry, if it names one.
+pub(crate) fn folder_at(
+    alloc: Global,
+    index: usize,
+    entry: &Value,
+) -> Result<Option<Text>, ScriptFault>
+    ensures ok { IfOk result (λ f. folder_at index (view entry.now) ≡ Ok f) }
+    ensures refused { IfErr result (λ e. e ≢ OutOfMemory → folder_at index (view entry.now) ≡ Err e) }
+{
+    let Some(member) = entry.get("in") else {
+        return Ok(None);
+    };
+    match member.as_str() {
+        Some(folder) => Ok(Some(owned(alloc, folder)?)),
+        None => Err(bad_field(alloc, index, "in")?),
+    }
+}
+
+/// The truth value of this name, or `false` if the entry has no such member.
+pub(crate) fn flag_at(
+    alloc: Global,
+    index: usize,
+    entry: &Value,
+    name: &str,
+) -> Result<bool, ScriptFault>
+    ensures ok { IfOk result (λ b. flag_at index name.now (view entry.now) ≡ Ok b) }
+    ensures refused { IfErr result (λ e. e ≢ OutOfMemory → flag_at index name.now (view entry.now) ≡ Err e) }
+{
+    let Some(member) = entry.get(name) else {
+        return Ok(false);
+    };
+    match member.as_bool() {
+        Some(flag) => Ok(flag),
         None => Err(bad_field(alloc, index, name)?),
     }
 }

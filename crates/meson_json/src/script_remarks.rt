@@ -65,10 +65,24 @@ fn members_of(entry_type: &str, operation: &str) -> Choice {
             ]
         }
         ("target", "target_rm" | "info") => &["type", "operation", "target", "in"],
+        ("target", "src_add") => &["type", "operation", "target", "sources", "in", "sorted"],
         ("target", _) => &["type", "operation", "target", "sources", "in"],
         ("kwargs", "info") => &["type", "operation", "function", "id", "in"],
         ("kwargs", _) => { &["type", "operation", "function", "id", "kwargs", "in"] }
         ("arg", "delete") => &["type", "operation", "function", "id", "key", "in"],
+        ("arg", "add") => {
+            &[
+                "type",
+                "operation",
+                "function",
+                "id",
+                "key",
+                "values",
+                "in",
+                "after",
+                "sorted",
+            ]
+        }
         ("arg", _) => { &["type", "operation", "function", "id", "key", "values", "in"] }
         _ => &["type", "operation", "options"],
     };
@@ -100,6 +114,7 @@ fn argument_of(operation: &str, member: &str) -> &'static str {
         "key" => "texts joined by dots, or an array of texts",
         "values" => "an array of texts, true, false and objects whose code is one expression",
         "after" => "a text, true, false or an object whose code is one expression",
+        "sorted" => "true or false, and not true beside after",
         _ => "a text",
     }
 }
@@ -117,6 +132,7 @@ fn value_of(entry: &Value, member: &str) -> &'static str {
         "function" => "one of project, target, dependency",
         "kwargs" => "an object, whose values are texts, true, false or arrays of texts",
         "options" => "an object, whose values are texts, true, false or whole numbers",
+        "sorted" => "true or false",
         _ => "a text",
     }
 }

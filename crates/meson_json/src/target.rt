@@ -28,6 +28,8 @@ pub struct TargetMembers {
     pub sources: Many<Text>,
     pub subdir: Text,
     pub target_kind: Text,
+    /// Whether sources are added each in its place.
+    pub sorted: bool,
 }
 
 /// The command of an operation on a target. A new target has no folder that is searched.
@@ -40,8 +42,13 @@ pub fn target_command(operation: TargetOperation, members: TargetMembers) -> Com
         sources,
         subdir,
         target_kind,
+        sorted,
     } = members;
     match operation {
+        TargetOperation::SourcesAdd if sorted => Command::SourcesAddSorted {
+            target: CallName { id, folder },
+            sources,
+        },
         TargetOperation::SourcesAdd => Command::SourcesAdd {
             target: CallName { id, folder },
             sources,

@@ -186,6 +186,7 @@ fn change_of(alloc: Global, word: &str, values: &str) -> Result<ValueChange, Val
     Ok(match word {
         "set" => ValueChange::Set(given_of(alloc, &text_of(alloc, values)?)?),
         "add" => ValueChange::Add(Many::of(values_of(alloc, values)?)),
+        "add-sorted" => ValueChange::AddSorted(Many::of(values_of(alloc, values)?)),
         "remove" => ValueChange::Remove(Many::of(values_of(alloc, values)?)),
         "replace" => replacement(alloc, values)?,
         "set-all" => ValueChange::SetAll(Many::of(values_of(alloc, values)?)),
@@ -249,7 +250,7 @@ pub fn answer(
             Ok(slot) => put_slot(&slot, to),
             Err(refusal) => to.show_line(&refusal),
         },
-        "set" | "set-all" | "add" | "remove" | "replace" | "delete" => put_change(
+        "set" | "set-all" | "add" | "add-sorted" | "remove" | "replace" | "delete" => put_change(
             alloc, sources, question, to,
         )?,
         _ => to.line("not understood"),

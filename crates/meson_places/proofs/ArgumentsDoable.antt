@@ -37,6 +37,7 @@ use Rattle.meson_places.proofs.AssignedLone.{added_steps_doable, set_all_steps_d
 use Rattle.meson_places.proofs.NewElementsDoable.{add_doable}
 use Rattle.meson_places.proofs.SaidDoable.{remove_doable, replace_doable}
 use Rattle.meson_places.proofs.SeveralDoable.{set_all_doable}
+use Rattle.meson_places.proofs.SortedValues.{sorted_doable}
 use Rattle.meson_places.proofs.SlotsDoable.{KeyIsText, delete_doable, set_within_doable}
 use Rattle.meson_places.proofs.SlotsThere.{slots_are_there}
 
@@ -76,6 +77,8 @@ slot_doable old is key (change.Set g) may s there text steps made = set_within_d
 slot_doable old is key (change.SetAll gs) may s there text steps made = set_all_steps_doable old is gs may key s steps (λ h. set_all_doable old is gs may key s text steps h) made
 slot_doable old is key (change.Add gs) may s there text steps made = added_steps_doable old is gs may key s steps (λ h. add_doable old is gs may key s text steps h) made
 slot_doable old is key (change.AddAfter g gs) may s there text steps made = insert_doable old is g gs may key s steps made
+slot_doable old is key (change.AddSorted gs) may s there text steps made =
+    sorted_doable old is gs may key s steps (λ m. added_steps_doable old is gs may key s steps (λ h. add_doable old is gs may key s text steps h) m) made
 slot_doable old is key (change.Remove gs) may s there text steps made = remove_doable old is gs key s steps made
 slot_doable old is key (change.Replace was new) may s there text steps made = replace_doable old is was new may key s steps made
 slot_doable old is key change.Delete may s there text steps made = delete_doable old is s there steps made
@@ -114,6 +117,7 @@ module _ (old : Loaded) (is : IsProject old) (n : ValueName) (key : List ℕ) (s
   changed_doable (change.SetAll gs) may one alone made = alone made
   changed_doable (change.Add gs) may one alone made = alone made
   changed_doable (change.AddAfter g gs) may one alone made = alone made
+  changed_doable (change.AddSorted gs) may one alone made = alone made
   changed_doable change.Delete may one alone made = alone made
 
 pub argument_steps_are_doable : ArgumentStepsAreDoable

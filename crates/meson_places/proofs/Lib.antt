@@ -62,4 +62,5 @@ pub mod ValuesThere
 mod WithRoom
 pub mod SortedSteps
 pub mod SortedLists
+mod SortedOrder
 mod SortedValues

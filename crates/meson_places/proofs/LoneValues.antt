@@ -130,7 +130,7 @@ spanned_file (f ∷ fs) (t ∷ parsed) are (suc i) g is = spanned_file fs parsed
 abbrev item : Kind → List ℕ → Lexeme
 item κ x = record { kind = κ; text = x }
 
-identifier_written : (s : Span) (x : List ℕ) → IsIdentifier x → first_bare_return x ≡ None → IsWritten x (expression_words (erase_expression (identifier s x)))
+pub identifier_written : (s : Span) (x : List ℕ) → IsIdentifier x → first_bare_return x ≡ None → IsWritten x (expression_words (erase_expression (identifier s x)))
 identifier_written s x good whole = record {
   items = item k.Identifier x ∷ [];
   is_new = record {

@@ -28,6 +28,7 @@ use Rattle.meson_steps.specs.declared.given.Given.{Given}
 use Rattle.meson_steps.specs.declared.given.Given.TheVariants as given
 use Rattle.meson_steps.specs.Code.{IsExpression}
 use Rattle.meson_steps.specs.GivenWords.{MayBeGiven}
+use Rattle.meson_steps.specs.OrderedLists.{Added, all_put}
 use Rattle.meson_steps.specs.ResultLimits.{plain_trees}
 use Rattle.meson_steps.specs.Steps.{Step, step_in}
 use Rattle.meson_steps.specs.WrittenTexts.{array_of_values}
@@ -56,6 +57,7 @@ use Rattle.meson_places.specs.ValueLists.{ValueList, last_of, lists_of}
 use Rattle.meson_places.specs.Room.{has_room, list_in_trees}
 use Rattle.meson_places.specs.Several.{AllMayBeGiven, add_array, all_written, array_bytes, becomes_array, if_room_for, is_text_given, put_all, put_each, set_all, set_all_there}
 use Rattle.meson_places.specs.Slots.{Child, elements_in, the_slot}
+use Rattle.meson_places.specs.SortedAdditions.{fresh_added, given_key, order_of, sort_into_last, sort_into_value, sorted_steps}
 use Rattle.meson_places.specs.Values.{are_texts, is_array, written_given}
 
 -- ---- the tree of code
@@ -72,7 +74,7 @@ abbrev inside : Listing Nowhere → Option (Expression Nowhere)
 inside (listing s b (argument (plain e) more)) = Some e
 inside _ = None
 
-one_node : (text : List ℕ) (x y : IsExpression text) → x.node ≡ y.node
+pub one_node : (text : List ℕ) (x y : IsExpression text) → x.node ≡ y.node
 one_node text x y = some-injective _ _ (ap inside (one_listing (91 ∷ (text ++ 93 ∷ [])) _ _ (complete text x) (complete text y)))
 
 one_written : (g : Given) (m k : MayBeGiven g) → written_given g m ≡ written_given g k
@@ -178,11 +180,34 @@ added_steps_one l gs m k key s = go (assigned_lone (project l) s)
     go None = add_one l gs m k key s
     go (Some v) = ap (array_beside key v.place (lone_written v)) (fresh_one (λ g. says (bytes_at v.place.file l.files) g v.value) [] gs m k)
 
+fresh_added_one : (known : Given → Bool) (before gs : List Given) (m k : AllMayBeGiven gs) → fresh_added known before gs m ≡ fresh_added known before gs k
+fresh_added_one known before [] m k = refl
+fresh_added_one known before (g ∷ gs) m k =
+    ap₂ (λ (w : Written (Expression Nowhere)) (new : List Added). if is_old known before g then new else record { key = given_key g; written = w } ∷ new)
+    (one_written g m.0 k.0) (fresh_added_one known (before ++ g ∷ []) gs m.1 k.1)
+
+sorted_one : (l : Loaded) (gs : List Given) (m k : AllMayBeGiven gs) (key : List ℕ) (s : Slot) → sorted_steps l gs m key s ≡ sorted_steps l gs k key s
+sorted_one l gs m k key s = go (placed_value (project l) s)
+  where
+    into : (source : List ℕ) (known : Given → Bool) (o : Option (ValueList Span)) → sort_into_last l source known gs m (added_steps l gs m key s) o ≡ sort_into_last l source known gs k (added_steps l gs k key s) o
+    into source known None = added_steps_one l gs m k key s
+    into source known (Some list) =
+        ap₂ (λ (ws : Values) (new : List Added). if list_all (λ w. has_room w.node (list_in_trees (plain_trees l) list.place)) ws then Ok (all_put list.place (order_of source list) new) else Err TooDeep)
+        (all_one gs m k) (fresh_added_one known [] gs m k)
+
+    go : (o : Option (Placed (Expression Span))) → sort_into_value l gs m (added_steps l gs m key s) o ≡ sort_into_value l gs k (added_steps l gs k key s) o
+    go None = added_steps_one l gs m k key s
+    go (Some v) =
+        let source = bytes_at v.place.file l.files in
+        let ls = lists_of v.place v.it in
+        into source (lists_say source ls) (last_of ls)
+
 steps_one : (l : Loaded) (key : List ℕ) (c : ValueChange) (m k : MayBeMade c) (s : Slot) → slot_steps l key c m s ≡ slot_steps l key c k s
 steps_one l key (change.Set g) m k s = ap (λ w. set_within l g w key s) (one_written g m k)
 steps_one l key (change.SetAll gs) m k s = set_all_steps_one l gs m k key s
 steps_one l key (change.Add gs) m k s = added_steps_one l gs m k key s
 steps_one l key (change.AddAfter g gs) m k s = insert_one l key g gs m k (placed_value (project l) s)
+steps_one l key (change.AddSorted gs) m k s = sorted_one l gs m k key s
 steps_one l key (change.Remove gs) m k s = refl
 steps_one l key (change.Replace old new) m k s = ap (λ w. exchange_steps l (record { old = old; new = new; written = w }) key s) (one_written new m k)
 steps_one l key change.Delete m k s = refl
@@ -200,6 +225,7 @@ changed_one l n key c m k s = by_one c m k (one c m k)
     by_one (change.SetAll gs) a b same = same
     by_one (change.Add gs) a b same = same
     by_one (change.AddAfter g gs) a b same = same
+    by_one (change.AddSorted gs) a b same = same
     by_one change.Delete a b same = same
 
 pub arguments_one : (l : Loaded) (n : ValueName) (c : ValueChange) (m k : MayBeMade c) → argument_steps l n c m ≡ argument_steps l n c k
@@ -342,6 +368,22 @@ module _ (p q : Loaded) (same_files : p.files ≡ q.files) (same_trees : trees p
       go None = add_same gs may key s
       go (Some v) = ap (λ fs. array_beside key v.place (lone_written v) (fresh_written (λ g. says (bytes_at v.place.file fs) g v.value) [] gs may)) same_files
 
+  sorted_same : (gs : List Given) (may : AllMayBeGiven gs) (key : List ℕ) (s : Slot) → sorted_steps p gs may key s ≡ sorted_steps q gs may key s
+  sorted_same gs may key s =
+      ap (λ r. sort_into_value p gs may r (placed_value (project p) s)) (added_steps_same gs may key s)
+      ∙ ap (sort_into_value p gs may (added_steps q gs may key s)) (alike (λ fs ts. placed_value (named_trees fs ts) s)) ∙ go (placed_value (project q) s)
+    where
+      into : (other : Result (List Step) Refusal) (c : CallRef) (ls : List (ValueList Span)) (o : Option (ValueList Span))
+          → sort_into_last p (bytes_at c.file p.files) (lists_say (bytes_at c.file p.files) ls) gs may other o ≡ sort_into_last q (bytes_at c.file q.files) (lists_say (bytes_at c.file q.files) ls) gs may other o
+      into other c ls None = refl
+      into other c ls (Some list) =
+          alike (λ fs ts. if list_all (λ w. has_room w.node (list_in_trees (map erase ts) list.place)) (all_written gs may)
+          then Ok (all_put list.place (order_of (bytes_at c.file fs) list) (fresh_added (lists_say (bytes_at c.file fs) ls) [] gs may)) else Err TooDeep)
+
+      go : (o : Option (Placed (Expression Span))) → sort_into_value p gs may (added_steps q gs may key s) o ≡ sort_into_value q gs may (added_steps q gs may key s) o
+      go None = refl
+      go (Some v) = into (added_steps q gs may key s) v.place (lists_of v.place v.it) (last_of (lists_of v.place v.it))
+
   from_same : (gs : List Given) (key : List ℕ) (gone : Result (List Step) Refusal) (c : CallRef) (e : Expression Span) → remove_from p key gs gone c e ≡ remove_from q key gs gone c e
   from_same gs key gone c e = ap (λ fs. remove_by key (bytes_at c.file fs) gs gone e (lists_of c e)) same_files
 
@@ -393,6 +435,7 @@ module _ (p q : Loaded) (same_files : p.files ≡ q.files) (same_trees : trees p
   slot_same key (change.SetAll gs) may s = set_all_steps_same gs may key s
   slot_same key (change.Add gs) may s = added_steps_same gs may key s
   slot_same key (change.AddAfter g gs) may s = insert_same key g gs may s
+  slot_same key (change.AddSorted gs) may s = sorted_same gs may key s
   slot_same key (change.Remove gs) may s = remove_same gs key s
   slot_same key (change.Replace old new) may s = exchange_same (exchange old new may) key s
   slot_same key change.Delete may s = refl
@@ -441,6 +484,7 @@ module _ (p q : Loaded) (same_files : p.files ≡ q.files) (same_trees : trees p
   changed_same n key (change.SetAll gs) may s = one_same n key (change.SetAll gs) may s
   changed_same n key (change.Add gs) may s = one_same n key (change.Add gs) may s
   changed_same n key (change.AddAfter g gs) may s = one_same n key (change.AddAfter g gs) may s
+  changed_same n key (change.AddSorted gs) may s = one_same n key (change.AddSorted gs) may s
   changed_same n key change.Delete may s = one_same n key change.Delete may s
 
   named_same : (n : ValueName) (key : List ℕ) (c : ValueChange) (may : MayBeMade c) (s : Slot) → named_steps p n key c may s ≡ named_steps q n key c may s

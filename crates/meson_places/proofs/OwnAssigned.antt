@@ -67,10 +67,8 @@ module _ (files : List File) (p : Project Span) where
   list_found : (cs : List CallRef) (d : CallRef) → first_that (has_lists p) cs ≡ Some d → IsThere d × Among cs d
   list_found cs d is = let f = first_among (has_lists p) cs d is in (with_lists d f.0, f.1)
 
-  changed_found : (c : ValueChange) (cs : List CallRef) (d : CallRef) → changed_value files p c cs ≡ Some d → IsThere d × Among cs d
-  changed_found (change.Set g) cs d is = absurd (let no : ⊥ = cc in no)
-  changed_found (change.SetAll gs) cs d is = absurd (let no : ⊥ = cc in no)
-  changed_found (change.Add gs) cs d is = go (first_that (says_all_at files p gs) cs) refl is
+  gaining_found : (gs : List Given) (cs : List CallRef) (d : CallRef) → or_first (first_that (says_all_at files p gs) cs) (first_that (has_lists p) cs) ≡ Some d → IsThere d × Among cs d
+  gaining_found gs cs d is = go (first_that (says_all_at files p gs) cs) refl is
     where
       go : (o : Option CallRef) → first_that (says_all_at files p gs) cs ≡ o → or_first o (first_that (has_lists p) cs) ≡ Some d → IsThere d × Among cs d
       go None all h = list_found cs d h
@@ -78,6 +76,12 @@ module _ (files : List File) (p : Project Span) where
           let same : c ≡ d = cc in
           let f = first_among (says_all_at files p gs) cs d (all ∙ ap Some same) in
           (with_all gs d f.0, f.1)
+
+  changed_found : (c : ValueChange) (cs : List CallRef) (d : CallRef) → changed_value files p c cs ≡ Some d → IsThere d × Among cs d
+  changed_found (change.Set g) cs d is = absurd (let no : ⊥ = cc in no)
+  changed_found (change.SetAll gs) cs d is = absurd (let no : ⊥ = cc in no)
+  changed_found (change.Add gs) cs d is = gaining_found gs cs d is
+  changed_found (change.AddSorted gs) cs d is = gaining_found gs cs d is
   changed_found (change.AddAfter g gs) cs d is = one_found (g ∷ []) cs d is
   changed_found (change.Remove gs) cs d is = absurd (let no : ⊥ = cc in no)
   changed_found (change.Replace old new) cs d is = absurd (let no : ⊥ = cc in no)

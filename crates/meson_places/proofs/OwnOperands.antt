@@ -119,6 +119,7 @@ module _ (l : Loaded) (s : Slot) (sum : CallRef) (is_sum : slot_place (project l
 
   value_at : (c : ValueChange) (v : CallRef) → operand_value_of fs p c (Some sum) ≡ Ok (Some v) → Owns v
   value_at (change.Add gs) v is = let found : gaining_at fs p gs sum ≡ Some v = cc in gaining gs v found
+  value_at (change.AddSorted gs) v is = let found : gaining_at fs p gs sum ≡ Some v = cc in gaining gs v found
   value_at (change.AddAfter g gs) v is = losing (g ∷ []) v is
   value_at (change.Remove gs) v is = losing gs v is
   value_at (change.Replace old new) v is = losing (old ∷ []) v is

@@ -249,6 +249,7 @@ pub changes_own_value : ChangesOwnValue
 changes_own_value l (change.Set g) s t h = set l s g t h
 changes_own_value l (change.SetAll gs) s t h = inl (let same : s ≡ t = cc in sym same)
 changes_own_value l (change.Add gs) s t h = added l s gs t (behind_slot l.files (project l) gs s) refl h
+changes_own_value l (change.AddSorted gs) s t h = added l s gs t (behind_slot l.files (project l) gs s) refl h
 changes_own_value l (change.AddAfter g gs) s t h = said l s (g ∷ []) t (behind_slot l.files (project l) (g ∷ []) s) refl h
 changes_own_value l (change.Remove gs) s t h = said l s gs t (behind_slot l.files (project l) gs s) refl h
 changes_own_value l (change.Replace old new) s t h = said l s (old ∷ []) t (behind_slot l.files (project l) (old ∷ []) s) refl h

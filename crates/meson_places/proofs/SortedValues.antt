@@ -19,7 +19,7 @@ use Rattle.meson_calls.specs.Project.{Placed, child, expression_at}
 use Rattle.meson_steps.specs.ListSteps.{AreDoable, MayStandBetween, none}
 use Rattle.meson_steps.specs.OrderedLists.{Added, Ordered, all_elements, all_put, comment_after, first_of, lone_token, lone_written, sort_keys}
 use Rattle.meson_steps.specs.ResultLimits.{plain_trees}
-use Rattle.meson_steps.specs.Steps.{Step, all_stepped}
+use Rattle.meson_steps.specs.Steps.{Step, all_stepped, changed_at}
 use Rattle.meson_steps.specs.declared.given.Given.{Given}
 use Rattle.meson_steps.proofs.PlainTrees.{trees_stand}
 use Rattle.meson_steps.proofs.WithOne.{change_there}
@@ -33,6 +33,7 @@ use Rattle.meson_places.specs.NewElements as places
 use Rattle.meson_places.specs.Several.{AllMayBeGiven}
 use Rattle.meson_places.specs.Slots.{elements_in, nth_child, child_of}
 use Rattle.meson_places.specs.SortedAdditions.{fresh_added, given_key, order_of, sort_into_last, sort_into_list, sort_into_lists, sort_into_value, sorted_steps}
+use Rattle.meson_places.specs.SortedEffects.{AlsoAmong}
 use Rattle.meson_places.specs.ValueLists.{ValueList, last_of, lists_of}
 use Rattle.meson_places.specs.Values.{written_given}
 use Rattle.meson_places.proofs.BetweenDoable.{placed_there}
@@ -43,6 +44,7 @@ use Rattle.meson_places.proofs.LoneValues.{lone_low, lone_stands}
 use Rattle.meson_places.proofs.NewElementsDoable.{Fits, erased_open}
 use Rattle.meson_places.proofs.SeveralDoable.{AllLow, all_room, deepest, lower}
 use Rattle.meson_places.proofs.SortedLists.{AllFitting, IsFirst, Suits, put_all_there}
+use Rattle.meson_places.proofs.SortedOrder.{AllSort, among_all, erased_keys, fits_ascend, fresh_sort, stays_in_order}
 use Rattle.meson_places.proofs.ValueListsThere.{IsOpen, ListThere, last_there, lists_there}
 
 -- ---- the order of a list that is there
@@ -122,21 +124,23 @@ module _ (c : CallRef) (b : Bracket) (limit : ℕ) (known : Given → Bool) wher
       go false fit = let l = low.0 in (record { writes = given_written g mays.0; level = given_level g mays.0; small = omega (arith, l, some) }, fit)
 
 -- The steps may be done, and this is left.
-record Puts (c : CallRef) (o : Ordered) (new : List Added) (trees : List Plain) (steps : List Step) : Type 0 where
-  doable : AreDoable steps trees
-  left : (after : List Plain) → all_stepped steps trees ≡ Some after → HasSorted c o new trees after
+pub record Puts (c : CallRef) (o : Ordered) (new : List Added) (trees : List Plain) (steps : List Step) : Type 0 where
+  pub doable : AreDoable steps trees
+  pub left : (after : List Plain) → all_stepped steps trees ≡ Some after → AlsoAmong c o new trees after
 
 module _ (c : CallRef) (b : Bracket) (limit : ℕ) (trees : List Plain) (all : All MayStandBetween trees) (s : ListStands c b limit trees) (o : Ordered) (ys : List (Argument Nowhere)) (are : xs c b limit trees all s ≡ ys) (u : Suits limit o ys)
-    (opened : IsOpen b ys) where
-  puts : (new : List Added) → AllFitting c b limit new → Puts c o new trees (all_put c o new)
-  puts [] fit = record { doable = none trees; left = λ after done. let same : after ≡ trees = cc in same }
-  puts (a ∷ more) fit =
+    (opened : IsOpen b ys) (keys : sort_keys ys ≡ o.keys) where
+  puts : (new : List Added) → AllFitting c b limit new → AllSort new → Puts c o new trees (all_put c o new)
+  puts [] fit sorts = record { doable = none trees; left = λ after done. let same : after ≡ trees = cc in same }
+  puts (a ∷ more) fit sorts =
       let steps = all_put c o (a ∷ more) in
       let lead = put_all_there c b limit a more fit.0 fit.1 o ys u opened trees all s are in
       record {
         doable = subst (λ l. AreDoable l trees) (append-nil steps) (lead.done.doable [] (none lead.now));
         left = λ after done.
-            let now = s.place.back (with_elements s.place.list (all_elements o (a ∷ more) (elements s.place.list))) in
+            let here = elements s.place.list in
+            let now = s.place.back (with_elements s.place.list (all_elements o (a ∷ more) here)) in
+            let here_keys : sort_keys here ≡ o.keys = ap sort_keys are ∙ keys in
             let same : lead.now ≡ after = some-injective lead.now after (sym lead.done.made ∙ done) in
             let whole = ap (λ es. slice_set trees c.file (s.place.back (with_elements s.place.list (all_elements o (a ∷ more) es)))) (sym are) in
             record {
@@ -144,6 +148,10 @@ module _ (c : CallRef) (b : Bracket) (limit : ℕ) (trees : List Plain) (all : A
               is_tree = s.is_tree;
               place = s.place;
               is_place = s.is_place;
+              now = all_elements o (a ∷ more) here;
+              are = refl;
+              among = among_all o (a ∷ more) here;
+              in_order = λ i. stays_in_order o (a ∷ more) here u.from here_keys sorts (fits_ascend o a.key (map (λ d. d.key) more) i) i;
               is_after = change_there (λ t. Some now) trees c.file s.tree now s.is_tree refl ∙ ap Some (sym (sym same ∙ lead.is_now ∙ whole));
             };
       }
@@ -171,19 +179,22 @@ module _ (old : Loaded) (is : IsProject old) (gs : List Given) (mays : AllMayBeG
           let low = lower (expression_depth d.node) (s.limit - 1) (omega (arith, s.room)) gs mays d.low in
           let are = s.are ∙ ap (map erase_argument) there.are in
           puts list.place there.list.bracket s.limit before stand s.stands (order_of source list) (map erase_argument list.elements) are (suits old is list there s.limit some source)
-          (erased_open there.list.bracket list.elements there.opened) new (added_fit list.place there.list.bracket s.limit known [] gs mays low some)
+          (erased_open there.list.bracket list.elements there.opened) (erased_keys list.elements) new
+          (added_fit list.place there.list.bracket s.limit known [] gs mays low some) (fresh_sort known [] gs mays)
 
       go : (b : Bool) → all_room before list.place gs mays ≡ b → (if b then Ok all else Err TooDeep) ≡ Ok steps → Puts list.place (order_of source list) new before steps
       go true room m = let same : all ≡ steps = cc in subst (Puts list.place (order_of source list) new before) same (put room)
       go false room m = absurd (let no : ⊥ = cc in no)
 
   module _ (otherwise : Result (List Step) Refusal) (steps : List Step) where
-    record Into (c : CallRef) (e : Expression Span) : Type 0 where
-      list : ValueList Span
-      is_last : last_of (lists_of c e) ≡ Some list
-      puts : Puts list.place (order_of (bytes_at c.file old.files) list) (fresh_added (lists_say (bytes_at c.file old.files) (lists_of c e)) [] gs mays) before steps
+    pub record Into (c : CallRef) (e : Expression Span) : Type 0 where
+      pub list : ValueList Span
+      pub is_last : last_of (lists_of c e) ≡ Some list
+      pub puts : Puts list.place (order_of (bytes_at c.file old.files) list) (fresh_added (lists_say (bytes_at c.file old.files) (lists_of c e)) [] gs mays) before steps
 
-    into_value : (c : CallRef) (e : Expression Span) → expression_at (project old) c ≡ Some e → sort_into_lists old (bytes_at c.file old.files) gs mays otherwise (lists_of c e) ≡ Ok steps → Into c e ⊎ (otherwise ≡ Ok steps)
+    -- into the last list of a value; or it has no list
+    pub into_value : (c : CallRef) (e : Expression Span) → expression_at (project old) c ≡ Some e → sort_into_lists old (bytes_at c.file old.files) gs mays otherwise (lists_of c e) ≡ Ok steps
+        → Into c e ⊎ ((last_of (lists_of c e) ≡ None) × (otherwise ≡ Ok steps))
     into_value c e at_ made = go (last_of (lists_of c e)) refl made
       where
         source : List ℕ
@@ -192,25 +203,36 @@ module _ (old : Loaded) (is : IsProject old) (gs : List Given) (mays : AllMayBeG
         known : Given → Bool
         known = lists_say source (lists_of c e)
 
-        go : (o : Option (ValueList Span)) → last_of (lists_of c e) ≡ o → sort_into_last old source known gs mays otherwise o ≡ Ok steps → Into c e ⊎ (otherwise ≡ Ok steps)
-        go None no_list m = inr m
+        go : (o : Option (ValueList Span)) → last_of (lists_of c e) ≡ o → sort_into_last old source known gs mays otherwise o ≡ Ok steps → Into c e ⊎ ((last_of (lists_of c e) ≡ None) × (otherwise ≡ Ok steps))
+        go None no_list m = inr (no_list, m)
         go (Some l) found m =
             inl (record { list = l; is_last = found; puts = to_list source known l (last_there (project old) (lists_of c e) (lists_there (project old) c e at_) l found) steps m })
 
   pub sorted_doable : (key : List ℕ) (s : Slot) (steps : List Step) → (added_steps old gs mays key s ≡ Ok steps → AreDoable steps before) → sorted_steps old gs mays key s ≡ Ok steps → AreDoable steps before
   sorted_doable key s steps other made = go (placed_value (project old) s) refl made
     where
-      by : (v : Placed (Expression Span)) → Into (added_steps old gs mays key s) steps v.place v.it ⊎ (added_steps old gs mays key s ≡ Ok steps) → AreDoable steps before
+      by : (v : Placed (Expression Span)) → Into (added_steps old gs mays key s) steps v.place v.it ⊎ ((last_of (lists_of v.place v.it) ≡ None) × (added_steps old gs mays key s ≡ Ok steps)) → AreDoable steps before
       by v (inl i) = i.puts.doable
-      by v (inr m) = other m
+      by v (inr m) = other m.1
 
       go : (o : Option (Placed (Expression Span))) → placed_value (project old) s ≡ o → sort_into_value old gs mays (added_steps old gs mays key s) o ≡ Ok steps → AreDoable steps before
       go None at_ m = other m
       go (Some v) at_ m = by v (into_value (added_steps old gs mays key s) steps v.place v.it (placed_there old s v at_) m)
+
+has_sorted : (c : CallRef) (o : Ordered) (new : List Added) (before after : List Plain) → AlsoAmong c o new before after → HasSorted c o new before after
+has_sorted c o [] before after same = same
+has_sorted c o (a ∷ more) before after h = record {
+  tree = h.tree;
+  is_tree = h.is_tree;
+  place = h.place;
+  is_place = h.is_place;
+  is_after = ap (λ es. changed_at c.file (λ t. Some (h.place.back (with_elements h.place.list es))) before) (sym h.are) ∙ h.is_after;
+}
 
 pub sorts_into_one_list : SortsIntoOneList
 sorts_into_one_list l is gs may otherwise c e at_ list last steps made after done =
     let source = bytes_at c.file l.files in
     let known = lists_say source (lists_of c e) in
     let there = last_there (project l) (lists_of c e) (lists_there (project l) c e at_) list last in
-    (to_list l is gs may source known list there steps (sym (ap (sort_into_last l source known gs may otherwise) last) ∙ made)).left after done
+    let puts = to_list l is gs may source known list there steps (sym (ap (sort_into_last l source known gs may otherwise) last) ∙ made) in
+    has_sorted list.place (order_of source list) (fresh_added known [] gs may) (plain_trees l) after (puts.left after done)

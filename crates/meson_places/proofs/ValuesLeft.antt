@@ -1,16 +1,17 @@
 -- What a change of one value leaves.
-use Rattle.std.proofs.Common.{Err, List, None, Ok, Option, Result, Some, ℕ, ◌∙◌, ◌∷◌, ◌≡◌, [], ap, false, inl, inr, refl, sym, true}
-use Rattle.std.specs.Prelude.{Bool, ◌⊎◌, if◌then◌else◌}
+use Rattle.std.proofs.Common.{Err, List, None, Ok, Option, Result, Some, ℕ, ◌∙◌, ◌∷◌, ◌≡◌, [], ap, false, inl, inr, refl, subst, sym, true}
+use Rattle.std.specs.Prelude.{Bool, ◌⊎◌, if◌then◌else◌, option_and_then, option_map}
 use Rattle.meson_lex.specs.declared.kinds.Span.{Span}
 use Rattle.meson_splice.specs.Files.{bytes_at}
 use Rattle.meson_splice.specs.Patch.{then_ok}
 use Rattle.meson_syntax.specs.Tree.{Expression, Nowhere, Plain, erase_expression}
+use Rattle.meson_syntax.proofs.parsing.Steps.{some-injective}
 use Rattle.meson_edit.specs.Edits.{Replace, Written}
 use Rattle.meson_calls.specs.declared.call.CallRef.{CallRef}
 use Rattle.meson_calls.specs.declared.refusal.Refusal.{Refusal}
 use Rattle.meson_calls.specs.declared.refusal.Refusal.TheVariants.{NotLiteral, TooDeep}
 use Rattle.meson_calls.specs.Loading.{IsProject, Loaded, project}
-use Rattle.meson_calls.specs.Project.{child, expression_at}
+use Rattle.meson_calls.specs.Project.{child, expression_at, placed}
 use Rattle.meson_steps.specs.declared.argument.ValueChange.{ValueChange}
 use Rattle.meson_steps.specs.declared.argument.ValueChange.TheVariants as change
 use Rattle.meson_steps.specs.declared.argument.ValueName.{ValueName}
@@ -24,18 +25,21 @@ use Rattle.meson_places.specs.Arguments.{MayBeMade, argument_steps, changed_step
 use Rattle.meson_places.specs.TargetNames.{checked_name}
 use Rattle.meson_places.specs.Changes.{element_child, set_steps, set_there}
 use Rattle.meson_places.specs.Equality.{lists_say, says}
-use Rattle.meson_places.specs.AssignedArrays.{added_steps}
+use Rattle.meson_places.specs.AssignedArrays.{added_by, added_steps, lone_in}
 use Rattle.meson_places.specs.AssignedEffects.{AllChanged, IsNamed}
-use Rattle.meson_places.specs.Effects.{AddedBeside, AddedTo, AssignedBeside, AssignedSet, ElementAdded, IsBeside, OneChanged, SetLeft, SlotLeft, ValueLeft, WholeAdded}
+use Rattle.meson_places.specs.Effects.{AddedBeside, AddedTo, AssignedBeside, AssignedSet, ElementAdded, ElementSorted, IsBeside, OneChanged, SetLeft, SlotLeft, ValueLeft, WholeAdded, WholeSorted}
 use Rattle.meson_places.specs.AssignedValues.{assigned_room}
 use Rattle.meson_places.proofs.AssignedLeft.{assigned_set}
 use Rattle.meson_places.proofs.AssignedLone.{added_left, assigned_array_left}
 use Rattle.meson_places.specs.Assignments.{changed_slot}
+use Rattle.meson_places.specs.Behind.{placed_at}
 use Rattle.meson_places.specs.Names.{the_place}
 use Rattle.meson_places.specs.NewElements.{add_steps, add_there, add_to_last, add_to_lone, add_to_value, add_to_whole, array_with, beside, fresh_written, lone_token}
 use Rattle.meson_places.specs.Room.{if_room}
 use Rattle.meson_places.specs.Several.{AllMayBeGiven}
 use Rattle.meson_places.specs.Slots.{Child, the_slot}
+use Rattle.meson_places.specs.SortedAdditions.{sort_into_value, sorted_steps}
+use Rattle.meson_places.specs.SortedEffects.{SortedInto}
 use Rattle.meson_places.specs.ValueLists.{ValueList, last_of, lists_of}
 use Rattle.meson_places.specs.Values.{written_given}
 use Rattle.meson_places.proofs.AllMade.{each_removed, each_replaced}
@@ -52,6 +56,7 @@ use Rattle.meson_places.proofs.KeysLeft.{array_added, array_set, key_set}
 use Rattle.meson_places.proofs.SetValues.{deletes_one_element, keeps_kinds, set_one, sets_one_value}
 use Rattle.meson_places.proofs.OwnAssigned.{changes_one_value}
 use Rattle.meson_places.proofs.SlotsThere.{slots_are_there}
+use Rattle.meson_places.proofs.SortedValues.{Into, into_value}
 use Rattle.meson_places.proofs.WithRoom.{with_room}
 
 -- a value that is there
@@ -147,6 +152,80 @@ module _ (l : Loaded) (gs : List Given) (may : AllMayBeGiven gs) (key : List ℕ
       go (inl w) = w
       go (inr b) = record { may = may; value = b.0; is_value = b.1; added = inr b.2 }
 
+-- values that are put in their places
+module _ (l : Loaded) (is : IsProject l) (gs : List Given) (may : AllMayBeGiven gs) (key : List ℕ) (steps : List Step) (after : List Plain) (done : all_stepped steps (plain_trees l) ≡ Some after) where
+  abbrev Beside : (c : CallRef) (e : Expression Span) (Left : Type 0) → Type 0
+  Beside c e Left = SortedInto l gs may c e (plain_trees l) after ⊎ Left
+
+  -- where the value has no list, none of its lists has the values
+  no_added : (c : CallRef) (e : Expression Span) (Left : Type 0) → last_of (lists_of c e) ≡ None → AddedTo l gs may c e (plain_trees l) after ⊎ Left → Beside c e Left
+  no_added c e Left no_list (inl a) = let none : None ≡ Some a.list = sym no_list ∙ a.is_last in absurd (let no : ⊥ = cc in no)
+  no_added c e Left no_list (inr b) = inr b
+
+  sorted_value : (otherwise : Result (List Step) Refusal) (c : CallRef) (e : Expression Span) (Left : Type 0) → expression_at (project l) c ≡ Some e
+      → (otherwise ≡ Ok steps → AddedTo l gs may c e (plain_trees l) after ⊎ Left) → sort_into_value l gs may otherwise (Some (placed c e)) ≡ Ok steps → Beside c e Left
+  sorted_value otherwise c e Left at_ other made = go (into_value l is gs may otherwise steps c e at_ made)
+    where
+      go : Into l is gs may otherwise steps c e ⊎ ((last_of (lists_of c e) ≡ None) × (otherwise ≡ Ok steps)) → Beside c e Left
+      go (inl i) = inl (record { list = i.list; is_last = i.is_last; now = i.puts.left after done })
+      go (inr m) = no_added c e Left m.0 (other m.1)
+
+  element_sorted : (list : CallRef) (n : ℕ) → sorted_steps l gs may key (slot.Element list n) ≡ Ok steps → ElementSorted l gs list n (plain_trees l) after
+  element_sorted list n made = go (element_child (project l) list n) refl made
+    where
+      otherwise : Result (List Step) Refusal
+      otherwise = add_steps l gs may key (slot.Element list n)
+
+      go : (o : Option (Child Span)) → element_child (project l) list n ≡ o
+          → sort_into_value l gs may otherwise (option_and_then (placed_at (project l)) (option_map (λ v. child list v.number) o)) ≡ Ok steps → ElementSorted l gs list n (plain_trees l) after
+      go None there m = let none : add_there l gs may key list n None ≡ Ok steps = sym (ap (add_there l gs may key list n) there) ∙ m in absurd (let no : ⊥ = cc in no)
+      go (Some v) there m =
+          let at_ = (element_there (project l) list n v there).at_child in
+          let lone = add_to_lone l gs may key list n v.value (lone_token v.value) in
+          record {
+            may = may;
+            value = v;
+            is_value = there;
+            added = sorted_value otherwise (child list v.number) v.value (AddedBeside l gs may list n v.value (plain_trees l) after) at_
+                (λ h. to_value l gs may key steps after done (child list v.number) v.value at_ lone (AddedBeside l gs may list n v.value (plain_trees l) after)
+                (lone_left l gs may key steps after done list n v.value) (sym (ap (add_there l gs may key list n) there) ∙ h))
+                (ap (λ o. sort_into_value l gs may otherwise (option_map (placed (child list v.number)) o)) (sym at_) ∙ m);
+          }
+
+  whole_sorted : (c : CallRef) → sorted_steps l gs may key (slot.Whole c) ≡ Ok steps → WholeSorted l gs c (plain_trees l) after
+  whole_sorted c made = go (expression_at (project l) c) refl made
+    where
+      otherwise : Result (List Step) Refusal
+      otherwise = added_steps l gs may key (slot.Whole c)
+
+      to_lists : (e : Expression Span) → expression_at (project l) c ≡ Some e → add_steps l gs may key (slot.Whole c) ≡ Ok steps → AddedTo l gs may c e (plain_trees l) after
+      to_lists e at_ h =
+          one (to_value l gs may key steps after done c e at_ (Err (NotLiteral key)) ⊥ (λ refused. let no : ⊥ = cc in no) (sym (ap (add_to_whole l gs may key c) at_) ∙ h))
+        where
+          one : AddedTo l gs may c e (plain_trees l) after ⊎ ⊥ → AddedTo l gs may c e (plain_trees l) after
+          one (inl a) = a
+          one (inr never) = absurd never
+
+      added_of : (e : Expression Span) → expression_at (project l) c ≡ Some e → otherwise ≡ Ok steps → AddedTo l gs may c e (plain_trees l) after ⊎ AssignedBeside l gs may c e (plain_trees l) after
+      added_of e at_ h = by (added_left l gs may key steps after done c (AddedTo l gs may c e (plain_trees l) after) (to_lists e at_) h)
+        where
+          by : AddedTo l gs may c e (plain_trees l) after ⊎ ((x : Expression Span) × (expression_at (project l) c ≡ Some x) × AssignedBeside l gs may c x (plain_trees l) after)
+              → AddedTo l gs may c e (plain_trees l) after ⊎ AssignedBeside l gs may c e (plain_trees l) after
+          by (inl a) = inl a
+          by (inr b) = inr (subst (λ x. AssignedBeside l gs may c x (plain_trees l) after) (some-injective b.0 e (sym b.1 ∙ at_)) b.2)
+
+      go : (o : Option (Expression Span)) → expression_at (project l) c ≡ o → sort_into_value l gs may otherwise (option_map (placed c) o) ≡ Ok steps → WholeSorted l gs c (plain_trees l) after
+      go None at_ m =
+          let none : add_to_whole l gs may key c None ≡ Ok steps =
+          sym (ap (λ o. added_by l gs may key (slot.Whole c) (lone_in (project l) c o)) at_ ∙ ap (add_to_whole l gs may key c) at_) ∙ m in
+          absurd (let no : ⊥ = cc in no)
+      go (Some e) at_ m = record {
+        may = may;
+        value = e;
+        is_value = at_;
+        added = sorted_value otherwise c e (AssignedBeside l gs may c e (plain_trees l) after) at_ (added_of e at_) m;
+      }
+
 slot_left : (l : Loaded) → IsProject l → (key : List ℕ) (c : ValueChange) (may : MayBeMade c) (s : Slot) (steps : List Step) (after : List Plain) → slot_steps l key c may s ≡ Ok steps
     → all_stepped steps (plain_trees l) ≡ Some after → SlotLeft l c s (plain_trees l) after
 slot_left l is key (change.Set g) may (slot.Element list n) steps after made done = set_left l g may key list n steps after made done
@@ -159,6 +238,9 @@ slot_left l is key (change.Add gs) may (slot.Element list n) steps after made do
 slot_left l is key (change.Add gs) may (slot.Absent list k) steps after made done = array_added l gs may steps after done list k made
 slot_left l is key (change.Add gs) may (slot.Whole c) steps after made done = whole_added l gs may key steps after done c made
 slot_left l is key (change.AddAfter g gs) may s steps after made done = values_put_behind l g gs may key s steps after made done
+slot_left l is key (change.AddSorted gs) may (slot.Element list n) steps after made done = element_sorted l is gs may key steps after done list n made
+slot_left l is key (change.AddSorted gs) may (slot.Absent list k) steps after made done = array_added l gs may steps after done list k made
+slot_left l is key (change.AddSorted gs) may (slot.Whole c) steps after made done = whole_sorted l is gs may key steps after done c made
 slot_left l is key (change.Remove gs) may (slot.Element list n) steps after made done = element_removed l is steps after done gs key list n made
 slot_left l is key (change.Remove gs) may (slot.Absent list k) steps after made done = tt
 slot_left l is key (change.Remove gs) may (slot.Whole c) steps after made done = whole_removed l is steps after done gs key c made
@@ -193,6 +275,7 @@ module _ (l : Loaded) (is : IsProject l) (n : ValueName) (key : List ℕ) (s : S
   changed_left (change.SetAll gs) may made = inl (one_left (change.SetAll gs) may made)
   changed_left (change.Add gs) may made = inl (one_left (change.Add gs) may made)
   changed_left (change.AddAfter g gs) may made = inl (one_left (change.AddAfter g gs) may made)
+  changed_left (change.AddSorted gs) may made = inl (one_left (change.AddSorted gs) may made)
   changed_left change.Delete may made = inl (one_left change.Delete may made)
 
 pub values_left : (l : Loaded) → IsProject l → (n : ValueName) (c : ValueChange) (may : MayBeMade c) (steps : List Step) (after : List Plain) → argument_steps l n c may ≡ Ok steps

@@ -26,6 +26,7 @@ use Rattle.meson_places.specs.Replacements.{exchange, exchange_steps}
 use Rattle.meson_places.specs.Room.{has_room, list_in_trees}
 use Rattle.meson_places.specs.Several.{AllMayBeGiven}
 use Rattle.meson_places.specs.Slots.{the_slot}
+use Rattle.meson_places.specs.SortedAdditions.{sorted_steps}
 use Rattle.meson_places.specs.TargetNames.{checked_name}
 use Rattle.meson_steps.specs.GivenWords.{MayBeGiven}
 use Rattle.meson_places.specs.Values.{written_given}
@@ -54,6 +55,7 @@ MayBeMade (change.Set g) = MayBeGiven g
 MayBeMade (change.SetAll gs) = AllMayBeGiven gs
 MayBeMade (change.Add gs) = AllMayBeGiven gs
 MayBeMade (change.AddAfter g gs) = AllMayBeGiven gs
+MayBeMade (change.AddSorted gs) = AllMayBeGiven gs
 MayBeMade (change.Remove gs) = Unit {0}
 MayBeMade (change.Replace old new) = MayBeGiven new
 MayBeMade change.Delete = Unit {0}
@@ -63,6 +65,7 @@ slot_steps l key (change.Set g) may s = set_within l g (written_given g may) key
 slot_steps l key (change.SetAll gs) may s = set_all_steps l gs may key s
 slot_steps l key (change.Add gs) may s = added_steps l gs may key s
 slot_steps l key (change.AddAfter g gs) may s = insert_steps l g gs may key s
+slot_steps l key (change.AddSorted gs) may s = sorted_steps l gs may key s
 slot_steps l key (change.Remove gs) may s = remove_steps l gs key s
 slot_steps l key (change.Replace old new) may s = exchange_steps l (exchange old new may) key s
 slot_steps l key change.Delete may s = delete_steps s
@@ -72,7 +75,8 @@ abbrev pub one_changed : Loaded → ValueName → (key : List ℕ) → (c : Valu
 one_changed l n key c may s = then_ok (changed_slot l.files (project l) n c s) (slot_steps l key c may)
 
 -- the same, unless elements of all values that are assigned to a variable are removed or replaced
-abbrev pub changed_by : Loaded → ValueName → (key : List ℕ) → (c : ValueChange) → MayBeMade c → Slot → (one : Result (List Step) Refusal) → Result (List Step) Refusal
+abbrev pub changed_by : Loaded → ValueName → (key : List ℕ) → (c : ValueChange) → MayBeMade c → Slot → (one : Result (List Step) Refusal)
+    → Result (List Step) Refusal
 changed_by l n key (change.Remove gs) may s one = remove_from_all l n key gs s one
 changed_by l n key (change.Replace old new) may s one = replace_in_all l n key (exchange old new may) s one
 changed_by l n key _ may s one = one

@@ -44,6 +44,7 @@ added_beside (Some folder) c ds = Ok (searched (Some c.file) ds)
 -- Values are added to the first value that has a list; unless another one has them all. They are put after a value in the first one that has it.
 abbrev pub changed_value : List File → Project Span → ValueChange → List CallRef → Option CallRef
 changed_value files p (change.Add gs) cs = or_first (first_that (says_all_at files p gs) cs) (first_that (has_lists p) cs)
+changed_value files p (change.AddSorted gs) cs = or_first (first_that (says_all_at files p gs) cs) (first_that (has_lists p) cs)
 changed_value files p (change.AddAfter g gs) cs = first_that (says_one_at files p (g ∷ [])) cs
 changed_value files p _ cs = None
 

@@ -129,6 +129,7 @@ set_slot files p (given.Code code) s = Ok s
 abbrev pub slot_behind : List File → Project Span → ValueChange → Slot → Result Slot Refusal
 slot_behind files p (change.Set g) s = set_slot files p g s
 slot_behind files p (change.Add gs) s = added_slot files p s (behind_slot files p gs s)
+slot_behind files p (change.AddSorted gs) s = added_slot files p s (behind_slot files p gs s)
 slot_behind files p (change.AddAfter g gs) s = said_slot files p (g ∷ []) s (behind_slot files p (g ∷ []) s)
 slot_behind files p (change.Remove gs) s = said_slot files p gs s (behind_slot files p gs s)
 slot_behind files p (change.Replace old new) s = said_slot files p (old ∷ []) s (behind_slot files p (old ∷ []) s)

@@ -31,11 +31,12 @@ use Rattle.meson_places.specs.NewElements.{array_with, fresh_written, lone_token
 use Rattle.meson_places.specs.SaidElements.{elements_left, says_one, value_left}
 use Rattle.meson_places.specs.Several.{AllMayBeGiven, written_array}
 use Rattle.meson_places.specs.Slots.{Child, the_slot}
+use Rattle.meson_places.specs.SortedEffects.{SortedInto}
 use Rattle.meson_places.specs.ValueLists.{ValueList, last_of, lists_of}
 use Rattle.meson_places.specs.Values.{given_node, keeps_kind}
 
--- A value that was there may be set to the given one. Where it keeps its kind, that is the value now, and all else is as it was. Where a text takes the place of
--- an array of texts, it is the only element of the array.
+-- A value that was there may be set to the given one. Where it keeps its kind, that is the value now, and all else is as it was. Where a text takes the place
+-- of an array of texts, it is the only element of the array.
 pub record SetLeft (old : Loaded) (g : Given) (list : CallRef) (n : ℕ) (before after : List Plain) : Type 0 where
   pub may_set : MaySet old g list n
   pub may : MayBeGiven g
@@ -43,8 +44,8 @@ pub record SetLeft (old : Loaded) (g : Given) (list : CallRef) (n : ℕ) (before
   pub alone : (v : Child Span) → element_child (project old) list n ≡ Some v → keeps_kind g v.value ≡ false → replaces_texts g v.value ≡ true
       → HasValues (child list v.number) (given_node g may ∷ []) before after
 
--- An assigned value was there, and may be set to the given one. Where it keeps its kind, the assignment assigns that value now, and all else is as it was. Where
--- a text takes the place of an array of texts, it is the only element of the array.
+-- An assigned value was there, and may be set to the given one. Where it keeps its kind, the assignment assigns that value now, and all else is as it was.
+-- Where a text takes the place of an array of texts, it is the only element of the array.
 pub record AssignedSet (old : Loaded) (g : Given) (c : CallRef) (before after : List Plain) : Type 0 where
   pub value : Expression Span
   pub is_value : expression_at (project old) c ≡ Some value
@@ -70,7 +71,8 @@ pub record AddedBeside (old : Loaded) (gs : List Given) (may : AllMayBeGiven gs)
     : Type 0 where
   pub token : List ℕ
   pub is_token : lone_token e ≡ Some token
-  pub now : IsBeside list n (record { bytes = token; node = erase_expression e }) (fresh_written (λ g. says (bytes_at list.file old.files) g e) [] gs may) before after
+  pub now : IsBeside list n (record { bytes = token; node = erase_expression e }) (fresh_written (λ g. says (bytes_at list.file old.files) g e) [] gs may)
+      before after
 
 -- so it is of the value of an element
 pub record ElementAdded (old : Loaded) (gs : List Given) (list : CallRef) (n : ℕ) (before after : List Plain) : Type 0 where
@@ -85,11 +87,13 @@ IsAssignedBeside c old [] before after = after ≡ before
 IsAssignedBeside c old (w ∷ ws) before after = AssignedIs (statement_of c) (array_with old (w ∷ ws)).node before after
 
 -- So it is of a literal or an identifier that is assigned.
-pub record AssignedBeside (old : Loaded) (gs : List Given) (may : AllMayBeGiven gs) (c : CallRef) (e : Expression Span) (before after : List Plain) : Type 0 where
+pub record AssignedBeside (old : Loaded) (gs : List Given) (may : AllMayBeGiven gs) (c : CallRef) (e : Expression Span) (before after : List Plain)
+    : Type 0 where
   pub assigned : is_assigned (project old) c ≡ true
   pub token : List ℕ
   pub is_token : lone_token e ≡ Some token
-  pub now : IsAssignedBeside c (record { bytes = token; node = erase_expression e }) (fresh_written (λ g. says (bytes_at c.file old.files) g e) [] gs may) before after
+  pub now : IsAssignedBeside c (record { bytes = token; node = erase_expression e }) (fresh_written (λ g. says (bytes_at c.file old.files) g e) [] gs may)
+      before after
 
 -- of the expression at a place, which has a list, or is assigned
 pub record WholeAdded (old : Loaded) (gs : List Given) (c : CallRef) (before after : List Plain) : Type 0 where
@@ -97,6 +101,21 @@ pub record WholeAdded (old : Loaded) (gs : List Given) (c : CallRef) (before aft
   pub value : Expression Span
   pub is_value : expression_at (project old) c ≡ Some value
   pub added : AddedTo old gs may c value before after ⊎ AssignedBeside old gs may c value before after
+
+-- Values are put in their places in the last list of the value of an element. A literal or an identifier is the array of it and the new ones, as without an
+-- order.
+pub record ElementSorted (old : Loaded) (gs : List Given) (list : CallRef) (n : ℕ) (before after : List Plain) : Type 0 where
+  pub may : AllMayBeGiven gs
+  pub value : Child Span
+  pub is_value : element_child (project old) list n ≡ Some value
+  pub added : SortedInto old gs may (child list value.number) value.value before after ⊎ AddedBeside old gs may list n value.value before after
+
+-- so it is of the expression at a place
+pub record WholeSorted (old : Loaded) (gs : List Given) (c : CallRef) (before after : List Plain) : Type 0 where
+  pub may : AllMayBeGiven gs
+  pub value : Expression Span
+  pub is_value : expression_at (project old) c ≡ Some value
+  pub added : SortedInto old gs may c value before after ⊎ AssignedBeside old gs may c value before after
 
 -- A literal that was assigned has become the array of several values.
 pub record AssignedArray (old : Loaded) (gs : List Given) (c : CallRef) (before after : List Plain) : Type 0 where
@@ -146,7 +165,8 @@ pub record ListsExchanged (old : Loaded) (was new : Given) (may : MayBeGiven new
   pub now : ExpressionIs c (value_left (elements_left (Some (given_node new may)) (says_one (bytes_at c.file old.files) (was ∷ []))) e) before after
 
 -- A value without a list said the old value, and is the new one.
-pub record LoneExchanged (old : Loaded) (was new : Given) (may : MayBeGiven new) (list : CallRef) (n : ℕ) (e : Expression Span) (before after : List Plain) : Type 0 where
+pub record LoneExchanged (old : Loaded) (was new : Given) (may : MayBeGiven new) (list : CallRef) (n : ℕ) (e : Expression Span) (before after : List Plain)
+    : Type 0 where
   pub was_said : says (bytes_at list.file old.files) was e ≡ true
   pub now : SlotIs list n (given_node new may) before after
 
@@ -154,10 +174,12 @@ pub record ElementReplaced (old : Loaded) (was new : Given) (list : CallRef) (n 
   pub may : MayBeGiven new
   pub value : Child Span
   pub is_value : element_child (project old) list n ≡ Some value
-  pub replaced : ListsExchanged old was new may (child list value.number) value.value before after ⊎ LoneExchanged old was new may list n value.value before after
+  pub replaced : ListsExchanged old was new may (child list value.number) value.value before after
+      ⊎ LoneExchanged old was new may list n value.value before after
 
 -- An assigned value without a list said the old value, and is the new one.
-pub record AssignedExchanged (old : Loaded) (was new : Given) (may : MayBeGiven new) (c : CallRef) (e : Expression Span) (before after : List Plain) : Type 0 where
+pub record AssignedExchanged (old : Loaded) (was new : Given) (may : MayBeGiven new) (c : CallRef) (e : Expression Span) (before after : List Plain)
+    : Type 0 where
   pub assigned : is_assigned (project old) c ≡ true
   pub was_said : says (bytes_at c.file old.files) was e ≡ true
   pub now : AssignedIs (statement_of c) (given_node new may) before after
@@ -180,6 +202,9 @@ SlotLeft old (change.Add gs) (slot.Element list n) before after = ElementAdded o
 SlotLeft old (change.Add gs) (slot.Absent list key) before after = ArrayAdded old gs list key before after
 SlotLeft old (change.Add gs) (slot.Whole c) before after = WholeAdded old gs c before after
 SlotLeft old (change.AddAfter g gs) s before after = ValuesPutBehind old g gs s before after
+SlotLeft old (change.AddSorted gs) (slot.Element list n) before after = ElementSorted old gs list n before after
+SlotLeft old (change.AddSorted gs) (slot.Absent list key) before after = ArrayAdded old gs list key before after
+SlotLeft old (change.AddSorted gs) (slot.Whole c) before after = WholeSorted old gs c before after
 SlotLeft old (change.Remove gs) (slot.Element list n) before after = ElementRemoved old gs list n before after
 SlotLeft old (change.Remove gs) (slot.Whole c) before after = WholeRemoved old gs c before after
 SlotLeft old (change.Replace was new) (slot.Element list n) before after = ElementReplaced old was new list n before after

@@ -173,7 +173,8 @@ abbrev pub HasAlso : CallRef → (new : List (Expression Nowhere)) → (before a
 HasAlso list [] before after = after ≡ before
 HasAlso list (e ∷ es) before after = HasMore list (e ∷ es) before after
 
--- the law: values are added to the last list of a value and to no other, behind its old elements in their order, each that no element of a list of the value said
+-- the law: values are added to the last list of a value and to no other, behind its old elements in their order, each that no element of a list of the value
+-- said
 abbrev pub AddsToOneList : Type 0
 AddsToOneList = (l : Loaded) (gs : List Given) (may : AllMayBeGiven gs) (otherwise : Result (List Step) Refusal) (c : CallRef) (e : Expression Span)
     → expression_at (project l) c ≡ Some e → (list : ValueList Span) → last_of (lists_of c e) ≡ Some list
@@ -252,11 +253,12 @@ HasSorted list o (a ∷ more) before after = SortedIn list o (a ∷ more) before
 
 -- the law: so it is of the last list of a value, with those that no element of a list of the value said
 abbrev pub SortsIntoOneList : Type 0
-SortsIntoOneList = (l : Loaded) → IsProject l → (gs : List Given) (may : AllMayBeGiven gs) (otherwise : Result (List Step) Refusal) (c : CallRef) (e : Expression Span)
-    → expression_at (project l) c ≡ Some e → (list : ValueList Span) → last_of (lists_of c e) ≡ Some list
+SortsIntoOneList = (l : Loaded) → IsProject l → (gs : List Given) (may : AllMayBeGiven gs) (otherwise : Result (List Step) Refusal)
+    → (c : CallRef) (e : Expression Span) → expression_at (project l) c ≡ Some e → (list : ValueList Span) → last_of (lists_of c e) ≡ Some list
     → (steps : List Step) → sort_into_value l gs may otherwise (Some (placed c e)) ≡ Ok steps
     → (after : List Plain) → all_stepped steps (plain_trees l) ≡ Some after
-    → HasSorted list.place (order_of (bytes_at c.file l.files) list) (fresh_added (lists_say (bytes_at c.file l.files) (lists_of c e)) [] gs may) (plain_trees l) after
+    → HasSorted list.place (order_of (bytes_at c.file l.files) list) (fresh_added (lists_say (bytes_at c.file l.files) (lists_of c e)) [] gs may)
+    (plain_trees l) after
 
 -- ---- elements that are removed or replaced
 

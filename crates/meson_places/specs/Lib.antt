@@ -23,6 +23,7 @@ pub mod Room
 pub mod SaidElements
 pub mod Several
 pub mod SortedAdditions
+pub mod SortedEffects
 pub mod ValueLists
 pub mod Values
 pub mod Slots

@@ -85,6 +85,7 @@ losing_at files p gs c =
 
 abbrev pub operand_value_at : List File → Project Span → ValueChange → CallRef → Result (Option CallRef) Refusal
 operand_value_at files p (change.Add gs) c = Ok (gaining_at files p gs c)
+operand_value_at files p (change.AddSorted gs) c = Ok (gaining_at files p gs c)
 operand_value_at files p (change.AddAfter g gs) c = losing_at files p (g ∷ []) c
 operand_value_at files p (change.Remove gs) c = losing_at files p gs c
 operand_value_at files p (change.Replace old new) c = losing_at files p (old ∷ []) c

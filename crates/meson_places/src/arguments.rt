@@ -27,6 +27,7 @@ use crate::removals::remove_steps;
 use crate::replacements::{Pair, replace_steps};
 use crate::room::has_room;
 use crate::slots::{Slot, find_slot};
+use crate::sorted_additions::sorted_steps;
 use crate::target_names::checked_name;
 use meson_calls::Refusal;
 use meson_splice::Text;
@@ -66,7 +67,7 @@ fn reads_change(change: &ValueChange)
     match change {
         ValueChange::Set(given) => reads(given),
         ValueChange::SetAll(values) => reads_all(values.get()),
-        ValueChange::Add(values) => reads_all(values.get()),
+        ValueChange::Add(values) | ValueChange::AddSorted(values) => reads_all(values.get()),
         ValueChange::AddAfter { values, .. } => reads_all(values.get()),
         ValueChange::Remove(_) => {}
         ValueChange::Replace { new, .. } => reads(new),
@@ -130,7 +131,7 @@ fn set_within(
 /// The steps that change the value of a slot.
 ///
 /// # Errors
-/// The faults of `set_within`, `set_all_steps`, `added_steps`, `insert_steps`, `remove_steps`, `replace_steps` or `delete_steps`.
+/// The faults of `set_within`, `set_all_steps`, `added_steps`, `insert_steps`, `sorted_steps`, `remove_steps`, `replace_steps` or `delete_steps`.
 fn slot_steps(
     alloc: Global,
     sources: Sources<'_>,
@@ -139,7 +140,8 @@ fn slot_steps(
     slot: &Slot,
 ) -> Result<Vec<ListStep>, Refusal>
     requires { AreParsed sources.files.now sources.trees.now }
-    ensures meant { (may : MayBeMade change.now) → IfOk result (λ steps. AreMeant (slot_steps (loaded_in sources.entry) key.now change.now may slot.now) steps.items) }
+    ensures meant { (may : MayBeMade change.now) →
+        IfOk result (λ steps. AreMeant (slot_steps (loaded_in sources.entry) key.now change.now may slot.now) steps.items) }
     ensures refused { (may : MayBeMade change.now) → RefusedAs result (slot_steps (loaded_in sources.entry) key.now change.now may slot.now) }
 {
     match change {
@@ -150,6 +152,7 @@ fn slot_steps(
             let values = values.get();
             insert_steps(alloc, sources, Insertion { after, values }, key, slot)
         }
+        ValueChange::AddSorted(values) => sorted_steps(alloc, sources, values.get(), key, slot),
         ValueChange::Remove(values) => remove_steps(alloc, sources, values.get(), key, slot),
         ValueChange::Replace { old, new } => {
             replace_steps(alloc, sources, Pair { old, new }, key, slot)
@@ -171,15 +174,16 @@ fn one_changed(
     slot: Slot,
 ) -> Result<Vec<ListStep>, Refusal>
     requires { IsProject (loaded_in sources) }
-    ensures meant { (may : MayBeMade change.now) → IfOk result (λ steps. AreMeant (one_changed (loaded_in sources.entry) name.now key.now change.now may slot) steps.items) }
+    ensures meant { (may : MayBeMade change.now) →
+        IfOk result (λ steps. AreMeant (one_changed (loaded_in sources.entry) name.now key.now change.now may slot) steps.items) }
     ensures refused { (may : MayBeMade change.now) → RefusedAs result (one_changed (loaded_in sources.entry) name.now key.now change.now may slot) }
 {
     let changed = changed_slot(alloc, sources, name, change, slot)?;
     slot_steps(alloc, sources, key, change, &changed)
 }
 
-/// The steps that remove or replace elements of all values that are assigned to the variable that is named. Nothing for another change, or where one value alone
-/// may be changed.
+/// The steps that remove or replace elements of all values that are assigned to the variable that is named. Nothing for another change, or where one value
+/// alone may be changed.
 ///
 /// # Errors
 /// The faults of `remove_from_all` or `replace_in_all`.
@@ -192,7 +196,8 @@ fn all_changed(
     slot: &Slot,
 ) -> Result<Option<Vec<ListStep>>, Refusal>
     requires { AreParsed sources.files.now sources.trees.now }
-    ensures made { (may : MayBeMade change.now) (one : Result (List Step) TheRefusal) → let meant = changed_by (loaded_in sources.entry) name.now key.now change.now may slot.now one in
+    ensures made { (may : MayBeMade change.now) (one : Result (List Step) TheRefusal) →
+        let meant = changed_by (loaded_in sources.entry) name.now key.now change.now may slot.now one in
         MatchResult result (λ o. MatchOption o (meant ≡ one) (λ steps. AreMeant meant steps.items)) (λ e. e ≢ OutOfMemory → meant ≡ Err e) }
 {
     match change {
@@ -219,7 +224,8 @@ fn changed_steps(
     slot: Slot,
 ) -> Result<Vec<ListStep>, Refusal>
     requires { IsProject (loaded_in sources) }
-    ensures meant { (may : MayBeMade change.now) → IfOk result (λ steps. AreMeant (changed_steps (loaded_in sources.entry) name.now key.now change.now may slot) steps.items) }
+    ensures meant { (may : MayBeMade change.now) →
+        IfOk result (λ steps. AreMeant (changed_steps (loaded_in sources.entry) name.now key.now change.now may slot) steps.items) }
     ensures refused { (may : MayBeMade change.now) → RefusedAs result (changed_steps (loaded_in sources.entry) name.now key.now change.now may slot) }
 {
     match all_changed(alloc, sources, name, key, change, &slot)? {
@@ -231,8 +237,8 @@ fn changed_steps(
 /// The steps that change the value of a name. They may be done one after another on the project.
 ///
 /// # Errors
-/// The place or the value is not found; another file adds to the variable that is named; another target has the name that a target gets; the value is that of a variable which something else reads; the change
-/// does not suit the value; the file would nest too deep; or out of memory.
+/// The place or the value is not found; another file adds to the variable that is named; another target has the name that a target gets; the value is that of
+/// a variable which something else reads; the change does not suit the value; the file would nest too deep; or out of memory.
 pub fn argument_steps(
     alloc: Global,
     sources: Sources<'_>,

@@ -128,7 +128,9 @@ fn changed_value(
     ensures { IfOk result (λ o. o ≡ changed_value sources.entry.files.now (project (loaded_in sources.entry)) change.now places.now) }
 {
     match change {
-        ValueChange::Add(values) => gaining_value(alloc, sources, values.get(), places),
+        ValueChange::Add(values) | ValueChange::AddSorted(values) => {
+            gaining_value(alloc, sources, values.get(), places)
+        }
         ValueChange::AddAfter { after, .. } => {
             first_with_one(alloc, sources, slice::from_ref(after), places)
         }

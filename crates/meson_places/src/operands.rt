@@ -259,7 +259,9 @@ fn operand_value_at(
     ensures refused { RefusedAs result (operand_value_at sources.entry.files.now (project (loaded_in sources.entry)) change.now place.now) }
 {
     match change {
-        ValueChange::Add(values) => Ok(gaining_at(alloc, sources, values.get(), place)?),
+        ValueChange::Add(values) | ValueChange::AddSorted(values) => {
+            Ok(gaining_at(alloc, sources, values.get(), place)?)
+        }
         ValueChange::AddAfter { after, .. } => {
             losing_at(alloc, sources, slice::from_ref(after), place)
         }

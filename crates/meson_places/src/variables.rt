@@ -311,7 +311,9 @@ pub(crate) fn slot_behind(
 {
     match change {
         ValueChange::Set(given) => set_slot(alloc, sources, given, slot),
-        ValueChange::Add(values) => added_slot(alloc, sources, values.get(), slot),
+        ValueChange::Add(values) | ValueChange::AddSorted(values) => {
+            added_slot(alloc, sources, values.get(), slot)
+        }
         ValueChange::AddAfter { after, .. } => {
             said_slot(alloc, sources, slice::from_ref(after), slot)
         }

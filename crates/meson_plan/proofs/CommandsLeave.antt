@@ -31,11 +31,14 @@ use Rattle.meson_sources.proofs.ShrunkFiles.{all-extras-shrink, all-sources-shri
 use Rattle.meson_sources.proofs.SourcesAdded.{sources-are-added}
 use Rattle.meson_sources.proofs.SourcesGone.{extra-is-removed, sources-are-removed}
 use Rattle.meson_sources.proofs.SourcesRenamed.{sources-are-renamed}
+use Rattle.meson_sources.proofs.SourcesSorted.{order-is-kept, sources-are-sorted}
+use Rattle.meson_sources.specs.Sorting.{sources_sorted}
+use Rattle.meson_sources.specs.Targeted.{sorted_steps}
 use Rattle.meson_steps.proofs.WentWell.{then_was}
 use Rattle.meson_targets.specs.TargetEdits.{target_added, target_removed}
 use Rattle.meson_targets.proofs.AddedTargets.{added-targets-are-named}
 use Rattle.meson_targets.proofs.RemovedTargets.{removed-targets-are-gone}
-use Rattle.meson_plan.specs.Effects.{CommandsLeave, ExtrasCome, ExtrasGo, LeavesOf, SourcesCome, SourcesGo, SourcesRenamed, TargetComes, TargetGoes}
+use Rattle.meson_plan.specs.Effects.{CommandsLeave, ExtrasCome, ExtrasGo, LeavesOf, SourcesCome, SourcesComeAmong, SourcesGo, SourcesRenamed, TargetComes, TargetGoes}
 use Rattle.meson_places.specs.Effects.{ValueLeft}
 use Rattle.meson_places.proofs.ValuesLeft.{values_left}
 use Rattle.meson_plan.specs.Performing.{Performs}
@@ -70,6 +73,16 @@ module _ (old new : Loaded) (c : Command) (done : Done) (is : IsProject old) (p 
   module _ (id : CallName) (meant : Project Span → Placed (Call Span) → Result (List Step) Refusal) (made : then_ok (the_call (project old) role.Target id) (meant (project old)) ≡ Ok p.made.steps) where
     abbrev one : (k : Placed (Call Span)) × (the_call (project old) role.Target id ≡ Ok k) × (meant (project old) k ≡ Ok p.made.steps)
     one = then_was (the_call (project old) role.Target id) (meant (project old)) p.made.steps made
+
+  sources_come_among : (id : CallName) (names : List (List ℕ)) → sorted_steps old.files (project old) id names ≡ Ok p.made.steps → SourcesComeAmong old id names new
+  sources_come_among id names made =
+      let k = one id (λ q k. sources_sorted old.files q k names) made in
+      record {
+        call = k.0;
+        is_call = k.1;
+        gets = sources-are-sorted old is id k.0 k.1 names p.made.steps (plain_trees new) k.2 stepped;
+        in_order = λ utf8. order-is-kept old is id k.0 k.1 names utf8 p.made.steps (plain_trees new) k.2 stepped;
+      }
 
   sources_go : (id : CallName) (names : List (List ℕ)) → then_ok (the_call (project old) role.Target id) (λ k. sources_removed (project old) k names) ≡ Ok p.made.steps → SourcesGo old id names new
   sources_go id names made =
@@ -121,6 +134,7 @@ module _ (old new : Loaded) (c : Command) (done : Done) (is : IsProject old) (p 
 
 pub commands-leave : CommandsLeave
 commands-leave old new (command.SourcesAdd id names) done is p = sources_come old new (command.SourcesAdd id names) done is p id names p.made.are_planned
+commands-leave old new (command.SourcesAddSorted id names) done is p = sources_come_among old new (command.SourcesAddSorted id names) done is p id names p.made.are_planned
 commands-leave old new (command.TargetAdd name kind folder sources) done is p = λ utf8. target_comes old new (command.TargetAdd name kind folder sources) done is p name kind folder sources p.made.are_planned utf8
 commands-leave old new (command.SourcesRemove id names) done is p = sources_go old new (command.SourcesRemove id names) done is p id names p.made.are_planned
 commands-leave old new (command.SourcesRename id was now) done is p = sources_renamed_there old new (command.SourcesRename id was now) done is p id was now p.made.are_planned

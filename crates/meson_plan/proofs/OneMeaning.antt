@@ -6,10 +6,12 @@ use Rattle.meson_steps.specs.Done.{Meaning}
 use Rattle.meson_steps.specs.declared.command.Command.{Command}
 use Rattle.meson_steps.specs.declared.command.Command.TheVariants as command
 use Rattle.meson_places.proofs.OneMeaning.{arguments_one, arguments_same, value_places_same}
+use Rattle.meson_sources.specs.Targeted.{sorted_steps}
 use Rattle.meson_plan.specs.Planning.{Means, planned}
 
 pub means-one : (l : Loaded) (c : Command) (r s : Meaning) → Means l c r → Means l c s → r ≡ s
 means-one l (command.SourcesAdd target sources) m n p q = sym p ∙ q
+means-one l (command.SourcesAddSorted target sources) m n p q = sym p ∙ q
 means-one l (command.SourcesRemove target sources) m n p q = sym p ∙ q
 means-one l (command.SourcesRename target was now) m n p q = sym p ∙ q
 means-one l (command.ExtraAdd target sources) m n p q = sym p ∙ q
@@ -33,6 +35,7 @@ module _ (l k : Loaded) (same_files : l.files ≡ k.files) (same_trees : trees l
 
   pub means-same : (c : Command) (m : Meaning) → Means l c m → Means k c m
   means-same (command.SourcesAdd target sources) m is = same-plan (command.SourcesAdd target sources) m is
+  means-same (command.SourcesAddSorted target sources) m is = sym (ap₂ (λ fs ts. sorted_steps fs (named_trees fs ts) target sources) same_files same_trees) ∙ is
   means-same (command.SourcesRemove target sources) m is = same-plan (command.SourcesRemove target sources) m is
   means-same (command.SourcesRename target was now) m is = same-plan (command.SourcesRename target was now) m is
   means-same (command.ExtraAdd target sources) m is = same-plan (command.ExtraAdd target sources) m is

@@ -1,9 +1,11 @@
 -- What is there after a command: the arguments of the call that it changes, the lists that get or lose sources or extra files, the sources that get another name,
 -- the calls that a name names, and the value that is changed.
 -- Meson manual, Rewriter.
-use Rattle.std.specs.Prelude.{◌≡◌, ℕ, List, ◌∷◌, All, codes, Ok}
+use Rattle.std.specs.Prelude.{◌≡◌, ℕ, true, List, ◌∷◌, All, codes, Ok}
+use Rattle.std.specs.List.{AllByRecursion}
 use Rattle.std.specs.Str.{IsUtf8}
 use Rattle.meson_lex.specs.declared.kinds.Span.{Span}
+use Rattle.meson_calls.specs.declared.call.CallRef.{CallRef}
 use Rattle.meson_calls.specs.declared.call.Role.{Role}
 use Rattle.meson_calls.specs.declared.call.Role.TheVariants as role
 use Rattle.meson_calls.specs.Calls.{Call}
@@ -17,7 +19,9 @@ use Rattle.meson_steps.specs.declared.command.Command.{Command}
 use Rattle.meson_steps.specs.declared.command.Command.TheVariants as command
 use Rattle.meson_steps.specs.declared.command.Done.{Done}
 use Rattle.meson_places.specs.Effects.{ValueLeft}
-use Rattle.meson_sources.specs.Effects.{ExtraComes, ListGets, NameChanges, NamesGo, extra_home}
+use Rattle.meson_sources.specs.Effects.{ExtraComes, ListGets, ListGetsAmong, NameChanges, NamesGo, extra_home}
+use Rattle.meson_sources.specs.InOrder.{HasPlace, IsInOrder, are_in_order}
+use Rattle.meson_sources.specs.Sorting.{ordered_in}
 use Rattle.meson_sources.specs.SourceEdits.{extra_marks, new_names}
 use Rattle.meson_sources.specs.WholeExtras.{ExtrasGrow, ExtrasShrink}
 use Rattle.meson_sources.specs.WholeSources.{SourcesGrow, SourcesShrink}
@@ -41,6 +45,18 @@ pub record SourcesCome (old : Loaded) (target : CallName) (names : List (List �
   pub gets : ListGets (home call.place (source_marks (project old) call)) (new_names (source_marks (project old) call) names) (plain_trees old)
       (plain_trees new)
   pub whole : All IsUtf8 names → SourcesGrow (new_names (source_marks (project old) call) names) target call (project old) (project new)
+
+-- The target is the only one that the id names. The list to which its further sources are added has each new one once, wherever it is put. Where it was in order
+-- and each has a place in it, it still is.
+pub record SourcesComeAmong (old : Loaded) (target : CallName) (names : List (List ℕ)) (new : Loaded) : Type 0 where
+  pub call : Placed (Call Span)
+  pub is_call : the_call (project old) role.Target target ≡ Ok call
+  pub gets : ListGetsAmong (home call.place (source_marks (project old) call)) (new_names (source_marks (project old) call) names) (plain_trees old)
+      (plain_trees new)
+  pub in_order : All IsUtf8 names → (list : CallRef) → list ≡ home call.place (source_marks (project old) call)
+      → are_in_order (ordered_in old.files (project old) call.place list).keys ≡ true
+      → AllByRecursion (HasPlace (ordered_in old.files (project old) call.place list)) (new_names (source_marks (project old) call) names)
+      → IsInOrder call.place list (plain_trees new)
 
 -- Of the sources those that are named are gone, and no others of the target.
 pub record SourcesGo (old : Loaded) (target : CallName) (names : List (List ℕ)) (new : Loaded) : Type 0 where
@@ -83,6 +99,7 @@ pub record TargetComes (old : Loaded) (name kind folder : List ℕ) (sources : L
 
 abbrev pub HasEffect : Loaded → Command → Loaded → Type 0
 HasEffect old (command.SourcesAdd target names) new = SourcesCome old target names new
+HasEffect old (command.SourcesAddSorted target names) new = SourcesComeAmong old target names new
 HasEffect old (command.SourcesRemove target names) new = SourcesGo old target names new
 HasEffect old (command.SourcesRename target was now) new = SourcesRenamed old target was now new
 HasEffect old (command.ExtraAdd target names) new = ExtrasCome old target names new

@@ -13,6 +13,7 @@ use Rattle.meson_calls.specs.Finding.{the_call}
 use Rattle.meson_calls.specs.NamedArguments.{sources_key}
 use Rattle.meson_details.specs.Once.{call_told, only_once}
 use Rattle.meson_sources.specs.SourceEdits.{extra_key, sources_added, sources_removed, sources_renamed, extra_added, extra_removed}
+use Rattle.meson_sources.specs.Targeted.{sorted_steps}
 use Rattle.meson_targets.specs.TargetEdits.{target_added, target_removed}
 use Rattle.meson_keywords.specs.Tasks.{each_made, set_entry, delete_entry, add_entry, remove_entry, set_option_entry, delete_option_entry}
 use Rattle.meson_keywords.specs.TaskSteps.{call_changed}
@@ -32,7 +33,7 @@ call_asked r c = then_ok (call_told r c) (λ _. Ok [])
 
 -- ---- commands
 
--- what a command means by the calls of a project alone; nothing where a value is changed or reported
+-- what a command means by the calls of a project alone; nothing where sources are added in order, or a value is changed or reported
 abbrev pub planned : {S : Type 0} → Project S → Command → Result (List Step) Refusal
 planned p (command.SourcesAdd target sources) = then_ok (the_call p role.Target target) (λ c. sources_added p c sources)
 planned p (command.SourcesRemove target sources) = then_ok (the_call p role.Target target) (λ c. sources_removed p c sources)
@@ -49,12 +50,14 @@ planned p (command.KwargsDelete r name keys) = then_ok (the_call p r name) (call
 planned p (command.KwargsInfo r name) = then_ok (the_call p r name) (λ c. call_asked r c.it)
 planned p (command.OptionsSet pairs) = then_ok (the_call p role.Project (anywhere (codes "/"))) (call_changed p (each_made set_option_entry pairs))
 planned p (command.OptionsDelete names) = then_ok (the_call p role.Project (anywhere (codes "/"))) (call_changed p (each_made delete_option_entry names))
+planned p (command.SourcesAddSorted target sources) = Ok []
 planned p (command.Argument name change) = Ok []
 planned p (command.ArgumentInfo name) = Ok []
 
--- What a command means. A change of a value, whose values may be given, also reads the files: where lines begin, and how its neighbours are written. A value
--- that is reported has to be there.
+-- What a command means. A change of a value, whose values may be given, also reads the files: where lines begin, and how its neighbours are written. So does an
+-- addition of sources in order: whether a comment comes after the first element, which no tree has. A value that is reported has to be there.
 abbrev pub Means : Loaded → Command → Meaning → Type 0
+Means l (command.SourcesAddSorted target sources) meant = sorted_steps l.files (project l) target sources ≡ meant
 Means l (command.Argument name change) meant = (may : MayBeMade change) × (argument_steps l name change may ≡ meant)
 Means l (command.ArgumentInfo name) meant = then_ok (value_place l name) (λ c. Ok []) ≡ meant
 Means l c meant = planned (project l) c ≡ meant

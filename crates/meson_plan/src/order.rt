@@ -2,13 +2,14 @@
 
 ghost use Rattle.std.specs.Prelude.{◌≡◌, codes, false};
 ghost use Rattle.meson_lex.specs.declared.kinds.Span as lex;
+ghost use Rattle.meson_calls.specs.Loading.{Loaded, project};
 ghost use Rattle.meson_calls.specs.Project.{Project};
 ghost use Rattle.meson_calls.specs.Searching.{anywhere};
 ghost use Rattle.meson_keywords.specs.Changing.{request_steps};
 ghost use Rattle.meson_keywords.specs.Tasking.{asked, request_view};
 ghost use Rattle.meson_plan.specs.Listing.{asks};
 ghost use Rattle.meson_plan.specs.inside.Orders.{IsOrder, plan_steps, sought};
-ghost use Rattle.meson_sources.specs.Targeted.{renamed_steps, target_steps};
+ghost use Rattle.meson_sources.specs.Targeted.{renamed_steps, sorted_steps, target_steps};
 
 use meson_calls::{BorrowedName, CallName, Role};
 use meson_keywords::request::{AskedWords, Request};
@@ -27,6 +28,8 @@ use meson_targets::target_adding::NewTarget;
 pub(crate) enum Plan<'c> {
     /// Names are added to a target or removed from it.
     OnTarget(BorrowedName<'c>, TargetChange, &'c Many<Text>),
+    /// Sources are added to a target, each in its place where the list that gets them is in order.
+    SortSources(BorrowedName<'c>, &'c Many<Text>),
     /// Sources of a target get another name.
     RenameSources(BorrowedName<'c>, Renaming<'c>),
     /// A target is added at the end of its file.
@@ -42,6 +45,7 @@ impl<'c> Plan<'c> {
     {
         match self {
             Plan::OnTarget(target, _, _) => (Role::Target, target.id),
+            Plan::SortSources(target, _) => (Role::Target, target.id),
             Plan::RenameSources(target, _) => (Role::Target, target.id),
             Plan::AddTarget(new) => (Role::Target, new.name.get()),
             Plan::RemoveTarget(target) => (Role::Target, target.id),
@@ -60,14 +64,21 @@ pub(crate) enum Order<'c> {
 
 /// A change of a target.
 fn on_target<'c>(target: &'c CallName, change: TargetChange, names: &'c Many<Text>) -> Plan<'c>
-    ensures { (p : Project lex.Span) → plan_steps p result ≡ target_steps p target.entry.now change names.entry.now }
+    ensures { (l : Loaded) → plan_steps l result ≡ target_steps (project l) target.entry.now change names.entry.now }
 {
     Plan::OnTarget(target.as_name(), change, names)
 }
 
+/// An addition of sources in order.
+fn in_order<'c>(target: &'c CallName, names: &'c Many<Text>) -> Plan<'c>
+    ensures { (l : Loaded) → plan_steps l result ≡ sorted_steps l.files (project l) target.entry.now names.entry.now }
+{
+    Plan::SortSources(target.as_name(), names)
+}
+
 /// A renaming of sources.
 fn on_sources<'c>(target: &'c CallName, old: &'c Text, new: &'c Text) -> Plan<'c>
-    ensures { (p : Project lex.Span) → plan_steps p result ≡ renamed_steps p target.entry.now old.entry.now new.entry.now }
+    ensures { (l : Loaded) → plan_steps l result ≡ renamed_steps (project l) target.entry.now old.entry.now new.entry.now }
 {
     Plan::RenameSources(target.as_name(), Renaming { old, new })
 }
@@ -106,6 +117,7 @@ pub(crate) fn order_of(command: &Command) -> Order<'_>
         Command::SourcesAdd { target, sources } => {
             Order::Planned(on_target(target, SourcesAdded, sources))
         }
+        Command::SourcesAddSorted { target, sources } => Order::Planned(in_order(target, sources)),
         Command::SourcesRemove { target, sources } => {
             Order::Planned(on_target(target, SourcesRemoved, sources))
         }

@@ -1,8 +1,8 @@
 //! How a command is done: by the steps of a plan, which are all known at once, or by changes of a call or of a value.
 
 ghost use Rattle.std.specs.Prelude.{◌≡◌, false, IfOk, OnOk};
-ghost use Rattle.meson_calls.specs.Loading.{AreParsed, IsProject, Loaded, loaded_from, project};
-ghost use Rattle.meson_calls.specs.NotedProjects.{IsNotedFor, loaded_in, project_in};
+ghost use Rattle.meson_calls.specs.Loading.{AreParsed, IsProject, Loaded, loaded_from};
+ghost use Rattle.meson_calls.specs.NotedProjects.{IsNotedFor, loaded_in};
 ghost use Rattle.meson_calls.specs.Refusals.{IfRefused, RefusedAs};
 ghost use Rattle.meson_calls.specs.Setters.{AreKept};
 ghost use Rattle.meson_plan.specs.Listing.{asks};
@@ -21,6 +21,7 @@ use meson_keywords::changing::changed;
 use meson_places::Sources;
 use meson_places::arguments::argument_steps;
 use meson_sources::renaming::on_sources;
+use meson_sources::sorting::sort_sources;
 use meson_sources::targeting::on_target;
 use meson_splice::FileSet;
 use meson_steps::command::Command;
@@ -45,6 +46,7 @@ fn keep_for(
 {
     match plan {
         Plan::OnTarget(_, _, _) => keep(alloc, files, trees, kept),
+        Plan::SortSources(_, _) => keep(alloc, files, trees, kept),
         Plan::RenameSources(_, _) => keep(alloc, files, trees, kept),
         _ => Ok(()),
     }
@@ -65,8 +67,8 @@ fn planned(
     requires kept { AreKept kept.old.items files.now trees.now }
     ensures kept { AreKept kept.new.items files.now trees.now }
     ensures plan { let old = loaded_from files.now trees.now in
-        IfOk result (λ steps. ArePlanned old (plan_steps (project old) plan.entry) steps.items) }
-    ensures refused { RefusedAs result (plan_steps (project (loaded_from files.now trees.now)) plan.entry) }
+        IfOk result (λ steps. ArePlanned old (plan_steps old plan.entry) steps.items) }
+    ensures refused { RefusedAs result (plan_steps (loaded_from files.now trees.now) plan.entry) }
 {
     keep_for(alloc, files, trees, kept, plan)?;
     let (role, id) = plan.sought();
@@ -87,11 +89,12 @@ fn planned(
 /// Why it is refused, or out of memory.
 fn steps_of(alloc: Global, noted: &Noted<'_>, plan: Plan<'_>) -> Result<Vec<ListStep>, Refusal>
     requires { IsNotedFor (sought plan).0 (sought plan).1 noted.now }
-    ensures plan { IfOk result (λ steps. ArePlanned (loaded_in noted.now) (plan_steps (project_in noted.now) plan.entry) steps.items) }
-    ensures refused { RefusedAs result (plan_steps (project_in noted.now) plan.entry) }
+    ensures plan { IfOk result (λ steps. ArePlanned (loaded_in noted.now) (plan_steps (loaded_in noted.now) plan.entry) steps.items) }
+    ensures refused { RefusedAs result (plan_steps (loaded_in noted.now) plan.entry) }
 {
     match plan {
         Plan::OnTarget(target, change, names) => on_target(alloc, noted, target, change, names),
+        Plan::SortSources(target, names) => sort_sources(alloc, noted, target, names),
         Plan::RenameSources(target, names) => on_sources(alloc, noted, target, names),
         Plan::AddTarget(new) => target_added(alloc, noted, new),
         Plan::RemoveTarget(target) => target_removed(alloc, noted, target),

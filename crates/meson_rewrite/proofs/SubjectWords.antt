@@ -6,7 +6,7 @@ use Rattle.meson_calls.specs.Loading.{Loaded}
 use Rattle.meson_explaining.specs.Names.{bad_name, find_key, is_bad_option, is_bad_pair, is_empty_name, meant_name, missing_name}
 use Rattle.meson_explaining.specs.Sources.{extras_at, is_missing, sources_at}
 use Rattle.meson_steps.specs.declared.command.Command.{Command}
-use Rattle.meson_steps.specs.declared.command.Command.TheVariants.{SourcesAdd, SourcesRemove, SourcesRename, ExtraAdd, ExtraRemove, TargetAdd, TargetRemove, TargetInfo, KwargsSet, KwargsAdd, KwargsRemove, KwargsDelete, KwargsInfo, OptionsSet, OptionsDelete, Argument, ArgumentInfo}
+use Rattle.meson_steps.specs.declared.command.Command.TheVariants.{SourcesAdd, SourcesAddSorted, SourcesRemove, SourcesRename, ExtraAdd, ExtraRemove, TargetAdd, TargetRemove, TargetInfo, KwargsSet, KwargsAdd, KwargsRemove, KwargsDelete, KwargsInfo, OptionsSet, OptionsDelete, Argument, ArgumentInfo}
 use Rattle.meson_rewrite.specs.RefusalLaws.{IsAmong, SubjectsAreWords, id_and, words_of}
 use Rattle.meson_rewrite.specs.Subjects.{folder_of, id_in, id_of, subject_of}
 
@@ -39,6 +39,7 @@ module _ (name : List ℕ) where
 
   id_among : (c : Command) → id_of c ≡ Some name → IsAmong (words_of c) name
   id_among (SourcesAdd target sources) e = inl (some-same target.id name e)
+  id_among (SourcesAddSorted target sources) e = inl (some-same target.id name e)
   id_among (SourcesRemove target sources) e = inl (some-same target.id name e)
   id_among (SourcesRename target old new) e = inl (some-same target.id name e)
   id_among (ExtraAdd target sources) e = inl (some-same target.id name e)
@@ -65,6 +66,7 @@ module _ (name : List ℕ) where
 
   bad_among : (c : Command) → bad_name c ≡ Some name → IsAmong (words_of c) name
   bad_among (SourcesAdd target sources) e = inr (found_among is_empty_name sources e)
+  bad_among (SourcesAddSorted target sources) e = inr (found_among is_empty_name sources e)
   bad_among (SourcesRemove target sources) e = inr (found_among is_empty_name sources e)
   bad_among (SourcesRename target old new) e = inr (found_among is_empty_name (old ∷ new ∷ []) e)
   bad_among (ExtraAdd target sources) e = inr (found_among is_empty_name sources e)

@@ -6,7 +6,7 @@ use Rattle.serde_json.specs.Find.{get}
 use Rattle.meson_calls.specs.Loading.{Loaded}
 use Rattle.meson_calls.specs.declared.refusal.Refusal.{Refusal}
 use Rattle.meson_steps.specs.declared.command.Command.{Command}
-use Rattle.meson_steps.specs.declared.command.Command.TheVariants.{SourcesAdd, SourcesRemove, SourcesRename, ExtraAdd, ExtraRemove, TargetAdd, TargetRemove, TargetInfo, KwargsSet, KwargsAdd, KwargsRemove, KwargsDelete, KwargsInfo, OptionsSet, OptionsDelete, Argument, ArgumentInfo}
+use Rattle.meson_steps.specs.declared.command.Command.TheVariants.{SourcesAdd, SourcesAddSorted, SourcesRemove, SourcesRename, ExtraAdd, ExtraRemove, TargetAdd, TargetRemove, TargetInfo, KwargsSet, KwargsAdd, KwargsRemove, KwargsDelete, KwargsInfo, OptionsSet, OptionsDelete, Argument, ArgumentInfo}
 use Rattle.meson_rewrite.specs.Codes.{memory_code, stop_code}
 use Rattle.meson_rewrite.specs.Lines.{stop_text}
 use Rattle.meson_rewrite.specs.Refused.{stop_command, stop_entry, stop_members}
@@ -46,6 +46,7 @@ id_and (Some id) more = id ∷ more
 -- the words of a command: its id, its folder and its sources, keys or options
 abbrev pub words_of : Command → List (List ℕ)
 words_of (SourcesAdd target sources) = target.id ∷ sources
+words_of (SourcesAddSorted target sources) = target.id ∷ sources
 words_of (SourcesRemove target sources) = target.id ∷ sources
 words_of (SourcesRename target old new) = target.id ∷ old ∷ new ∷ []
 words_of (ExtraAdd target sources) = target.id ∷ sources

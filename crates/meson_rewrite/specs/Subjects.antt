@@ -7,7 +7,7 @@ use Rattle.meson_explaining.specs.Names.{meant_name}
 use Rattle.meson_steps.specs.declared.argument.PlaceName.{PlaceName}
 use Rattle.meson_steps.specs.declared.argument.PlaceName.TheVariants as name
 use Rattle.meson_steps.specs.declared.command.Command.{Command}
-use Rattle.meson_steps.specs.declared.command.Command.TheVariants.{SourcesAdd, SourcesRemove, SourcesRename, ExtraAdd, ExtraRemove, TargetAdd, TargetRemove, TargetInfo, KwargsSet, KwargsAdd, KwargsRemove, KwargsDelete, KwargsInfo, OptionsSet, OptionsDelete, Argument, ArgumentInfo}
+use Rattle.meson_steps.specs.declared.command.Command.TheVariants.{SourcesAdd, SourcesAddSorted, SourcesRemove, SourcesRename, ExtraAdd, ExtraRemove, TargetAdd, TargetRemove, TargetInfo, KwargsSet, KwargsAdd, KwargsRemove, KwargsDelete, KwargsInfo, OptionsSet, OptionsDelete, Argument, ArgumentInfo}
 
 -- the id of a call or a variable; a line has none
 abbrev pub id_in : PlaceName → Option (List ℕ)
@@ -19,6 +19,7 @@ id_in (name.Line file line) = None
 -- the id of the call that the command is about; default options are of no id
 abbrev pub id_of : Command → Option (List ℕ)
 id_of (SourcesAdd target sources) = Some target.id
+id_of (SourcesAddSorted target sources) = Some target.id
 id_of (SourcesRemove target sources) = Some target.id
 id_of (SourcesRename target old new) = Some target.id
 id_of (ExtraAdd target sources) = Some target.id

@@ -26,6 +26,7 @@ fn id_of(command: &Command) -> Option<&Text>
 {
     match command {
         Command::SourcesAdd { target, .. }
+        | Command::SourcesAddSorted { target, .. }
         | Command::SourcesRemove { target, .. }
         | Command::SourcesRename { target, .. }
         | Command::ExtraAdd { target, .. }

@@ -104,6 +104,7 @@ info-plain l (command.TargetInfo id) d i = target-info-plain l id d i
 info-plain l (command.KwargsInfo role id) d i = call-info-plain l role id d i
 info-plain l (command.ArgumentInfo name) d i = value-info-plain l name d i
 info-plain l (command.SourcesAdd target sources) d i = absurd (let no : ⊥ = cc in no)
+info-plain l (command.SourcesAddSorted target sources) d i = absurd (let no : ⊥ = cc in no)
 info-plain l (command.SourcesRemove target sources) d i = absurd (let no : ⊥ = cc in no)
 info-plain l (command.SourcesRename target old new) d i = absurd (let no : ⊥ = cc in no)
 info-plain l (command.ExtraAdd target sources) d i = absurd (let no : ⊥ = cc in no)
@@ -194,6 +195,7 @@ no-info l (command.TargetInfo id) why ds h is = let d = one-told (target_listing
 no-info l (command.KwargsInfo role id) why ds h is = let d = one-told (kwargs_listing l role id) ds is in no-call-listing l role id why d.0 h d.1
 no-info l (command.ArgumentInfo name) why ds h is = let d = one-told (value_listing l name) ds is in no-value-listing l name why d.0 h d.1
 no-info l (command.SourcesAdd target sources) why ds h is = h
+no-info l (command.SourcesAddSorted target sources) why ds h is = h
 no-info l (command.SourcesRemove target sources) why ds h is = h
 no-info l (command.SourcesRename target old new) why ds h is = h
 no-info l (command.ExtraAdd target sources) why ds h is = h
@@ -219,6 +221,7 @@ lists-nothing l (command.TargetInfo id) quiet = absurd (let bad : ⊥ = cc in ba
 lists-nothing l (command.KwargsInfo role id) quiet = absurd (let bad : ⊥ = cc in bad)
 lists-nothing l (command.ArgumentInfo name) quiet = absurd (let bad : ⊥ = cc in bad)
 lists-nothing l (command.SourcesAdd target ss) quiet = (refl, refl)
+lists-nothing l (command.SourcesAddSorted target ss) quiet = (refl, refl)
 lists-nothing l (command.SourcesRemove target ss) quiet = (refl, refl)
 lists-nothing l (command.SourcesRename target old new) quiet = (refl, refl)
 lists-nothing l (command.ExtraAdd target ss) quiet = (refl, refl)

@@ -187,6 +187,7 @@ told-plain l (command.TargetInfo target) more is = one-plain (target_listing l t
 told-plain l (command.ArgumentInfo name) more is = one-plain (value_listing l name) more (value-listing-plain l name) is
 told-plain l (command.KwargsInfo r id) more is = one-plain (kwargs_listing l r id) more (call-listing-plain l r id) is
 told-plain l (command.SourcesAdd target sources) more is = none-plain more is
+told-plain l (command.SourcesAddSorted target sources) more is = none-plain more is
 told-plain l (command.SourcesRemove target sources) more is = none-plain more is
 told-plain l (command.SourcesRename target old new) more is = none-plain more is
 told-plain l (command.ExtraAdd target sources) more is = none-plain more is

@@ -49,6 +49,7 @@ told-same p q s (command.TargetInfo target) = ap only (targets-same p q target s
 told-same p q s (command.ArgumentInfo name) = ap only (values-same p q name s.files s.trees)
 told-same p q s (command.KwargsInfo role id) = ap only (calls-same p q role id s.files s.trees)
 told-same p q s (command.SourcesAdd target sources) = refl
+told-same p q s (command.SourcesAddSorted target sources) = refl
 told-same p q s (command.SourcesRemove target sources) = refl
 told-same p q s (command.SourcesRename target old new) = refl
 told-same p q s (command.ExtraAdd target sources) = refl

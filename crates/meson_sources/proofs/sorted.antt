@@ -3,3 +3,6 @@ pub mod Puts
 pub mod Homes
 pub mod Found
 pub mod Putting
+pub mod InOrder
+pub mod Keys
+pub mod StillInOrder

@@ -5,6 +5,7 @@ pub mod Targeted
 pub mod Without
 pub mod Exchanged
 pub mod Effects
+pub mod InOrder
 pub mod MetOnce
 pub mod WholeSources
 pub mod WholeExtras

@@ -7,6 +7,7 @@ ghost use Rattle.meson_syntax.specs.View.{args_view, list_view};
 ghost use Rattle.meson_calls.specs.GoodLists.{GoodListing};
 ghost use Rattle.meson_calls.specs.Loading.{AreParsed};
 ghost use Rattle.meson_variables.specs.CodeVariables.{AreVariables, project_of};
+ghost use Rattle.meson_variables.specs.TargetSources.{or_call, or_option};
 ghost use Rattle.meson_calls.specs.ChosenNotes.{Source, placed_call};
 ghost use Rattle.meson_calls.specs.Refusals.{RefusedAs};
 ghost use Rattle.meson_sources.specs.SourceEdits.{insertion_steps, is_plain, plain_len, sources_added, sources_removed};
@@ -23,7 +24,9 @@ use meson_steps::names::checked_names;
 use meson_steps::step::ListStep;
 use meson_syntax::{Arg, List, Parsed};
 use meson_variables::call_sources::{MAX_FOLLOWED, home_of, met};
+use meson_variables::marks::Marks;
 use meson_variables::variables::Variables;
+use std::alloc::{AllocError, Global};
 
 /// The number of arguments without a name.
 fn count_plain(args: &[Arg]) -> usize
@@ -82,6 +85,14 @@ pub(crate) struct Addition<'n> {
     pub new: Vec<&'n Text>,
 }
 
+/// The list that gets further sources: that of the first one that is in a list, else the first empty list, else the call.
+fn home_in(alloc: Global, call: &CallRef, marks: Marks<'_>) -> Result<CallRef, AllocError>
+    ensures { IfOk result (λ list. list ≡ or_call call.now (or_option marks.entry.list marks.entry.vacant)) }
+{
+    let (list, vacant) = places_of(marks);
+    home_of(alloc, call, list, vacant)
+}
+
 /// How names are added: to the list of the first source that is in one.
 ///
 /// # Errors
@@ -106,8 +117,7 @@ pub(crate) fn addition_of<'t, 'n>(
     at_most_once(alloc, source, arguments, b"sources".as_slice())?;
     let marks = met(variables, MAX_FOLLOWED, call, source, arguments.items.get())?;
     let new = new_names(alloc, marks.items.as_slice(), names)?;
-    let (list, vacant) = places_of(marks);
-    let list = home_of(alloc, call, list, vacant)?;
+    let list = home_in(alloc, call, marks)?;
     Ok(Addition { list, new })
 }
 

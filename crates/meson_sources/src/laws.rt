@@ -1,6 +1,7 @@
 //! Laws of sources. The functions do nothing: what they ensure is the law.
 
 ghost use Rattle.meson_sources.specs.Effects.{ExtraIsAdded, ExtraIsRemoved, SourcesAreAdded, SourcesAreRemoved, SourcesAreRenamed, SourcesAreSorted};
+ghost use Rattle.meson_sources.specs.InOrder.{OrderIsKept};
 ghost use Rattle.meson_sources.specs.InTurn.{ExtrasGoInTurn, SourcesGoInTurn};
 ghost use Rattle.meson_sources.specs.MetOnce.{ItemsAreMetOnce};
 ghost use Rattle.meson_sources.specs.WholeExtras.{AllExtrasGrow, AllExtrasShrink};
@@ -14,6 +15,12 @@ pub fn sources_are_added()
 /// The list to which further sources of a target are added in order keeps its elements in their order. Among them it has each new source once.
 pub fn sources_are_sorted()
     ensures { SourcesAreSorted }
+{}
+
+/// Where the elements that count are in order, and each new source has a place among them, the list is in order after an addition in order. A source that begins
+/// with `-` has none, nor has one that would be the first where no element may be put in front.
+pub fn order_is_kept()
+    ensures { OrderIsKept }
 {}
 
 /// After an addition the id of the target names one target, by the call at the same place. All its sources, in whatever list they are, are those that it had,

@@ -1,6 +1,6 @@
 //! Sources that are added to a target, each in its place if their list is in order.
 
-ghost use Rattle.std.specs.Prelude.{◌≡◌, ◌+◌, ◌<◌, ◌^◌, ◌++◌, [], All, IfErr, IfOk, OnOk, Some, map};
+ghost use Rattle.std.specs.Prelude.{◌≡◌, ◌+◌, ◌<◌, ◌^◌, ◌++◌, [], All, IfErr, IfOk, OnOk, Some, length, map};
 ghost use Rattle.std.specs.Str.{IsUtf8};
 ghost use Rattle.meson_calls.specs.ChosenNotes.{Source, placed_call};
 ghost use Rattle.meson_calls.specs.GoodLists.{GoodListing};
@@ -8,11 +8,12 @@ ghost use Rattle.meson_calls.specs.Loading.{AreParsed};
 ghost use Rattle.meson_calls.specs.NotedProjects.{IsNotedFor, loaded_in, project_in};
 ghost use Rattle.meson_calls.specs.Refusals.{RefusedAs};
 ghost use Rattle.meson_calls.specs.Searching.{name_at};
+ghost use Rattle.meson_sources.specs.SourceEdits.{plain_len};
 ghost use Rattle.meson_sources.specs.Sorting.{added_text, first_sorted, ordered_in, sorted_in, sources_sorted};
 ghost use Rattle.meson_sources.specs.Targeted.{sorted_steps};
 ghost use Rattle.meson_steps.specs.ListSteps.{bare};
 ghost use Rattle.meson_steps.specs.Meanings.{AreMeant};
-ghost use Rattle.meson_steps.specs.OrderedLists.{IsOrderedList, Ordered, ordered, point_in, put_one, put_steps};
+ghost use Rattle.meson_steps.specs.OrderedLists.{IsOrderedList, Ordered, all_put, ordered, point_in, put_one, put_steps};
 ghost use Rattle.meson_steps.specs.Plans.{ArePlanned};
 ghost use Rattle.meson_syntax.specs.View.{list_view};
 ghost use Rattle.meson_variables.specs.CodeVariables.{AreVariables, project_of};
@@ -65,6 +66,7 @@ fn ordered_at(
 ) -> Result<OrderedList, AllocError>
     requires { AreParsed variables.now.files.now variables.now.trees.now }
     ensures is { IfOk result (λ l. IsOrderedList l (ordered_in variables.now.files.now (project_of variables.now) call.now list.now)) }
+    ensures end { IfOk result (λ l. l.end ≡ plain_len (project_of variables.now) list.now) }
     ensures small { IfOk result (λ l. (l.from < 2) × (l.end < 2 ^ 63)) }
 {
     let alloc = variables.alloc;
@@ -96,6 +98,8 @@ fn put_name(
 ) -> Result<(), Refusal>
     requires from { into.old.from < 2 ^ 63 }
     requires end { into.old.end + 1 < 2 ^ 64 }
+    ensures from { into.new.from ≡ into.old.from }
+    ensures end { OnOk result (into.new.end ≡ into.old.end + 1) }
     ensures list { (o : Ordered) → IsOrderedList into.old o → let a = added_text name.now in
         OnOk result (IsOrderedList into.new (put_one o (point_in o a.key) a.key a.written)) }
     ensures steps { (o : Ordered) → IsOrderedList into.old o → let a = added_text name.now in
@@ -106,6 +110,30 @@ fn put_name(
     let new = written_text(alloc, name)?;
     into.put(alloc, list, key, new.get(), steps)?;
     Ok(())
+}
+
+/// The steps that put names into a list, one after another.
+///
+/// # Errors
+/// Out of memory.
+fn put_names(
+    alloc: Global,
+    list: &CallRef,
+    into: &mut OrderedList,
+    names: &[&Text],
+) -> Result<Vec<ListStep>, Refusal>
+    requires from { into.old.from < 2 }
+    requires end { into.old.end < 2 ^ 63 }
+    ensures end { OnOk result (into.new.end ≡ into.old.end + length names.now) }
+    ensures steps { (o : Ordered) → IsOrderedList into.old o → IfOk result (λ steps. map Some steps.items
+        ≡ map bare (all_put list.now o (map added_text (map (λ x. x.now) names.now)))) }
+    ensures refused { IfErr result (λ e. e ≡ Refusal.OutOfMemory) }
+{
+    let mut steps = Vec::new(alloc);
+    for i in 0..names.len() {
+        put_name(alloc, list, into, names[i], &mut steps)?;
+    }
+    Ok(steps)
 }
 
 /// The steps that put names into a list, each in its place if the list is in order.
@@ -123,13 +151,8 @@ fn sorted_insertions(
         ≡ map bare (sorted_in variables.now.files.now (project_of variables.now) call.now list.now (map (λ x. x.now) names.now))) }
     ensures refused { IfErr result (λ e. e ≡ Refusal.OutOfMemory) }
 {
-    let alloc = variables.alloc;
     let mut into = ordered_at(variables, call, list)?;
-    let mut steps = Vec::new(alloc);
-    for i in 0..names.len() {
-        put_name(alloc, list, &mut into, names[i], &mut steps)?;
-    }
-    Ok(steps)
+    put_names(variables.alloc, list, &mut into, names)
 }
 
 /// The steps that add sources, each in its place if the list that gets them is in order.

@@ -15,5 +15,6 @@ pub mod Code
 pub mod GivenWords
 pub mod Order
 pub mod OrderedLists
+pub mod OrderRows
 pub mod ValueFaults
 pub mod inside

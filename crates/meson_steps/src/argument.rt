@@ -51,6 +51,8 @@ pub enum ValueChange {
     Add(Many<Given>),
     /// Those of these values that it does not have yet are added after the first element of its lists that says a value.
     AddAfter { after: Given, values: Many<Given> },
+    /// Those of these values that it does not have yet are added to its last list, each in its place where the list is in order.
+    AddSorted(Many<Given>),
     /// What says one of these values is removed: elements of its lists, or all of it.
     Remove(Many<Given>),
     /// What says the old value becomes the new one: elements of its lists, or all of it.
@@ -92,6 +94,7 @@ impl Drop for ValueChange {
                 after: _,
                 values: _,
             } => {}
+            ValueChange::AddSorted(_) => {}
             ValueChange::Remove(_) => {}
             ValueChange::Replace { old: _, new: _ } => {}
             ValueChange::Delete => {}

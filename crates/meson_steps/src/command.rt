@@ -19,6 +19,11 @@ pub enum Command {
         target: CallName,
         sources: Many<Text>,
     },
+    /// Sources are added, each in its place where the list that gets them is in order.
+    SourcesAddSorted {
+        target: CallName,
+        sources: Many<Text>,
+    },
     SourcesRemove {
         target: CallName,
         sources: Many<Text>,
@@ -108,6 +113,10 @@ impl Drop for Command {
                 target: _,
                 sources: _,
             } => {}
+            Command::SourcesAddSorted {
+                target: _,
+                sources: _,
+            } => {}
             Command::SourcesRemove {
                 target: _,
                 sources: _,
@@ -178,6 +187,7 @@ impl Command {
     fn name(&self) -> &'static str {
         match self {
             Command::SourcesAdd { .. } => "SourcesAdd",
+            Command::SourcesAddSorted { .. } => "SourcesAddSorted",
             Command::SourcesRemove { .. } => "SourcesRemove",
             Command::SourcesRename { .. } => "SourcesRename",
             Command::ExtraAdd { .. } => "ExtraAdd",
@@ -204,6 +214,7 @@ impl fmt::Debug for Command {
         let mut shown = f.debug_tuple(self.name());
         match self {
             Command::SourcesAdd { target, sources }
+            | Command::SourcesAddSorted { target, sources }
             | Command::SourcesRemove { target, sources }
             | Command::ExtraAdd { target, sources }
             | Command::ExtraRemove { target, sources } => shown.field(target).field(sources),

@@ -3,6 +3,7 @@
 ghost use Rattle.meson_steps.specs.Code.{CodeIsExpression};
 ghost use Rattle.meson_steps.specs.Keeping.{MakingKeeps};
 ghost use Rattle.meson_steps.specs.Order.{KeepsOrder, NeedsOrder};
+ghost use Rattle.meson_steps.specs.OrderRows.{AmongFour, InCalls, InFront, NoOrder, OneAfterAnother};
 ghost use Rattle.meson_steps.specs.OneStanding.{OneMaking, OneStanding};
 ghost use Rattle.meson_steps.specs.Steps.{ListsAreReadAgain};
 
@@ -35,4 +36,13 @@ pub fn keeps_order()
 /// A new element is put at another place than the end only where the list is in order for it, and it may be put in its place.
 pub fn needs_order()
     ensures { NeedsOrder }
+{}
+
+/// Lists, and where new elements come in each of them.
+pub fn order_rows()
+    ensures among_four { AmongFour }
+    ensures in_front { InFront }
+    ensures no_order { NoOrder }
+    ensures one_after_another { OneAfterAnother }
+    ensures in_calls { InCalls }
 {}

@@ -14,6 +14,7 @@ abbrev pub warnings : Loaded → Command → List Note
 warnings l (command.KwargsSet r name pairs) = flat_map (λ p. lost_value l r name p.0) pairs ++ unset_names l r name pairs
 warnings l (command.KwargsAdd r name pairs) = unset_names l r name pairs
 warnings l (command.SourcesAdd target names) = into_call l target names ++ shared_by_adding l target names
+warnings l (command.SourcesAddSorted target names) = into_call l target names ++ shared_by_adding l target names
 warnings l (command.SourcesRemove target names) = shared_by_removing l target names
 warnings l (command.SourcesRename target old new) = shared_by_removing l target (old ∷ [])
 warnings l (command.TargetRemove target) = left_variables l target

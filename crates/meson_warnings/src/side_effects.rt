@@ -81,7 +81,7 @@ pub fn warnings(
             };
             unset_names(alloc, project, subject, pairs.get())
         }
-        Command::SourcesAdd { target, sources } => {
+        Command::SourcesAdd { target, sources } | Command::SourcesAddSorted { target, sources } => {
             warn_of_add(alloc, project, target.as_name(), sources.get())
         }
         Command::SourcesRemove { target, sources } => {

@@ -3,12 +3,10 @@ use Rattle.std.specs.Prelude.{◌≡◌, ℕ, List}
 use Rattle.meson_calls.specs.declared.call.Role.{Role}
 use Rattle.meson_calls.specs.declared.call.Role.TheVariants as role
 use Rattle.meson_calls.specs.Loading.{Loaded, project}
-use Rattle.meson_calls.specs.Project.{Project}
-use Rattle.meson_lex.specs.declared.kinds.Span.{Span}
 use Rattle.meson_steps.specs.Done.{Meaning}
 use Rattle.meson_steps.specs.declared.command.Command.{Command}
 use Rattle.meson_steps.specs.declared.command.Command.TheVariants as command
-use Rattle.meson_sources.specs.Targeted.{renamed_steps, target_steps}
+use Rattle.meson_sources.specs.Targeted.{renamed_steps, sorted_steps, target_steps}
 use Rattle.meson_targets.specs.TargetEdits.{named_removed}
 use Rattle.meson_targets.specs.TargetViews.{new_target}
 use Rattle.meson_keywords.specs.Changing.{request_steps}
@@ -23,19 +21,21 @@ use Rattle.meson_calls.specs.Searching.{name_at}
 -- the role and the name or variable of the call that is searched for
 abbrev pub sought : Plan → Role × List ℕ
 sought (plan.OnTarget target change names) = (role.Target, target.id.now)
+sought (plan.SortSources target names) = (role.Target, target.id.now)
 sought (plan.RenameSources target names) = (role.Target, target.id.now)
 sought (plan.AddTarget new) = (role.Target, new.name.now)
 sought (plan.RemoveTarget target) = (role.Target, target.id.now)
 
-abbrev pub plan_steps : Project Span → Plan → Meaning
-plan_steps p (plan.OnTarget target change names) = target_steps p (name_at target) change names.now
-plan_steps p (plan.RenameSources target names) = renamed_steps p (name_at target) names.old.now names.new.now
-plan_steps p (plan.AddTarget new) = new_target p new
-plan_steps p (plan.RemoveTarget target) = named_removed p (name_at target)
+abbrev pub plan_steps : Loaded → Plan → Meaning
+plan_steps l (plan.OnTarget target change names) = target_steps (project l) (name_at target) change names.now
+plan_steps l (plan.SortSources target names) = sorted_steps l.files (project l) (name_at target) names.now
+plan_steps l (plan.RenameSources target names) = renamed_steps (project l) (name_at target) names.old.now names.new.now
+plan_steps l (plan.AddTarget new) = new_target (project l) new
+plan_steps l (plan.RemoveTarget target) = named_removed (project l) (name_at target)
 
 -- an order of a command: its steps are those that the command means, or it is the change of a value that the command is
 abbrev pub IsOrder : Command → Order → Type 0
-IsOrder c (order.Planned q) = (l : Loaded) → Means l c (plan_steps (project l) q)
+IsOrder c (order.Planned q) = (l : Loaded) → Means l c (plan_steps l q)
 IsOrder c (order.Changed r) = (l : Loaded) → Means l c (request_steps (project l) (request_view r))
 IsOrder c (order.OnValue name change) = c ≡ command.Argument name.now change.now
 

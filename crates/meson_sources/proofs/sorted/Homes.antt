@@ -1,6 +1,6 @@
 -- The list to which sources are added, each in its place: what of it counts, and that they may be put there.
 use Rattle.meson_splice.specs.declared.file_set.File.{File}
-use Rattle.meson_steps.specs.OrderedLists.{Ordered, all_put, comment_after, first_of, lone_token, lone_written, ordered, sort_keys}
+use Rattle.meson_steps.specs.OrderedLists.{Added, Ordered, all_elements, all_put, comment_after, first_of, lone_token, lone_written, ordered, sort_keys}
 use Rattle.meson_edit.specs.Standing.{expression_span}
 use Rattle.meson_edit.specs.Places.{IsWritten}
 use Rattle.meson_syntax.specs.Grammar.{expression_depth}
@@ -24,7 +24,7 @@ use Rattle.meson_sources.proofs.added.Homes.{Home, all_stand, list_levels, new_t
 use Rattle.meson_sources.proofs.met.Standing.{AllStand, TargetThere, targets_stand}
 use Rattle.meson_sources.proofs.met.Targets.{files_stand}
 use Rattle.meson_sources.proofs.sorted.Edits.{IsFlat, Stands, list_edited, may_be_done}
-use Rattle.meson_sources.proofs.sorted.Puts.{AllFlat, FirstIsFlat, Fits, all_edits, all_of_list, edits_are, may_be_put, plains, put_among}
+use Rattle.meson_sources.proofs.sorted.Puts.{AllFlat, FirstIsFlat, Fits, all_edits, all_of_list, edits_are, may_be_put, plains, put_among, put_elements}
 use Rattle.meson_sources.proofs.trees.Elements.{parsed_level, value_stands}
 
 -- ==== Elements without a name, and then those with one.
@@ -116,10 +116,10 @@ module _ (old : Loaded) (are : AreParsed old.files old.parsed) (list : CallRef) 
   abbrev source : List ℕ
   source = bytes_at list.file old.files
 
-  abbrev old_elements : List (Argument Span)
+  abbrev pub old_elements : List (Argument Span)
   old_elements = elements h.there.list.list
 
-  abbrev xs : List (Argument Nowhere)
+  abbrev pub xs : List (Argument Nowhere)
   xs = map erase_argument old_elements
 
   abbrev pub o : Ordered
@@ -128,7 +128,7 @@ module _ (old : Loaded) (are : AreParsed old.files old.parsed) (list : CallRef) 
   tree : Plain
   tree = erase h.there.file.tree
 
-  elements_same : elements_there p list ≡ old_elements
+  pub elements_same : elements_there p list ≡ old_elements
   elements_same = elements_are p list h.there
 
   pub list_stands : Stands (erase h.there.file.tree) list.path.steps xs
@@ -235,6 +235,14 @@ module _ (old : Loaded) (are : AreParsed old.files old.parsed) (list : CallRef) 
       ap (λ o. option_and_then (λ t. option_map (λ l. elements l.list) (list_at t list.path.steps)) o) (tree_is old list h.there)
       ∙ ap (option_map (λ (l : ListAt Nowhere). elements l.list)) list_stands.is_place ∙ ap Some list_stands.are
 
+  -- its elements afterwards
+  pub elements_after : (added : List Added) (after : List Plain) → all_stepped (all_put list o added) (plain_trees old) ≡ Some after → elements_found list after ≡ Some (all_elements o added xs)
+  elements_after added after made =
+      let es = all_edits list.path.steps o added in
+      let made_by : all_stepped (map (step_in list) es) (plain_trees old) ≡ Some after = ap (λ steps. all_stepped steps (plain_trees old)) (sym (edits_are list o added)) ∙ made in
+      let r = list_edited list es (all_of_list list.path.steps o added) xs (plain_trees old) after had made_by in
+      r.has ∙ ap Some (put_elements list.path.steps added o xs r.ys fits r.are)
+
   pub gets_among : (names : List (List ℕ)) (after : List Plain) → all_stepped (all_put list o (map added_text names)) (plain_trees old) ≡ Some after → ListGetsAmong list names (plain_trees old) after
   gets_among names after made =
       let added = map added_text names in
@@ -280,7 +288,7 @@ module _ (old : Loaded) (c : Placed (Call Span)) (t : TargetThere (project old) 
 
 -- ==== Sources are added, each in its place.
 
-sorted_was : (files : List File) (p : Project Span) (c : Placed (Call Span)) (names : List (List ℕ)) (steps : List Step) → sources_sorted files p c names ≡ Ok steps
+pub sorted_was : (files : List File) (p : Project Span) (c : Placed (Call Span)) (names : List (List ℕ)) (steps : List Step) → sources_sorted files p c names ≡ Ok steps
     → sorted_in files p c.place (home c.place (source_marks p c)) (new_names (source_marks p c) names) ≡ steps
 sorted_was files p c names steps is =
     let put = sorted_in files p c.place (home c.place (source_marks p c)) (new_names (source_marks p c) names) in

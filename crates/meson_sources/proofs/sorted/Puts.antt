@@ -4,11 +4,11 @@ use Rattle.std.proofs.lemmas.List.Edits.{length-insert}
 use Rattle.std.proofs.lemmas.List.Sums.{count_by-le-length}
 use Rattle.meson_edit.specs.Edits.{Replace}
 use Rattle.meson_steps.specs.Order.{IsInside, insertion_point, is_less, is_order, may_be_ordered, point_after, put_key}
-use Rattle.meson_steps.specs.OrderedLists.{Added, Ordered, all_put, comes_first, point_in, put_after, put_one, put_steps}
+use Rattle.meson_steps.specs.OrderedLists.{Added, Ordered, all_elements, all_put, comes_first, number_at, point_in, put_after, put_one, put_steps}
 use Rattle.meson_steps.specs.declared.order.InsertionPoint.{InsertionPoint}
 use Rattle.meson_steps.specs.declared.order.InsertionPoint.TheVariants as point
 use Rattle.meson_steps.specs.declared.order.SortKey.{SortKey}
-use Rattle.meson_sources.proofs.Words.{option_and_then, option_map, [], ap, ap₂, append-nil, append_assoc, arith, drop, false, length, length-append, List, map, map-append, None, Option, refl, Some, subst}
+use Rattle.meson_sources.proofs.Words.{option_and_then, option_map, [], ap, ap₂, append-nil, append_assoc, arith, drop, false, length, length-append, length-map, List, map, map-append, None, Option, refl, Some, subst}
 use Rattle.meson_sources.proofs.Words.{Bool, eqb-true, nat_eq, some-injective, string_of, suc, sym, take, true, zero, ℕ, ◌++◌, ◌+◌, ◌<◌, ◌∙◌, ◌∷◌, ◌≡◌, ◌≤◌, nth, Argument, Expression, Nowhere, plain, After, Edit, edited_elements}
 use Rattle.meson_sources.proofs.Words.{edited_list, edited, element_added, exchanged, First, Written, Plain, CallRef, step_in}
 use Rattle.meson_sources.specs.Effects.{GetsAmong, as_before, one_more}
@@ -172,6 +172,7 @@ module _ (path : List ℕ) where
     pub front : List (Argument Nowhere)
     pub back : List (Argument Nowhere)
     pub had : xs ≡ front ++ back
+    pub at : number_at o p ≡ length front
     pub made : (rest : List Edit) → all_edited (put_edits path o p w ++ rest) xs ≡ all_edited rest (front ++ plain w.node ∷ back)
     pub may : IsFlat w → FirstIsFlat o → (rest : List Edit) → MayBeEdited path rest (front ++ plain w.node ∷ back) → MayBeEdited path (put_edits path o p w ++ rest) xs
     pub fits : Fits (put_one o p k w) (front ++ plain w.node ∷ back)
@@ -188,10 +189,10 @@ module _ (path : List ℕ) where
 
   module _ (o : Ordered) (k : SortKey) (w : Written (Expression Nowhere)) (xs : List (Argument Nowhere)) (f : Fits o xs) where
     -- after some of those that count
-    after_some : (p : InsertionPoint) (n : ℕ) → put_edits path o p w ≡ put_edit path n w ∷ [] → (a b : List (Expression Nowhere)) → f.counted ≡ a ++ b → n ≡ length f.before + length a
+    after_some : (p : InsertionPoint) (n : ℕ) → number_at o p ≡ n → put_edits path o p w ≡ put_edit path n w ∷ [] → (a b : List (Expression Nowhere)) → f.counted ≡ a ++ b → n ≡ length f.before + length a
         → (length f.before + length a ≡ 0 → plains b ++ f.others ≡ []) → length (put_key p k o.keys) ≡ suc (length o.keys)
         → ((v : Written (Expression Nowhere)) → (put_one o p k w).first ≡ Some v → (rest : List (Expression Nowhere)) × (a ++ w.node ∷ b ≡ v.node ∷ rest)) → OnePut o p k w xs
-    after_some p n edits a b are is none many first =
+    after_some p n number edits a b are is none many first =
         let front = f.before ++ a in
         let back = plains b ++ f.others in
         let count : length front ≡ length f.before + length a = length-append f.before a in
@@ -203,6 +204,7 @@ module _ (path : List ℕ) where
           front = plains front;
           back = back;
           had = had;
+          at = number ∙ is ∙ sym count ∙ sym (length-map front plain);
           made = λ rest. ap (λ es. all_edited (es ++ rest) xs) edits ∙ ap (λ l. option_and_then (all_edited rest) (edited_elements (put_edit path n w) l)) had ∙ ap (option_and_then (all_edited rest)) put.made;
           may = λ flat of_first rest more. subst (λ es. MayBeEdited path (es ++ rest) xs) (sym edits) (subst (MayBeEdited path (put_edit path n w ∷ rest)) (sym had) (put.may flat rest more));
           fits = record {
@@ -221,7 +223,7 @@ module _ (path : List ℕ) where
     at_end : put_edits path o point.End w ≡ put_edit path o.end w ∷ [] → OnePut o point.End k w xs
     at_end edits =
         let empty : length f.before + length f.counted ≡ 0 → f.others ≡ [] = λ zero_left. f.none (f.end ∙ zero_left) in
-        after_some point.End o.end edits f.counted [] (sym (append-nil f.counted)) f.end empty (length-append o.keys (k ∷ []) ∙ omega arith) (by_end (nat_eq o.from o.end) refl)
+        after_some point.End o.end refl edits f.counted [] (sym (append-nil f.counted)) f.end empty (length-append o.keys (k ∷ []) ∙ omega arith) (by_end (nat_eq o.from o.end) refl)
       where
         nothing : (es : List (Expression Nowhere)) → length es ≡ 0 → es ≡ []
         nothing [] none = refl
@@ -263,7 +265,7 @@ module _ (path : List ℕ) where
         let from = f.from in
         let at : suc (o.from + n) ≡ length f.before + length (take (suc n) f.counted) = omega (arith, from, count) in
         let longer : length (insert o.keys (suc n) k) ≡ suc (length o.keys) = omega (arith, length-insert o.keys (suc n) k (omega (arith, within))) in
-        after_some (point.After n) (suc (o.from + n)) refl (take (suc n) f.counted) (drop (suc n) f.counted) (cut (suc n) f.counted) at (λ none. absurd (omega (arith, none, count))) longer (first_stays n)
+        after_some (point.After n) (suc (o.from + n)) refl refl (take (suc n) f.counted) (drop (suc n) f.counted) (cut (suc n) f.counted) at (λ none. absurd (omega (arith, none, count))) longer (first_stays n)
 
     in_front : (v : Written (Expression Nowhere)) → o.first ≡ Some v → OnePut o point.Front k w xs
     in_front v is =
@@ -287,6 +289,7 @@ module _ (path : List ℕ) where
           front = plains f.before;
           back = back;
           had = had;
+          at = front_is ∙ sym (length-map f.before plain);
           made = λ rest.
               ap (λ es. all_edited (es ++ rest) xs) edits ∙ ap (all_edited (Replace path o.from w ∷ put_edit path (suc o.from) v ∷ rest)) had
               ∙ ap (λ it. option_and_then (all_edited (put_edit path (suc o.from) v ∷ rest)) (option_and_then (exchanged o.from (λ u. w.node) zs) it)) is_there
@@ -324,6 +327,15 @@ module _ (path : List ℕ) where
 
 -- ==== All of them.
 
+inserted_first : {A : Type 0} (xs : List A) (a : A) → insert xs 0 a ≡ a ∷ xs
+inserted_first [] a = refl
+inserted_first (x ∷ xs) a = refl
+
+inserted_between : {A : Type 0} (front back : List A) (a : A) (n : ℕ) → n ≡ length front → insert (front ++ back) n a ≡ front ++ a ∷ back
+inserted_between [] back a n is = ap (λ m. insert back m a) is ∙ inserted_first back a
+inserted_between (x ∷ front) back a zero is = absurd (omega (arith, is))
+inserted_between (x ∷ front) back a (suc n) is = ap (λ l. x ∷ l) (inserted_between front back a n (omega (arith, is)))
+
 abbrev pub AllFlat : List Added → Type 0
 AllFlat [] = Unit {0}
 AllFlat (a ∷ more) = IsFlat a.written × AllFlat more
@@ -343,6 +355,17 @@ module _ (path : List ℕ) where
       let r = one_put path o a.key a.written xs f in
       let next = put_one o (point_in o a.key) a.key a.written in
       r.may flat.0 of_first (all_edits path next more) (may_be_put more next (r.front ++ plain a.written.node ∷ r.back) r.fits flat.1 (next_flat o (point_in o a.key) a.key a.written flat.0 of_first))
+
+  -- the elements are all in their places
+  pub put_elements : (added : List Added) (o : Ordered) (xs ys : List (Argument Nowhere)) → Fits o xs → all_edited (all_edits path o added) xs ≡ Some ys → ys ≡ all_elements o added xs
+  put_elements [] o xs ys f made = sym (some-injective xs ys made)
+  put_elements (a ∷ more) o xs ys f made =
+      let p = point_in o a.key in
+      let r = one_put path o a.key a.written xs f in
+      let next = put_one o p a.key a.written in
+      let it : Argument Nowhere = plain a.written.node in
+      let is : r.front ++ it ∷ r.back ≡ insert xs (number_at o p) it = sym (ap (λ l. insert l (number_at o p) it) r.had ∙ inserted_between r.front r.back it (number_at o p) r.at) in
+      put_elements more next (r.front ++ it ∷ r.back) ys r.fits (sym (r.made (all_edits path next more)) ∙ made) ∙ ap (all_elements next more) is
 
   module _ (named : List ℕ → Added) (is_string : (name : List ℕ) → (named name).written.node ≡ string_of name) where
     pub put_among : (names : List (List ℕ)) (o : Ordered) (xs ys : List (Argument Nowhere)) → Fits o xs → all_edited (all_edits path o (map named names)) xs ≡ Some ys → GetsAmong names xs ys

@@ -16,6 +16,10 @@ pub returns-clause-values : goal.returns-clause-values
 unfolding clap_on_literals program target kwargs argument default_options command undo redo history list asked_from action_within argument_action values_meant action_of other_action rename_action target_action kwargs_action kwargs_by options_action options_by script_action lone_names pairs_of count_of
 returns-clause-values c = (refl, refl, refl, refl, refl, refl, refl, refl, refl, refl, refl, refl, refl, refl, refl, refl, refl, refl, refl, refl, refl, refl, refl, refl, refl, refl, refl, refl, refl, refl, refl, refl, refl, refl, refl, refl, refl, refl)
 
+pub returns-clause-sorted : goal.returns-clause-sorted
+unfolding clap_on_literals program target kwargs argument default_options command undo redo history list asked_from action_within argument_action values_meant action_of other_action rename_action target_action kwargs_action kwargs_by options_action options_by script_action lone_names pairs_of count_of
+returns-clause-sorted c = (refl, refl, refl, refl, refl, refl, refl, refl, refl, refl, refl, refl, refl, refl, refl, refl, refl, refl, refl, refl, refl, refl, refl, refl, refl, refl)
+
 pub returns-clause-infos : goal.returns-clause-infos
 unfolding clap_on_literals program target kwargs argument default_options command undo redo history list asked_from action_within argument_action values_meant action_of other_action rename_action target_action kwargs_action kwargs_by options_action options_by script_action lone_names pairs_of count_of
 returns-clause-infos c = (refl, refl, refl, refl, refl, refl, refl, refl, refl)

@@ -21,6 +21,10 @@ pub returns-clause-values : goal.returns-clause-values
 unfolding serde_json_on_literals digits each_of each_member names_of_members count_of value_name argument_entry entry_of entry_by entries_of script_of
 returns-clause-values c = (refl, refl, refl, refl, refl, refl, refl, refl, refl, refl, refl, refl, refl, refl, refl, refl, refl, refl, refl, refl, refl, refl, refl, refl)
 
+pub returns-clause-sorted : goal.returns-clause-sorted
+unfolding serde_json_on_literals digits each_of each_member names_of_members count_of value_name argument_entry target_members rename_entry target_entry entry_of entry_by entries_of script_of
+returns-clause-sorted c = (refl, refl, refl, refl, refl, refl, refl, refl, refl, refl, refl, refl, refl, refl, refl, refl)
+
 pub returns-clause-infos : goal.returns-clause-infos
 unfolding serde_json_on_literals digits each_of each_member names_of_members count_of value_name argument_entry entry_of entry_by entries_of script_of
 returns-clause-infos c = (refl, refl, refl, refl, refl, refl)

@@ -23,6 +23,7 @@ module _ (l : Loaded) (n : ValueName) (key : List ℕ) (s : Slot) (one : Result 
   remove_is (change.SetAll ks) gs hs is same may = absurd (let no : ⊥ = cc in no)
   remove_is (change.Add ks) gs hs is same may = absurd (let no : ⊥ = cc in no)
   remove_is (change.AddAfter it ks) gs hs is same may = absurd (let no : ⊥ = cc in no)
+  remove_is (change.AddSorted ks) gs hs is same may = absurd (let no : ⊥ = cc in no)
   remove_is (change.Replace old new) gs hs is same may = absurd (let no : ⊥ = cc in no)
   remove_is change.Delete gs hs is same may = absurd (let no : ⊥ = cc in no)
   remove_is (change.Remove ks) gs hs is same may =
@@ -34,6 +35,7 @@ module _ (l : Loaded) (n : ValueName) (key : List ℕ) (s : Slot) (one : Result 
   replace_is (change.SetAll ks) old new is may = absurd (let no : ⊥ = cc in no)
   replace_is (change.Add ks) old new is may = absurd (let no : ⊥ = cc in no)
   replace_is (change.AddAfter it ks) old new is may = absurd (let no : ⊥ = cc in no)
+  replace_is (change.AddSorted ks) old new is may = absurd (let no : ⊥ = cc in no)
   replace_is (change.Remove ks) old new is may = absurd (let no : ⊥ = cc in no)
   replace_is change.Delete old new is may = absurd (let no : ⊥ = cc in no)
   replace_is (change.Replace was now) old new is may =

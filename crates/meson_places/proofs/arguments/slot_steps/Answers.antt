@@ -14,6 +14,7 @@ use Rattle.meson_places.specs.Insertions.{insert_steps}
 use Rattle.meson_places.specs.Removals.{remove_steps}
 use Rattle.meson_places.specs.Replacements.{exchange, exchange_steps}
 use Rattle.meson_places.specs.Several.{AllMayBeGiven}
+use Rattle.meson_places.specs.SortedAdditions.{sorted_steps}
 use Rattle.meson_places.proofs.Meant.{made_fine, made_refused}
 use Rattle.meson_places.proofs.Refused.{refused_as}
 use Rattle.meson_places.proofs.arguments.slot_steps.Goals as goal
@@ -24,6 +25,7 @@ set_all_is l key (change.Add ks) gs hs is same may s = absurd (let no : ⊥ = cc
 set_all_is l key (change.Remove ks) gs hs is same may s = absurd (let no : ⊥ = cc in no)
 set_all_is l key (change.Replace old new) gs hs is same may s = absurd (let no : ⊥ = cc in no)
 set_all_is l key (change.AddAfter it ks) gs hs is same may s = absurd (let no : ⊥ = cc in no)
+set_all_is l key (change.AddSorted ks) gs hs is same may s = absurd (let no : ⊥ = cc in no)
 set_all_is l key change.Delete gs hs is same may s = absurd (let no : ⊥ = cc in no)
 set_all_is l key (change.SetAll ks) gs hs is same may s =
     let alike : ks ≡ hs = let e : ks ≡ gs = cc in e ∙ sym same in
@@ -47,6 +49,7 @@ add_is l key (change.SetAll ks) gs hs is same may s = absurd (let no : ⊥ = cc 
 add_is l key (change.Remove ks) gs hs is same may s = absurd (let no : ⊥ = cc in no)
 add_is l key (change.Replace old new) gs hs is same may s = absurd (let no : ⊥ = cc in no)
 add_is l key (change.AddAfter it ks) gs hs is same may s = absurd (let no : ⊥ = cc in no)
+add_is l key (change.AddSorted ks) gs hs is same may s = absurd (let no : ⊥ = cc in no)
 add_is l key change.Delete gs hs is same may s = absurd (let no : ⊥ = cc in no)
 add_is l key (change.Add ks) gs hs is same may s =
     let alike : ks ≡ hs = let e : ks ≡ gs = cc in e ∙ sym same in
@@ -69,6 +72,7 @@ after_is : (l : Loaded) (key : List ℕ) (ch : ValueChange) (it : Given) (gs hs 
 after_is l key (change.Set g) it gs hs is same may s = absurd (let no : ⊥ = cc in no)
 after_is l key (change.SetAll ks) it gs hs is same may s = absurd (let no : ⊥ = cc in no)
 after_is l key (change.Add ks) it gs hs is same may s = absurd (let no : ⊥ = cc in no)
+after_is l key (change.AddSorted ks) it gs hs is same may s = absurd (let no : ⊥ = cc in no)
 after_is l key (change.Remove ks) it gs hs is same may s = absurd (let no : ⊥ = cc in no)
 after_is l key (change.Replace old new) it gs hs is same may s = absurd (let no : ⊥ = cc in no)
 after_is l key change.Delete it gs hs is same may s = absurd (let no : ⊥ = cc in no)
@@ -89,12 +93,37 @@ returns-in-AddAfter-clause-refused c = λ may.
     refused_as c.insert_steps.result (slot_steps l c.args.key.now c.args.change.now may c.args.slot.now) (insert_steps l c.in-AddAfter.after c.get-values.result.now x.0 c.args.key.now c.args.slot.now) x.1
     (made_refused _ _ c.insert_steps.result (c.insert_steps.ensures.made x.0))
 
+sorted_is : (l : Loaded) (key : List ℕ) (ch : ValueChange) (gs hs : List Given) → ch ≡ change.AddSorted gs → hs ≡ gs → (may : MayBeMade ch) (s : Slot) → (mays : AllMayBeGiven hs) × (slot_steps l key ch may s ≡ sorted_steps l hs mays key s)
+sorted_is l key (change.Set g) gs hs is same may s = absurd (let no : ⊥ = cc in no)
+sorted_is l key (change.SetAll ks) gs hs is same may s = absurd (let no : ⊥ = cc in no)
+sorted_is l key (change.Add ks) gs hs is same may s = absurd (let no : ⊥ = cc in no)
+sorted_is l key (change.AddAfter it ks) gs hs is same may s = absurd (let no : ⊥ = cc in no)
+sorted_is l key (change.Remove ks) gs hs is same may s = absurd (let no : ⊥ = cc in no)
+sorted_is l key (change.Replace old new) gs hs is same may s = absurd (let no : ⊥ = cc in no)
+sorted_is l key change.Delete gs hs is same may s = absurd (let no : ⊥ = cc in no)
+sorted_is l key (change.AddSorted ks) gs hs is same may s =
+    let alike : ks ≡ hs = let e : ks ≡ gs = cc in e ∙ sym same in
+    subst (λ t. (mays : AllMayBeGiven t) × (sorted_steps l ks may key s ≡ sorted_steps l t mays key s)) alike (may, refl)
+
+pub returns-in-AddSorted-clause-meant : goal.returns-in-AddSorted-clause-meant
+returns-in-AddSorted-clause-meant c = λ may.
+    let x = sorted_is (loaded_in c.args.sources) c.args.key.now c.args.change.now c.in-AddSorted.values c.get-in-AddSorted.result.now c.in-AddSorted.is c.get-in-AddSorted.ensures may c.args.slot.now in
+    IfOk-weaker c.sorted_steps.result _ _ (λ steps m. subst (λ r. AreMeant r steps.items) (sym x.1) m) (made_fine _ _ c.sorted_steps.result (c.sorted_steps.ensures.made x.0))
+
+pub returns-in-AddSorted-clause-refused : goal.returns-in-AddSorted-clause-refused
+returns-in-AddSorted-clause-refused c = λ may.
+    let l = loaded_in c.args.sources in
+    let x = sorted_is l c.args.key.now c.args.change.now c.in-AddSorted.values c.get-in-AddSorted.result.now c.in-AddSorted.is c.get-in-AddSorted.ensures may c.args.slot.now in
+    refused_as c.sorted_steps.result (slot_steps l c.args.key.now c.args.change.now may c.args.slot.now) (sorted_steps l c.get-in-AddSorted.result.now x.0 c.args.key.now c.args.slot.now) x.1
+    (made_refused _ _ c.sorted_steps.result (c.sorted_steps.ensures.made x.0))
+
 remove_is : (l : Loaded) (key : List ℕ) (ch : ValueChange) (gs hs : List Given) → ch ≡ change.Remove gs → hs ≡ gs → (may : MayBeMade ch) (s : Slot) → slot_steps l key ch may s ≡ remove_steps l hs key s
 remove_is l key (change.Set g) gs hs is same may s = absurd (let no : ⊥ = cc in no)
 remove_is l key (change.SetAll ks) gs hs is same may s = absurd (let no : ⊥ = cc in no)
 remove_is l key (change.Add ks) gs hs is same may s = absurd (let no : ⊥ = cc in no)
 remove_is l key (change.Replace old new) gs hs is same may s = absurd (let no : ⊥ = cc in no)
 remove_is l key (change.AddAfter it ks) gs hs is same may s = absurd (let no : ⊥ = cc in no)
+remove_is l key (change.AddSorted ks) gs hs is same may s = absurd (let no : ⊥ = cc in no)
 remove_is l key change.Delete gs hs is same may s = absurd (let no : ⊥ = cc in no)
 remove_is l key (change.Remove ks) gs hs is same may s =
     let alike : ks ≡ hs = let e : ks ≡ gs = cc in e ∙ sym same in
@@ -118,6 +147,7 @@ replace_is l key (change.SetAll ks) old new is may s = absurd (let no : ⊥ = cc
 replace_is l key (change.Add ks) old new is may s = absurd (let no : ⊥ = cc in no)
 replace_is l key (change.Remove ks) old new is may s = absurd (let no : ⊥ = cc in no)
 replace_is l key (change.AddAfter it ks) old new is may s = absurd (let no : ⊥ = cc in no)
+replace_is l key (change.AddSorted ks) old new is may s = absurd (let no : ⊥ = cc in no)
 replace_is l key change.Delete old new is may s = absurd (let no : ⊥ = cc in no)
 replace_is l key (change.Replace was now) old new is may s =
     let same_old : was ≡ old = cc in

@@ -27,7 +27,7 @@ returns-in-Remove-clause-found c =
     let files = c.args.sources.files.now in
     let p = project (loaded_in c.args.sources) in
     let place = c.args.place.now in
-    let same = ap (λ ch. operand_value_at files p ch place) c.in-Remove.is ∙ ap (λ gs. losing_at files p gs place) (sym c.get-in-Remove.ensures) in
+    let same = ap (λ ch. operand_value_at files p ch place) c.in-Remove.is ∙ ap (λ gs. losing_at files p gs place) (sym c.get.ensures) in
     IfOk-weaker c.losing_at-in-Remove.result _ _ (λ o found. same ∙ found) c.losing_at-in-Remove.ensures.found
 
 pub returns-in-Remove-clause-refused : goal.returns-in-Remove-clause-refused
@@ -35,8 +35,8 @@ returns-in-Remove-clause-refused c =
     let files = c.args.sources.files.now in
     let p = project (loaded_in c.args.sources) in
     let place = c.args.place.now in
-    refused_as c.losing_at-in-Remove.result (operand_value_at files p c.args.change.now place) (losing_at files p c.get-in-Remove.result.now place)
-    (ap (λ ch. operand_value_at files p ch place) c.in-Remove.is ∙ ap (λ gs. losing_at files p gs place) (sym c.get-in-Remove.ensures)) c.losing_at-in-Remove.ensures.refused
+    refused_as c.losing_at-in-Remove.result (operand_value_at files p c.args.change.now place) (losing_at files p c.get.result.now place)
+    (ap (λ ch. operand_value_at files p ch place) c.in-Remove.is ∙ ap (λ gs. losing_at files p gs place) (sym c.get.ensures)) c.losing_at-in-Remove.ensures.refused
 
 pub returns-in-Replace-clause-found : goal.returns-in-Replace-clause-found
 returns-in-Replace-clause-found c =

@@ -33,20 +33,20 @@ planned-requires c =
 
 -- the steps of a plan, of the trees that are read in another place
 planned_there : (files : List File) (here there : List Parsed) → here ≡ there → (p : Plan) (steps : List ListStep)
-    → ArePlanned (record { files = files; parsed = here }) (plan_steps (project (record { files = files; parsed = here })) p) steps
-    → ArePlanned (record { files = files; parsed = there }) (plan_steps (project (record { files = files; parsed = there })) p) steps
-planned_there files here there same p steps are = let of : List Parsed → Loaded = λ ts. record { files = files; parsed = ts } in subst (λ ts. ArePlanned (of ts) (plan_steps (project (of ts)) p) steps) same are
+    → ArePlanned (record { files = files; parsed = here }) (plan_steps (record { files = files; parsed = here }) p) steps
+    → ArePlanned (record { files = files; parsed = there }) (plan_steps (record { files = files; parsed = there }) p) steps
+planned_there files here there same p steps are = let of : List Parsed → Loaded = λ ts. record { files = files; parsed = ts } in subst (λ ts. ArePlanned (of ts) (plan_steps (of ts) p) steps) same are
 
 pub done-requires-clause-planned : goal.done-requires-clause-planned
 done-requires-clause-planned c =
     let w = c.args.work.now in
-    (plan_steps (project (so_far w)) c.in-Planned.plan, planned_there w.files c.as_slice.result.now w.trees.items c.as_slice.ensures.value c.in-Planned.plan c.in_ok-steps-in-Planned.steps.items c.in_ok-steps-in-Planned.ensures.plan)
+    (plan_steps (so_far w) c.in-Planned.plan, planned_there w.files c.as_slice.result.now w.trees.items c.as_slice.ensures.value c.in-Planned.plan c.in_ok-steps-in-Planned.steps.items c.in_ok-steps-in-Planned.ensures.plan)
 
 pub returns-in_ok-steps-in-Planned-clause-done : goal.returns-in_ok-steps-in-Planned-clause-done
 returns-in_ok-steps-in-Planned-clause-done c =
     let w = c.args.work.now in
     let p = c.in-Planned.plan in
-    let meant = plan_steps (project (so_far w)) p in
+    let meant = plan_steps (so_far w) p in
     on_ok_weaker c.done.result (λ out. (meant, c.in-Planned.ensures (so_far w), out))
     (c.done.ensures.done meant (planned_there w.files c.as_slice.result.now w.trees.items c.as_slice.ensures.value p c.in_ok-steps-in-Planned.steps.items c.in_ok-steps-in-Planned.ensures.plan))
 
@@ -54,7 +54,7 @@ pub returns-in_ok-steps-in-Planned-clause-refused : goal.returns-in_ok-steps-in-
 returns-in_ok-steps-in-Planned-clause-refused c =
     let w = c.args.work.now in
     let p = c.in-Planned.plan in
-    let meant = plan_steps (project (so_far w)) p in
+    let meant = plan_steps (so_far w) p in
     IfErr-weaker c.done.result _ _ (λ e why other. (meant, c.in-Planned.ensures (so_far w), why other))
     (c.done.ensures.refused meant (planned_there w.files c.as_slice.result.now w.trees.items c.as_slice.ensures.value p c.in_ok-steps-in-Planned.steps.items c.in_ok-steps-in-Planned.ensures.plan))
 
@@ -65,8 +65,8 @@ returns-in_err-steps-in-Planned-clause-refused c =
     let old = so_far c.args.work.now in
     let of : _ → Loaded = λ ts. record { files = c.args.work.now.files; parsed = ts } in
     let e = c.in_err-steps-in-Planned.field-0.0 in
-    let why = subst (λ ts. plan_steps (project (of ts)) c.in-Planned.plan ≡ Err e) c.as_slice.ensures.value (c.in_err-steps-in-Planned.ensures.refused other) in
-    (plan_steps (project old) c.in-Planned.plan, c.in-Planned.ensures old, unmeant e why))
+    let why = subst (λ ts. plan_steps (of ts) c.in-Planned.plan ≡ Err e) c.as_slice.ensures.value (c.in_err-steps-in-Planned.ensures.refused other) in
+    (plan_steps old c.in-Planned.plan, c.in-Planned.ensures old, unmeant e why))
 
 pub returns-in-Changed-clause-done : goal.returns-in-Changed-clause-done
 returns-in-Changed-clause-done c =

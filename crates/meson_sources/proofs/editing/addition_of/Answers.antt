@@ -1,6 +1,6 @@
 use Rattle.meson_sources.proofs.editing.addition_of.Goals as goal
 use Rattle.meson_sources.proofs.Words.{Err, Ok, ap, IsUtf8, length, map, subst, sym, ◌<◌, ◌∙◌, ◌≡◌, ◌≤◌, err_from_is_err_and, value_with_name, kept_args}
-use Rattle.meson_sources.proofs.Words.{DuplicateKeyword, project_of, all_gathered, max_followed, gathered, or_call, or_option, checked_names, new_among}
+use Rattle.meson_sources.proofs.Words.{DuplicateKeyword, project_of, all_gathered, max_followed, gathered, checked_names, new_among}
 use Rattle.meson_sources.proofs.KeyTexts.{sources_text}
 use Rattle.meson_sources.proofs.commands.Meant.{added_twice, may_add}
 
@@ -28,7 +28,5 @@ returns-clause-may c = λ function.
     let checked : checked_names names ≡ Ok tt = sym c.checked_names.ensures.checked ∙ c.in_ok-checked_names.was in
     let few = subst (λ k. length (kept_args source (value_with_name k) 0 l.items) ≤ 1) c.as_slice.ensures c.in_ok-at_most_once.ensures.few in
     let is = ap (λ g. g.tally) (c.in_ok-marks.ensures ∙ ap (all_gathered p max_followed c.args.call.now source) c.get.ensures) in
-    let places = c.places_of-list.ensures in
-    let is_home = c.in_ok-list.ensures ∙ ap (λ o. or_call c.args.call.now (or_option o c.places_of-list.result.1)) places.list ∙ ap (λ o. or_call c.args.call.now (or_option c.in_ok-marks.marks.list o)) places.vacant in
     let new_is = c.in_ok-new.ensures ∙ ap (λ xs. new_among xs names) c.as_slice-2.ensures.value in
-    may_add p c.args.call.now source l function names checked few (gathered c.in_ok-marks.marks).tally is c.in_ok-list.list is_home (map (λ x. x.now) c.in_ok-new.new.items) new_is
+    may_add p c.args.call.now source l function names checked few (gathered c.in_ok-marks.marks).tally is c.in_ok-list.list c.in_ok-list.ensures (map (λ x. x.now) c.in_ok-new.new.items) new_is

@@ -11,6 +11,9 @@ returns-then-list-trees-clause-is c =
     is_ordered v.files.now (project_of v) c.args.call.now list c.without_elements.result c.first_sorted-from.result c.plain_len-end.result c.first_sorted-from.ensures.is c.plain_len-end.ensures.counted
     [] (none_past v.files.now v.trees.now list c.if-list-trees.true) (c.without_elements.ensures (bytes_at list.file v.files.now))
 
+pub returns-then-list-trees-clause-end : goal.returns-then-list-trees-clause-end
+returns-then-list-trees-clause-end c = (c.without_elements.ensures []).end ∙ c.plain_len-end.ensures.counted
+
 pub returns-then-list-trees-clause-small : goal.returns-then-list-trees-clause-small
 returns-then-list-trees-clause-small c =
     let made = c.without_elements.ensures [] in
@@ -55,6 +58,9 @@ returns-in-None-clause-is c =
     let none = none_there v.files.now v.trees.now list c.index-trees-list.result (as_many v.files.now v.trees.now c.requires) c.if-list-trees.false is in
     is_ordered v.files.now (project_of v) c.args.call.now list c.without_elements-in-None.result c.first_sorted-from.result c.plain_len-end.result c.first_sorted-from.ensures.is c.plain_len-end.ensures.counted
     [] none (c.without_elements-in-None.ensures bytes)
+
+pub returns-in-None-clause-end : goal.returns-in-None-clause-end
+returns-in-None-clause-end c = (c.without_elements-in-None.ensures []).end ∙ c.plain_len-end.ensures.counted
 
 pub returns-in-None-clause-small : goal.returns-in-None-clause-small
 returns-in-None-clause-small c =

@@ -4,7 +4,7 @@ use Rattle.std.proofs.lemmas.Result.{err_from_is_err_and}
 use Rattle.meson_json.specs.Arguments.{place_named}
 use Rattle.meson_json.specs.Scripts.{value_name}
 use Rattle.meson_json.specs.declared.fault.ScriptFault.TheVariants.{BadField}
-use Rattle.meson_json.proofs.entry.value_name.Goals as goal
+use Rattle.meson_json.proofs.value_entry.value_name.Goals as goal
 
 pub returns-in_err-keys-clause-refused : goal.returns-in_err-keys-clause-refused
 unfolding value_name
