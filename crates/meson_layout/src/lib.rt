@@ -14,4 +14,4 @@ mod statements;
 
 pub use edits::layout;
 pub use lists::list_layout;
-pub use primitive::Primitive;
+pub use primitive::{LineSpot, Primitive};
