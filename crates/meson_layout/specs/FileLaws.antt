@@ -15,7 +15,7 @@ use Rattle.meson_lex.specs.Kinds.{IsLineEnd}
 use Rattle.meson_lex.specs.Words.{spoken}
 use Rattle.meson_layout.specs.Looks.{is_line_end, at_most_blank}
 use Rattle.meson_layout.specs.Statements.{at_line_start}
-use Rattle.meson_layout.specs.Layout.{layout_of, spot_len, IsSpotOf}
+use Rattle.meson_layout.specs.Layout.{layout_of, IsSpotOf}
 use Rattle.meson_lex.specs.Words.{IsTight}
 use Rattle.meson_layout.specs.Edited.{patched_by}
 

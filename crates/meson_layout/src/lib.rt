@@ -5,6 +5,7 @@ mod edits;
 mod insertion;
 pub mod laws;
 mod lexemes;
+mod line_spots;
 mod lists;
 mod looks;
 mod place;
