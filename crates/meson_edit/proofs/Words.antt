@@ -34,6 +34,7 @@ pub use Rattle.meson_layout.specs.Layout.{IsBracketOf, IsPlaced, IsSpanOf, layou
 pub use Rattle.meson_layout.specs.Words.{comma_word, IsBeforeElement, IsBeforeValue, IsBehindElement, IsCommaAtMost, remarks}
 pub use Rattle.meson_layout.specs.declared.primitive.Primitive.{Primitive}
 pub use Rattle.meson_layout.proofs.AppendLaws.{append-law}
+pub use Rattle.meson_layout.proofs.LineLaws.{lines-law}
 pub use Rattle.meson_layout.proofs.StatementLaws.{statement-removal-law}
 pub use Rattle.meson_layout.proofs.ValueLaws.{first-law, replacement-law, wrap-keeps, wrap-law}
 pub use Rattle.meson_syntax.specs.Codes.{code_argument, code_arguments, code_block, code_branches, code_expression, code_file, code_listing, code_operands}

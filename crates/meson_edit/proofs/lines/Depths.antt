@@ -1,6 +1,6 @@
 -- A file in which some statements became others is no deeper than before by more than these are, nor than the file with these alone.
 use Rattle.meson_edit.proofs.Words.{max, ◌≡◌, ℕ, zero, suc, ◌+◌, ◌<◌, ◌≤◌, ◌⊎◌, inl, inr, refl, List, [], ◌∷◌, ◌++◌, take, drop, Some, ap, arith, statements_depth, block_depth}
-use Rattle.meson_edit.proofs.Words.{file_depth, of_block, Hole, reach, Nowhere, Statement, statement_list, statements_of, Block}
+use Rattle.meson_edit.proofs.Words.{file_depth, of_block, Hole, Nowhere, Statement, statement_list, statements_of, Block}
 use Rattle.meson_edit.proofs.Words.{block, file, Plain, BlockAt, block_at}
 use Rattle.meson_syntax.proofs.parsing.CompleteFiles.{list-of-statements}
 use Rattle.std.proofs.lemmas.Bool.{cases_lt}
