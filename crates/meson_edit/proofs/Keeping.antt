@@ -1,9 +1,10 @@
 -- What every edit keeps.
-use Rattle.meson_edit.proofs.Words.{refl, First, After, Remove, Replace, Wrap, RemoveStatement, Append, Assign, EditsKeep}
+use Rattle.meson_edit.proofs.Words.{refl, First, After, Remove, Replace, Wrap, RemoveStatement, Append, Assign, Lines, EditsKeep}
 use Rattle.meson_edit.proofs.lists.Answers.{list-edit-keeps}
 use Rattle.meson_edit.proofs.lists.Values.{wraps-value}
 use Rattle.meson_edit.proofs.statements.Kept.{statement-removals-keep, appended-keep}
 use Rattle.meson_edit.proofs.statements.Assigned.{assignments-keep}
+use Rattle.meson_edit.proofs.statements.Lined.{lines-keep}
 
 pub edits-keep : EditsKeep
 edits-keep (First path new) limits bytes f s items are name writes t is = list-edit-keeps (First path new) limits bytes f s items are name writes t is path refl is
@@ -17,3 +18,4 @@ edits-keep (Wrap path n) limits bytes f s items are name writes t is = λ primit
 edits-keep (RemoveStatement path n) limits bytes f s items are name writes t is = statement-removals-keep path n limits bytes f s items are name t is
 edits-keep (Append new) limits bytes f s items are name writes t is = appended-keep new limits bytes f s items are name writes
 edits-keep (Assign path new) limits bytes f s items are name writes t is = assignments-keep path new limits bytes f s items are name writes t is
+edits-keep (Lines place new) limits bytes f s items are name writes t is = lines-keep place new limits bytes f s items are name t is

@@ -34,6 +34,7 @@ pub use Rattle.meson_layout.specs.Layout.{IsBracketOf, IsPlaced, IsSpanOf, layou
 pub use Rattle.meson_layout.specs.Words.{comma_word, IsBeforeElement, IsBeforeValue, IsBehindElement, IsCommaAtMost, remarks}
 pub use Rattle.meson_layout.specs.declared.primitive.Primitive.{Primitive}
 pub use Rattle.meson_layout.proofs.AppendLaws.{append-law}
+pub use Rattle.meson_layout.proofs.LineLaws.{lines-law}
 pub use Rattle.meson_layout.proofs.StatementLaws.{statement-removal-law}
 pub use Rattle.meson_layout.proofs.ValueLaws.{first-law, replacement-law, wrap-keeps, wrap-law}
 pub use Rattle.meson_syntax.specs.Codes.{code_argument, code_arguments, code_block, code_branches, code_expression, code_file, code_listing, code_operands}
@@ -118,24 +119,24 @@ pub use Rattle.meson_edit.specs.Blocks.{file_and_last, IsBreak, IsLineRest, IsSt
 pub use Rattle.meson_edit.specs.Assigned.{assigned_at, assigned_in, assigned_of_node, assigned_within, AssignedAt, AssignedIn}
 pub use Rattle.meson_edit.specs.Edits.{After, Append, Assign, array_of, Edit, edited, edited_elements, edited_list, element_added, element_removed, elements, exchanged}
 pub use Rattle.meson_edit.specs.Edits.{First, first_element, is_empty, Remove, RemoveStatement, Replace, with_elements, with_value, without_statement, Wrap}
-pub use Rattle.meson_edit.specs.Edits.{Written}
+pub use Rattle.meson_edit.specs.Edits.{Written, LinePlace, above, below, at_end, Lines, with_lines, with_more}
 pub use Rattle.meson_edit.specs.Exchange.{ListsExchange, ListsReadAgain}
 pub use Rattle.meson_edit.specs.ExchangedTokens.{list_tokens, TokensExchanged, TokensMove}
 pub use Rattle.meson_edit.specs.Holes.{BlocksErase, erase_front, erase_list_front, erase_node, list_front, ListFront, ListsErase, NodesErase, words_around}
 pub use Rattle.meson_edit.specs.Holes.{WordsAround}
-pub use Rattle.meson_edit.specs.Kept.{EditKeeps, EditsKeep, IsBefore, IsBehind, KeepsIn, KeepsList, ReplacesAssigned, SameFrom, SameUpTo, Touches, WrapsValue}
+pub use Rattle.meson_edit.specs.Kept.{EditKeeps, EditsKeep, IsBefore, IsBehind, KeepsIn, KeepsList, ReplacesAssigned, InsertsLines, SameFrom, SameUpTo, Touches, WrapsValue}
 pub use Rattle.meson_edit.specs.KeptLists.{ListsAlone, ListsKept, ListsPutErase}
 pub use Rattle.meson_edit.specs.Laws.{AppendedSpell, AssignmentsSpell, FirstsSpell, InsertionsSpell, IsEditOf, ListEditsLook, ListEditsWrite, MakesText, RemovalsSpell}
-pub use Rattle.meson_edit.specs.Laws.{ReplacementsSpell, Spelled, StatementRemovalsSpell, WrapsSpell, WritesList, WrittenListsRead}
+pub use Rattle.meson_edit.specs.Laws.{LinesSpell, ReplacementsSpell, Spelled, StatementRemovalsSpell, WrapsSpell, WritesList, WrittenListsRead}
 pub use Rattle.meson_edit.specs.Lines.{HasNoLineEnd, in_line, LineStands}
 pub use Rattle.meson_edit.specs.MappedPaths.{both, each_node, InBoth, maps, MapsHole, MapsList, neither}
 pub use Rattle.meson_edit.specs.MovedTrees.{FilesMove, ListsMove, ListViewsMove, ListViewsTell, ListViewsText, ViewsMove, ViewsTell, ViewsText}
 pub use Rattle.meson_edit.specs.Moves.{each_argument, each_arguments, each_block, each_branches, each_expression, each_file, each_listing, each_name}
 pub use Rattle.meson_edit.specs.Moves.{each_operands, each_otherwise, each_statement, each_statements, each_tail, each_tails, token_by, tokens_by}
-pub use Rattle.meson_edit.specs.Places.{assigned_span, element_span, IsWritten, primitive_of, span_of_statement, value_span, Writes}
+pub use Rattle.meson_edit.specs.Places.{assigned_span, element_span, IsWritten, line_spot, primitive_of, span_of_statement, value_span, Writes}
 pub use Rattle.meson_edit.specs.PutLists.{ElementsStay, FoundListsLook, PutListsLook, with_span}
 pub use Rattle.meson_edit.specs.Sequences.{AssignmentsDeepen, AssignmentsKeepLevels, DepthsGrow, EditsDeepen, EditsDeepenByOne, FirstsKeepLevels, FirstsStayWithin, InsertionsKeepLevels}
-pub use Rattle.meson_edit.specs.Sequences.{InsertionsStayWithin, ListsAreShallow, ListsStay, MayFollow, new_depth, RemovalsKeepLevels, RemovalsStayWithin}
+pub use Rattle.meson_edit.specs.Sequences.{InsertionsStayWithin, LineEditsDeepen, LinesKeepLevels, ListsAreShallow, ListsStay, MayFollow, new_depth, RemovalsKeepLevels, RemovalsStayWithin}
 pub use Rattle.meson_edit.specs.Sequences.{ReplacementsKeepLevels, StaysThere, WrapsKeepLevels}
 pub use Rattle.meson_edit.specs.Standing.{argument_span, ElementStands, expression_span, ListPlaces, ListStands, NodeStands, PartStands, StandsAmongItems}
 pub use Rattle.meson_edit.specs.Standing.{statement_span, ValueStands}

@@ -5,3 +5,4 @@ pub mod Erasing
 pub mod Removed
 pub mod Appended
 pub mod Kept
+pub mod Lined

@@ -1,14 +1,21 @@
 -- Edits of the tree of a build file: of the elements of a list, of whole statements, and of assigned values.
-use Rattle.std.specs.Prelude.{ℕ, suc, Bool, true, false, List, [], ◌∷◌, ◌++◌, take, drop, if◌then◌else◌, Option, Some, None, option_map, option_and_then}
+use Rattle.std.specs.Prelude.{ℕ, suc, Bool, true, false, List, [], ◌∷◌, ◌++◌, length, take, drop, if◌then◌else◌, Option, Some, None, option_map, option_and_then}
 use Rattle.meson_syntax.specs.Tree.{Nowhere, Plain, Expression, array, Listing, listing, Argument, plain, named, pair, argument_list, arguments_of, Statement}
 use Rattle.meson_syntax.specs.Paths.{nth, list_at, value_of}
 use Rattle.meson_edit.specs.Assigned.{assigned_at}
 use Rattle.meson_edit.specs.Blocks.{block_at, statement_in, block_without, file_and_last}
+use Rattle.meson_edit.specs.ExchangedLines.{exchanged_in, statements_in}
 
 -- what is written, as bytes and as a tree
 pub record Written (X : Type 0) : Type 0 where
   pub bytes : List ℕ
   pub node : X
+
+-- where whole lines are inserted: above the n-th statement of a block, below it, or at the end of the file
+pub data LinePlace : Type 0 where
+  above : (block : List ℕ) → (n : ℕ) → LinePlace
+  below : (block : List ℕ) → (n : ℕ) → LinePlace
+  at_end : LinePlace
 
 -- One edit. A list, a block or an assignment is named by its path in the file, an element or a statement by its number there.
 pub data Edit : Type 0 where
@@ -28,6 +35,8 @@ pub data Edit : Type 0 where
   Append : Written (Statement Nowhere) → Edit
   -- the assignment assigns another value
   Assign : (assignment : List ℕ) → Written (Expression Nowhere) → Edit
+  -- statements on lines of their own
+  Lines : LinePlace → Written (List (Statement Nowhere)) → Edit
 
 -- ---- lists
 
@@ -77,6 +86,7 @@ edited_elements (Wrap path n) list = option_and_then (exchanged n array_of list)
 edited_elements (RemoveStatement path n) list = None
 edited_elements (Append new) list = None
 edited_elements (Assign path new) list = None
+edited_elements (Lines place new) list = None
 
 -- ---- edited files
 
@@ -85,6 +95,16 @@ edited_list e path f = option_and_then (λ p. option_map (λ list. p.back (with_
 
 abbrev pub without_statement : List ℕ → ℕ → Plain → Option Plain
 without_statement path n f = option_and_then (λ b. option_map (λ s. b.back (block_without b.inside n)) (statement_in b.inside n)) (block_at f path)
+
+-- a block with more statements from this number on, where its n-th statement is there
+abbrev pub with_more : List ℕ → (n from : ℕ) → List (Statement Nowhere) → Plain → Option Plain
+with_more path n from new f =
+    option_and_then (λ b. option_map (λ s. b.back (exchanged_in from 0 new b.inside)) (statement_in b.inside n)) (block_at f path)
+
+abbrev pub with_lines : LinePlace → List (Statement Nowhere) → Plain → Option Plain
+with_lines (above path n) new f = with_more path n n new f
+with_lines (below path n) new f = with_more path n (suc n) new f
+with_lines at_end new f = option_map (λ b. b.back (exchanged_in (length (statements_in b.inside)) 0 new b.inside)) (block_at f [])
 
 -- The file after an edit, if the edit names what is there.
 abbrev pub edited : Edit → Plain → Option Plain
@@ -96,3 +116,4 @@ edited (Wrap path n) f = edited_list (Wrap path n) path f
 edited (RemoveStatement path n) f = without_statement path n f
 edited (Append new) f = Some (file_and_last f new.node)
 edited (Assign path new) f = option_map (λ p. p.back new.node) (assigned_at f path)
+edited (Lines place new) f = with_lines place new.node f

@@ -132,6 +132,12 @@ abbrev pub LinesDeepen : Type 0
 LinesDeepen = (t : Plain) (path : List ℕ) (b : BlockAt Nowhere) → block_at t path ≡ Some b → (from many : ℕ) (new : List (Statement Nowhere))
     → file_depth (b.back (exchanged_in from many new b.inside)) ≤ file_depth t + statements_depth (statements_of new)
 
+-- If neither the file nor the file whose block has those statements alone is deeper than a number, nor is the file with both.
+abbrev pub RoomsSuffice : Type 0
+RoomsSuffice = (t : Plain) (path : List ℕ) (b : BlockAt Nowhere) → block_at t path ≡ Some b → (most : ℕ) → file_depth t ≤ most
+    → (from many : ℕ) (new : List (Statement Nowhere)) → file_depth (b.back (with_statements b.inside new)) ≤ most
+    → file_depth (b.back (exchanged_in from many new b.inside)) ≤ most
+
 -- ---- laws of texts
 
 -- Items that stand for some statements are exchanged for whole lines that have the words of others. If the items before them do not end their line, a line

@@ -1,8 +1,9 @@
 -- What an edit keeps. In a list: what is left and right of the touched part, but for commas, blanks and line ends. So every comment and every other element
 -- stays. Of statements: all but the statement's own items and the blanks and the line end that are removed with it. Of an
--- assignment: all but the value.
-use Rattle.std.specs.Prelude.{◌≡◌, ℕ, ◌<◌, ◌≤◌, true, List, [], ◌∷◌, ◌++◌, codes, length, Some, Ok}
+-- assignment: all but the value. Around new lines: all.
+use Rattle.std.specs.Prelude.{◌≡◌, ℕ, ◌<◌, ◌≤◌, true, List, [], ◌∷◌, ◌++◌, ◌⊎◌, codes, length, Some, Ok}
 use Rattle.meson_lex.specs.declared.kinds.Span.{Span}
+use Rattle.meson_lex.specs.Kinds.{IsLineEnd}
 use Rattle.meson_lex.specs.Items.{Lexeme, joined, IsItemList}
 use Rattle.meson_layout.specs.declared.primitive.Primitive.{Primitive}
 use Rattle.meson_layout.specs.Layout.{layout_of}
@@ -15,7 +16,7 @@ use Rattle.meson_syntax.specs.Tree.{Plain, Expression, File, erase}
 use Rattle.meson_syntax.specs.Paths.{ListAt, list_at, ElementAt, element_at, value_of}
 use Rattle.meson_edit.specs.Standing.{argument_span, ListStands, ElementStands, ValueStands, ListPlaces}
 use Rattle.meson_syntax.specs.Reads.{IsSpannedWithin}
-use Rattle.meson_edit.specs.Edits.{Edit, First, After, Remove, Replace, Wrap, RemoveStatement, Append, Assign, edited}
+use Rattle.meson_edit.specs.Edits.{Edit, First, After, Remove, Replace, Wrap, RemoveStatement, Append, Assign, Lines, edited}
 use Rattle.meson_edit.specs.Places.{primitive_of, Writes, span_of_statement, value_span, assigned_span}
 
 -- ---- lists
@@ -39,6 +40,7 @@ Touches items p l (Wrap path n) left right notes =
 Touches items p l (RemoveStatement path n) left right notes = ⊥
 Touches items p l (Append new) left right notes = ⊥
 Touches items p l (Assign path new) left right notes = ⊥
+Touches items p l (Lines place new) left right notes = ⊥
 
 -- The new text is the old one but for the items between the brackets of the list. Of these all bytes left and right of the touched part stay, but for at most a
 -- comma, blanks and line ends beside it. Every comment and continuation stays, in order.
@@ -65,6 +67,7 @@ IsBefore (Wrap path n) m = m < n
 IsBefore (RemoveStatement path n) m = ⊥
 IsBefore (Append new) m = ⊥
 IsBefore (Assign path new) m = ⊥
+IsBefore (Lines place new) m = ⊥
 
 abbrev pub IsBehind : Edit → ℕ → Type 0
 IsBehind (First path new) m = ⊥
@@ -75,6 +78,7 @@ IsBehind (Wrap path n) m = n < m
 IsBehind (RemoveStatement path n) m = ⊥
 IsBehind (Append new) m = ⊥
 IsBehind (Assign path new) m = ⊥
+IsBehind (Lines place new) m = ⊥
 
 -- up to this offset the texts are the same
 pub record SameUpTo (to : ℕ) (bytes text : List ℕ) : Type 0 where
@@ -152,6 +156,15 @@ pub record ReplacesAssigned (bytes text : List ℕ) (f : File Span) (path new : 
   pub to : length (front ++ was) ≡ span.to
   pub now : text ≡ front ++ (new ++ back)
 
+-- All bytes stay. The new lines are between them, after a line end if the bytes before them do not end their line.
+pub record InsertsLines (bytes text new : List ℕ) : Type 0 where
+  pub front : List ℕ
+  pub back : List ℕ
+  pub break : List ℕ
+  pub old : bytes ≡ front ++ back
+  pub is_break : (break ≡ []) ⊎ IsLineEnd break
+  pub now : text ≡ front ++ (break ++ (new ++ back))
+
 -- What an edit of the file keeps; an appended statement is after all bytes.
 abbrev pub EditKeeps : (bytes text : List ℕ) → File Span → List Lexeme → Edit → Type 0
 EditKeeps bytes text f items (First path new) = KeepsIn bytes text f items (First path new) path
@@ -162,6 +175,7 @@ EditKeeps bytes text f items (Wrap path n) = KeepsIn bytes text f items (Wrap pa
 EditKeeps bytes text f items (RemoveStatement path n) = (s : Span) × (span_of_statement f path n ≡ Some s) × KeepsAround bytes text items s
 EditKeeps bytes text f items (Append new) = (come : List ℕ) × (text ≡ bytes ++ come)
 EditKeeps bytes text f items (Assign path new) = ReplacesAssigned bytes text f path new.bytes
+EditKeeps bytes text f items (Lines place new) = InsertsLines bytes text new.bytes
 
 abbrev pub EditsKeep : Type 0
 EditsKeep =

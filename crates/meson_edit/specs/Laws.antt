@@ -14,7 +14,7 @@ use Rattle.meson_syntax.specs.Grammar.{LevelFile, file_depth}
 use Rattle.meson_syntax.specs.Paths.{ListAt, list_at, list_span, inner_words}
 use Rattle.meson_syntax.specs.ReadsList.{IsListText, ReadsListWithin}
 use Rattle.meson_syntax.specs.Reads.{Spells, IsSpannedWithin}
-use Rattle.meson_edit.specs.Edits.{Written, Edit, First, After, Remove, Replace, Wrap, RemoveStatement, Append, Assign, edited}
+use Rattle.meson_edit.specs.Edits.{Written, LinePlace, Edit, First, After, Remove, Replace, Wrap, RemoveStatement, Append, Assign, Lines, edited}
 use Rattle.meson_edit.specs.Places.{primitive_of, Writes}
 
 -- The edit has its place among the items, and its splices give a text that spells the edited tree.
@@ -58,6 +58,9 @@ AppendedSpell = (new : Written (Statement Nowhere)) → Spelled (Append new)
 abbrev pub AssignmentsSpell : Type 0
 AssignmentsSpell = (path : List ℕ) (new : Written (Expression Nowhere)) → Spelled (Assign path new)
 
+abbrev pub LinesSpell : Type 0
+LinesSpell = (place : LinePlace) (new : Written (List (Statement Nowhere))) → Spelled (Lines place new)
+
 -- ---- what is written
 
 -- Of the text only the bytes of a list are replaced: those of the list that the tree `t` has there.
@@ -90,6 +93,7 @@ IsEditOf path (Wrap list n) = path ≡ list
 IsEditOf path (RemoveStatement block n) = ⊥
 IsEditOf path (Append new) = ⊥
 IsEditOf path (Assign assignment new) = ⊥
+IsEditOf path (Lines place new) = ⊥
 
 -- An edit of a list changes no byte outside that list, and in its place writes the text of the edited list.
 abbrev pub ListEditsWrite : Type 0

@@ -7,14 +7,17 @@ use Rattle.meson_lex.specs.Significant.{Word}
 use Rattle.meson_lex.specs.Words.{spoken}
 use Rattle.meson_layout.specs.declared.primitive.Primitive.{Primitive}
 use Rattle.meson_layout.specs.declared.primitive.Primitive.TheVariants as layout
+use Rattle.meson_layout.specs.declared.primitive.LineSpot.{LineSpot}
+use Rattle.meson_layout.specs.declared.primitive.LineSpot.TheVariants as spot
 use Rattle.meson_layout.specs.Edited.{IsNew}
-use Rattle.meson_syntax.specs.Tree.{Argument, File}
+use Rattle.meson_syntax.specs.Tree.{Nowhere, Argument, Statement, File}
 use Rattle.meson_syntax.specs.Grammar.{expression_words, argument_words, statement_words}
 use Rattle.meson_syntax.specs.Paths.{ListAt, list_at, list_span, nth, value_of}
 use Rattle.meson_edit.specs.Standing.{expression_span, argument_span, statement_span}
 use Rattle.meson_edit.specs.Assigned.{assigned_at}
 use Rattle.meson_edit.specs.Blocks.{block_at, statement_in, IsStatementText}
-use Rattle.meson_edit.specs.Edits.{Edit, First, After, Remove, Replace, Wrap, RemoveStatement, Append, Assign, elements}
+use Rattle.meson_edit.specs.Edits.{LinePlace, above, below, at_end, Edit, First, After, Remove, Replace, Wrap, RemoveStatement, Append, Assign, Lines, elements}
+use Rattle.meson_edit.specs.ExchangedLines.{IsLinesText}
 
 -- ---- places
 
@@ -37,6 +40,11 @@ span_of_statement f path n = option_map statement_span (option_and_then (λ b. s
 abbrev pub assigned_span : File Span → List ℕ → Option Span
 assigned_span f path = option_map (λ p. expression_span p.value) (assigned_at f path)
 
+abbrev pub line_spot : File Span → LinePlace → Option LineSpot
+line_spot f (above path n) = option_map spot.Above (span_of_statement f path n)
+line_spot f (below path n) = option_map spot.Below (span_of_statement f path n)
+line_spot f at_end = Some spot.End
+
 -- The edit as it is laid out: by the spans of what it names.
 abbrev pub primitive_of : File Span → Edit → Option Primitive
 primitive_of f (First path new) = option_map (λ at. layout.First at new.bytes) (bracket_offset f path)
@@ -47,6 +55,7 @@ primitive_of f (Wrap path n) = option_map layout.Wrap (value_span f path n)
 primitive_of f (RemoveStatement path n) = option_map layout.RemoveStatement (span_of_statement f path n)
 primitive_of f (Append new) = Some (layout.Append new.bytes)
 primitive_of f (Assign path new) = option_map (λ s. layout.Replace s new.bytes) (assigned_span f path)
+primitive_of f (Lines place new) = option_map (λ s. layout.Lines s new.bytes) (line_spot f place)
 
 -- ---- what is written
 
@@ -62,6 +71,11 @@ pub record IsWrittenStatement (bytes : List ℕ) (words : List Word) : Type 0 wh
   pub text : IsStatementText bytes words
   pub utf8 : IsUtf8 bytes
 
+-- The bytes are whole lines of these statements. Comments and empty lines may be among them.
+pub record IsWrittenLines (bytes : List ℕ) (new : List (Statement Nowhere)) : Type 0 where
+  pub text : IsLinesText bytes new
+  pub utf8 : IsUtf8 bytes
+
 -- the bytes that an edit writes are those of the tree that it puts there
 abbrev pub Writes : Edit → Type 0
 Writes (First path new) = IsWritten new.bytes (argument_words new.node)
@@ -72,3 +86,4 @@ Writes (Wrap path n) = Unit {0}
 Writes (RemoveStatement path n) = Unit {0}
 Writes (Append new) = IsWrittenStatement new.bytes (statement_words new.node)
 Writes (Assign path new) = IsWrittenStatement new.bytes (expression_words new.node)
+Writes (Lines place new) = IsWrittenLines new.bytes new.node

@@ -2,10 +2,10 @@
 use Rattle.std.specs.Prelude.{◌≡◌, ℕ, suc, ◌+◌, ◌≤◌, false, List, [], drop, Some}
 use Rattle.meson_syntax.specs.declared.operator.Bracket.{Bracket}
 use Rattle.meson_syntax.specs.declared.operator.Bracket.TheVariants as bracket
-use Rattle.meson_syntax.specs.Tree.{Nowhere, Plain, Expression, Listing, Argument, plain, named, pair, is_named}
-use Rattle.meson_syntax.specs.Grammar.{LevelExpression, LevelArgument, LevelFile, expression_depth, listing_depth, argument_depth, file_depth}
+use Rattle.meson_syntax.specs.Tree.{Nowhere, Plain, Expression, Listing, Argument, plain, named, pair, is_named, Statement, statements_of}
+use Rattle.meson_syntax.specs.Grammar.{LevelExpression, LevelArgument, LevelStatements, LevelFile, statements_depth, expression_depth, listing_depth, argument_depth, file_depth}
 use Rattle.meson_syntax.specs.Paths.{ListAt, list_at, nth}
-use Rattle.meson_edit.specs.Edits.{Written, Edit, First, After, Remove, Replace, Wrap, RemoveStatement, Append, Assign, elements, edited}
+use Rattle.meson_edit.specs.Edits.{Written, LinePlace, Edit, First, After, Remove, Replace, Wrap, RemoveStatement, Append, Assign, Lines, elements, edited}
 use Rattle.meson_edit.specs.Laws.{IsEditOf}
 
 -- ---- places
@@ -36,7 +36,7 @@ DepthsGrow = (t : Plain) (path : List ℕ) (q : ListAt Nowhere) → list_at t pa
 abbrev pub ListsAreShallow : Type 0
 ListsAreShallow = (t : Plain) (path : List ℕ) (q : ListAt Nowhere) → list_at t path ≡ Some q → listing_depth q.list ≤ file_depth t
 
--- the depth of what an edit of a list inserts, and of an assigned value
+-- the depth of what an edit of a list inserts, of an assigned value, and of new statements
 abbrev pub new_depth : Edit → ℕ
 new_depth (First path new) = argument_depth new.node
 new_depth (After path n new) = argument_depth new.node
@@ -46,6 +46,7 @@ new_depth (Wrap path n) = 1
 new_depth (RemoveStatement path n) = 0
 new_depth (Append new) = 0
 new_depth (Assign path new) = expression_depth new.node
+new_depth (Lines place new) = statements_depth (statements_of new.node)
 
 -- An edit of a list makes the tree deeper by no more than what it inserts.
 abbrev pub EditsDeepen : Type 0
@@ -75,6 +76,12 @@ AssignmentsDeepen =
     (path : List ℕ) (new : Written (Expression Nowhere)) (t now : Plain) → edited (Assign path new) t ≡ Some now
     → file_depth now ≤ file_depth t + expression_depth new.node
 
+-- New statements make it deeper by no more than they are.
+abbrev pub LineEditsDeepen : Type 0
+LineEditsDeepen =
+    (place : LinePlace) (new : Written (List (Statement Nowhere))) (t now : Plain) → edited (Lines place new) t ≡ Some now
+    → file_depth now ≤ file_depth t + statements_depth (statements_of new.node)
+
 -- ---- levels
 
 -- An edit keeps the levels of a tree.
@@ -92,6 +99,9 @@ ReplacementsKeepLevels = (path : List ℕ) (n : ℕ) (new : Written (Expression 
 
 abbrev pub AssignmentsKeepLevels : Type 0
 AssignmentsKeepLevels = (path : List ℕ) (new : Written (Expression Nowhere)) → LevelExpression new.node → Levels (Assign path new)
+
+abbrev pub LinesKeepLevels : Type 0
+LinesKeepLevels = (place : LinePlace) (new : Written (List (Statement Nowhere))) → LevelStatements (statements_of new.node) → Levels (Lines place new)
 
 -- An element may be the first of a list of its bracket.
 abbrev pub FirstsKeepLevels : Type 0

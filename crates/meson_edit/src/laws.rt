@@ -2,9 +2,9 @@
 
 ghost use Rattle.meson_edit.specs.ExchangedTrees.{OldListsLook, TreesExchange, TreesExchangeBack};
 ghost use Rattle.meson_edit.specs.Kept.{EditsKeep};
-ghost use Rattle.meson_edit.specs.Laws.{AppendedSpell, AssignmentsSpell, FirstsSpell, InsertionsSpell, ListEditsLook, ListEditsWrite, RemovalsSpell, ReplacementsSpell, StatementRemovalsSpell, WrapsSpell, WrittenListsRead};
+ghost use Rattle.meson_edit.specs.Laws.{AppendedSpell, AssignmentsSpell, FirstsSpell, InsertionsSpell, LinesSpell, ListEditsLook, ListEditsWrite, RemovalsSpell, ReplacementsSpell, StatementRemovalsSpell, WrapsSpell, WrittenListsRead};
 ghost use Rattle.meson_edit.specs.PutBack.{ListsPutBack};
-ghost use Rattle.meson_edit.specs.Sequences.{AssignmentsDeepen, AssignmentsKeepLevels, DepthsGrow, EditsDeepen, EditsDeepenByOne, FirstsKeepLevels, FirstsStayWithin, InsertionsKeepLevels, InsertionsStayWithin, ListsAreShallow, ListsStay, RemovalsKeepLevels, RemovalsStayWithin, ReplacementsKeepLevels, WrapsKeepLevels};
+ghost use Rattle.meson_edit.specs.Sequences.{AssignmentsDeepen, AssignmentsKeepLevels, DepthsGrow, EditsDeepen, EditsDeepenByOne, FirstsKeepLevels, FirstsStayWithin, InsertionsKeepLevels, InsertionsStayWithin, LineEditsDeepen, LinesKeepLevels, ListsAreShallow, ListsStay, RemovalsKeepLevels, RemovalsStayWithin, ReplacementsKeepLevels, WrapsKeepLevels};
 
 /// An element is inserted, removed, replaced or wrapped: the new text spells the tree with that edit. No byte outside the list is read or changed. In its place
 /// is the text of the edited list, which also parses by itself.
@@ -19,15 +19,17 @@ pub fn lists()
     ensures written_read { WrittenListsRead }
 {}
 
-/// A statement is removed or appended, or an assignment assigns another value: the new text spells the tree with that edit.
+/// A statement is removed or appended, an assignment assigns another value, or statements are inserted on lines of their own: the new text spells the tree with
+/// that edit.
 pub fn statements()
     ensures removals { StatementRemovalsSpell }
     ensures appended { AppendedSpell }
     ensures assigned { AssignmentsSpell }
+    ensures lines { LinesSpell }
 {}
 
 /// What an edit keeps. In a list: each comment and continuation but those of what is touched, and each other element, byte for byte. Around a removed
-/// statement: all but a blank on each side and the line end of its line. Before an appended one: all. Around an assigned value: all.
+/// statement: all but a blank on each side and the line end of its line. Before an appended one: all. Around an assigned value, and around new lines: all.
 pub fn kept()
     ensures edits { EditsKeep }
 {}
@@ -44,10 +46,12 @@ pub fn sequences()
     ensures insertions_within { InsertionsStayWithin }
     ensures by_one { EditsDeepenByOne }
     ensures assigned_deepen { AssignmentsDeepen }
+    ensures lines_deepen { LineEditsDeepen }
     ensures removals_level { RemovalsKeepLevels }
     ensures wraps_level { WrapsKeepLevels }
     ensures replacements_level { ReplacementsKeepLevels }
     ensures assigned_level { AssignmentsKeepLevels }
+    ensures lines_level { LinesKeepLevels }
     ensures firsts_level { FirstsKeepLevels }
     ensures insertions_level { InsertionsKeepLevels }
 {}

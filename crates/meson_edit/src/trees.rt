@@ -5,7 +5,7 @@ ghost use Rattle.meson_edit.specs.Holes.{ListsStand, NodesStand, BlocksErase, Li
 ghost use Rattle.meson_edit.specs.Exchange.{ListsExchange, ListsLevel, ListsReadAgain};
 ghost use Rattle.meson_edit.specs.Blocks.{AppendedReadAgain, AppendingLevels, RemovalsLevel, RemovalsReadAgain, StatementsCome, StatementsGo};
 ghost use Rattle.meson_edit.specs.Lines.{AppendedWords, CutsAreUtf8, FilesEnd, LinesAreTexts, SpelledReads, StatementsAreTexts, StatementsEnd, StatementsStand};
-ghost use Rattle.meson_edit.specs.ExchangedLines.{AppendingExchanges, ExchangesComputed, ExchangesStand, FilesAreLines, FilesEndStand, LinesAlike, LinesDeepen, LinesExchange, LinesLevel, LinesReadAgain, LinesThere, QuietBefore, QuietBehind, RemovalsExchange, StatementsComeAndGo, StatementsHaveLines};
+ghost use Rattle.meson_edit.specs.ExchangedLines.{AppendingExchanges, ExchangesComputed, ExchangesStand, FilesAreLines, FilesEndStand, LinesAlike, LinesDeepen, LinesExchange, LinesLevel, LinesReadAgain, LinesThere, QuietBefore, QuietBehind, RemovalsExchange, RoomsSuffice, StatementsComeAndGo, StatementsHaveLines};
 ghost use Rattle.meson_edit.specs.ExchangedTokens.{TokensMove};
 ghost use Rattle.meson_edit.specs.MappedPaths.{ListsMap, NodesMap};
 ghost use Rattle.meson_edit.specs.Swap.{ListsSwap};
@@ -75,12 +75,13 @@ pub fn exchanged_statements()
 {}
 
 /// Whole lines may be exchanged for others, in any block: the new text spells the tree in which the statements that stood there are those of the new lines. It
-/// parses as that tree if its length and its depth allow it.
+/// parses as that tree if its length and its depth allow it. The depth does, if it allows the old tree and the one whose block has the new statements alone.
 pub fn exchanged_lines()
     ensures lines_exchange { LinesExchange }
     ensures lines_read_again { LinesReadAgain }
     ensures lines_level { LinesLevel }
     ensures lines_deepen { LinesDeepen }
+    ensures rooms_suffice { RoomsSuffice }
 {}
 
 /// Which lines stand for a statement: others may come before them or after them, or they may go. Comments and empty lines may be counted with them. Others may

@@ -20,11 +20,11 @@ use Rattle.meson_layout.proofs.StatementLaws.{after-append, to_end, file-edited}
 
 -- ---- the line end that is used
 
-record IsLine (x : Lexeme) : Type 0 where
+pub record IsLine (x : Lexeme) : Type 0 where
   pub is : look.is_line_end x.kind ≡ true
   pub good : IsGood x
 
-line-of : (items : List Lexeme) → AllGood items → IsLine (line_end_of items)
+pub line-of : (items : List Lexeme) → AllGood items → IsLine (line_end_of items)
 line-of [] g = record { is = refl; good = (Rattle.std.proofs.Common.inl refl, refl) }
 line-of (x ∷ xs) g = cond_both (look.is_line_end x.kind) _ _ IsLine (λ h. record { is = h; good = g.0 }) (λ h. line-of xs g.1)
 

@@ -8,7 +8,7 @@ use Rattle.std.proofs.lemmas.Str.{IsUtf8-nil, IsUtf8-append, IsUtf8-from_ascii}
 use Rattle.meson_lex.specs.declared.kinds.Span.{Span}
 use Rattle.meson_lex.specs.Items.{Lexeme, joined}
 use Rattle.meson_layout.specs.declared.primitive.Primitive.{Primitive}
-use Rattle.meson_layout.specs.declared.primitive.Primitive.TheVariants.{First, After, Remove, Replace, Wrap, RemoveStatement, Append}
+use Rattle.meson_layout.specs.declared.primitive.Primitive.TheVariants.{First, After, Remove, Replace, Wrap, RemoveStatement, Append, Lines}
 use Rattle.meson_layout.specs.declared.removal.Growth.{Growth}
 use Rattle.meson_layout.specs.Looks.{is_blank_kind, is_comma, is_line_end, first_is, one_if, but_last, last_few, line_before, gap_len, all_white, at_most_blank, note_len, comma_note_len, closing_follows}
 use Rattle.meson_layout.specs.Pieces.{Piece, Keep, Change, as_one, comma, space, line_feed, open_square, close_square, splices}
@@ -16,8 +16,10 @@ use Rattle.meson_layout.specs.inside.Pieces.{old_items, new_items}
 use Rattle.meson_layout.specs.Insertion.{plain_insertion, with_comma, without_comma, before_bracket, no_comma_on_line, stacked, inserted_by, inserted}
 use Rattle.meson_layout.specs.Removal.{grown, one_gone, two_gone, two_ranges, comma_len, comma_behind, comma_before, no_comma_behind, removed}
 use Rattle.meson_layout.specs.Statements.{at_line_start, statement_gone, statement_removed, line_end_of, appended}
-use Rattle.meson_layout.specs.Layout.{before_len, split_at_span, replaced, wrapped, first_in, pieces}
+use Rattle.meson_layout.specs.LineSpots.{lines_after}
+use Rattle.meson_layout.specs.Layout.{before_len, spot_len, split_at_span, replaced, wrapped, first_in, pieces}
 use Rattle.meson_layout.specs.Laws.{AreTexts, AreUtf8, WritesUtf8, CodingLaw, TextsLaw}
+use Rattle.meson_layout.proofs.Parts.{parts-join}
 use Rattle.meson_layout.proofs.Patched.{patched-pieces}
 
 abbrev IsCoded : Lexeme → Type 0
@@ -251,13 +253,14 @@ appended-fine items new a n =
     let ended = coded-append new (line ∷ []) n (line-coded items a, tt) in
     record { old = append-nil items; news = (cond_both (at_line_start (reverse items)) _ _ AreUtf8 (λ h. ended) (λ h. (line-coded items a, ended)), tt) }
 
--- ---- any layout
+lines-fine : (n : ℕ) (items new : List Lexeme) → AreUtf8 items → AreUtf8 new → Fine items (lines_after n items new)
+unfolding lines_after
+lines-fine n items new a u = record {
+  old = ap (λ r. take n items ++ r) (append-nil (drop n items)) ∙ take-append-drop n items;
+  news = (cond_both (at_line_start (reverse (take n items))) _ _ AreUtf8 (λ h. u) (λ h. (line-coded items a, u)), tt);
+}
 
-parts-join : (s : Span) (items : List Lexeme) → (split_at_span s items).left ++ ((split_at_span s items).own ++ (split_at_span s items).right) ≡ items
-unfolding split_at_span
-parts-join s items =
-    let n = before_len s.from items in
-    ap (λ r. take n items ++ r) (take-append-drop (before_len (s.to - s.from) (drop n items)) (drop n items)) ∙ take-append-drop n items
+-- ---- any layout
 
 module _ (items : List Lexeme) (coded : AreUtf8 items) where
   at-span : (s : Span) (f : List Lexeme → List Lexeme → List Lexeme → List Piece) → ((left own right : List Lexeme) → AreUtf8 left → AreUtf8 own → Fine (left ++ (own ++ right)) (f left own right))
@@ -282,6 +285,7 @@ module _ (items : List Lexeme) (coded : AreUtf8 items) where
       at-span value wrapped (λ l o r a b. replaced-fine l o r a (open_square ∷ (o ++ close_square ∷ [])) (open-coded, coded-append o (close_square ∷ []) b (close-coded, tt)))
   pieces-fine (RemoveStatement statement) u = at-span statement statement_removed (λ l o r a b. statement-fine l o r)
   pieces-fine (Append new) u = appended-fine items (as_one new) coded (one-item new u)
+  pieces-fine (Lines spot new) u = lines-fine (spot_len spot items) items (as_one new) coded (one-item new u)
 
 pub coding-law : CodingLaw
 coding-law file source items are coded primitive u text patches =

@@ -10,7 +10,7 @@ use Rattle.meson_lex.specs.Items.{Lexeme, joined}
 use Rattle.std.specs.Prelude.{slice_range}
 use Rattle.meson_lex.specs.Lexed.{Tiles}
 use Rattle.meson_layout.specs.declared.primitive.Primitive.{Primitive}
-use Rattle.meson_layout.specs.declared.primitive.Primitive.TheVariants.{First, After, Remove, Replace, Wrap, RemoveStatement, Append}
+use Rattle.meson_layout.specs.declared.primitive.Primitive.TheVariants.{First, After, Remove, Replace, Wrap, RemoveStatement, Append, Lines}
 use Rattle.meson_splice.specs.declared.splice.Splice.{Splice}
 use Rattle.meson_layout.specs.Insertion.{first}
 use Rattle.meson_layout.specs.Layout.{IsPlaced, IsSpanOf, before_len, layout_of, split_at_span, replaced, wrapped}
@@ -81,6 +81,7 @@ laid-by-front file items (Replace value new) at g small = parts-front items valu
 laid-by-front file items (Wrap value) at g small = parts-front items value (λ left own. splices file 0 (wrapped left own [])) at g
 laid-by-front file items (RemoveStatement statement) at g small = ap (λ xs. layout_of file xs (RemoveStatement statement)) (up_to-all (2 ^ 64 - 1) items (omega arith))
 laid-by-front file items (Append new) at g small = ap (λ xs. layout_of file xs (Append new)) (up_to-all (2 ^ 64 - 1) items (omega arith))
+laid-by-front file items (Lines spot new) at g small = ap (λ xs. layout_of file xs (Lines spot new)) (up_to-all (2 ^ 64 - 1) items (omega arith))
 
 -- ---- a turn of the loop that reads them
 

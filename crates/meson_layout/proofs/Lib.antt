@@ -27,6 +27,8 @@ pub mod Removed
 pub mod RemovalLaws
 pub mod StatementLaws
 pub mod AppendLaws
+pub mod LineSpots
+pub mod LineLaws
 pub mod AssignmentLaws
 pub mod FileSets
 pub mod Coding

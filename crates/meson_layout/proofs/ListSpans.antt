@@ -9,7 +9,7 @@ use Rattle.meson_lex.specs.Items.{IsItemList, Lexeme, joined}
 use Rattle.meson_lex.proofs.OneList.{one_list}
 use Rattle.meson_lex.proofs.Seams.{joined-append}
 use Rattle.meson_layout.specs.declared.primitive.Primitive.{Primitive}
-use Rattle.meson_layout.specs.declared.primitive.Primitive.TheVariants.{First, After, Remove, Replace, Wrap, RemoveStatement, Append}
+use Rattle.meson_layout.specs.declared.primitive.Primitive.TheVariants.{First, After, Remove, Replace, Wrap, RemoveStatement, Append, Lines}
 use Rattle.meson_layout.specs.Layout.{layout_of}
 use Rattle.meson_layout.specs.inside.Layout.{FirstFits}
 use Rattle.meson_layout.specs.Local.{IsOfList, IsReadyIn, alone}
@@ -76,6 +76,7 @@ module _ (source : List ℕ) (list : Span) (primitive : Primitive) (r : IsReadyI
       fits (Wrap s) is = tt
       fits (RemoveStatement s) is = tt
       fits (Append new) is = tt
+      fits (Lines spot new) is = tt
 
   pub laid-alone : (file : List ℕ) (items : List Lexeme) → IsItemList source items → layout_of file read primitive ≡ layout_of file items primitive
   laid-alone file items are =

@@ -7,7 +7,7 @@ use Rattle.meson_lex.specs.Items.{Lexeme, joined, IsItemList}
 use Rattle.meson_lex.proofs.Seams.{joined-append}
 use Rattle.meson_splice.specs.declared.splice.Splice.{Splice}
 use Rattle.meson_layout.specs.declared.primitive.Primitive.{Primitive}
-use Rattle.meson_layout.specs.declared.primitive.Primitive.TheVariants.{First, After, Remove, Replace, Wrap, RemoveStatement, Append}
+use Rattle.meson_layout.specs.declared.primitive.Primitive.TheVariants.{First, After, Remove, Replace, Wrap, RemoveStatement, Append, Lines}
 use Rattle.meson_layout.specs.Edited.{ListOfItems, PartIn}
 use Rattle.meson_layout.specs.Insertion.{first, inserted}
 use Rattle.meson_layout.specs.Layout.{Parts, before_len, first_in, layout_of, split_at_span, replaced, wrapped}
@@ -132,6 +132,7 @@ module _ (file source : List ℕ) (items : List Lexeme) (list : IsItemList sourc
   local (Wrap s) p = part-near s p wrapped (replaced-anywhere s p (open_square ∷ (p.own ++ close_square ∷ [])))
   local (RemoveStatement s) is = absurd is
   local (Append new) is = absurd is
+  local (Lines spot new) is = absurd is
 
   -- where what stands before the list is one item
   pub laid-behind : (w : Lexeme) → w.text ≡ joined l.front → (primitive : Primitive) → IsOfList items l primitive → layout_of file (w ∷ alone items l) primitive ≡ layout_of file items primitive
@@ -142,6 +143,7 @@ module _ (file source : List ℕ) (items : List Lexeme) (list : IsItemList sourc
   laid-behind w text (Wrap s) p = part-behind s p wrapped (replaced-anywhere s p (open_square ∷ (p.own ++ close_square ∷ []))) w text
   laid-behind w text (RemoveStatement s) is = absurd is
   laid-behind w text (Append new) is = absurd is
+  laid-behind w text (Lines spot new) is = absurd is
 
 pub local-law : LocalLaw
 local-law file source items list l primitive is = local file source items list l primitive is

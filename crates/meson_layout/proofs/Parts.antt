@@ -1,7 +1,7 @@
 -- The items before, of and behind a span.
-use Rattle.std.proofs.Common.{◌≡◌, ℕ, suc, ◌-◌, List, [], ◌∷◌, ◌++◌, length, take, drop, refl, ap, ap₂, ◌∙◌, subst, arith}
+use Rattle.std.proofs.Common.{◌≡◌, ℕ, suc, ◌+◌, ◌-◌, List, [], ◌∷◌, ◌++◌, length, take, drop, refl, ap, ap₂, ◌∙◌, subst, arith}
 use Rattle.std.proofs.lemmas.Bool.{cond-false, ne_eqb}
-use Rattle.std.proofs.lemmas.List.{length-append}
+use Rattle.std.proofs.lemmas.List.{length-append, take-append-drop}
 use Rattle.std.proofs.Math.Seq.{take-append_seam, drop-append_seam}
 use Rattle.std.specs.Prelude.{◌==◌}
 use Rattle.meson_lex.specs.declared.kinds.Span.{Span}
@@ -54,3 +54,18 @@ parts-are items left own right s e from to g =
     ap (λ m. parts_of_items m (s.to - s.from) items) n
     ∙ ap (parts_of_items (length left) (s.to - s.from)) e
     ∙ parts-by left own right (s.to - s.from) size (good-front own right (good-rest left (own ++ right) good))
+
+-- the parts are all items
+pub parts-join : (s : Span) (items : List Lexeme) → (split_at_span s items).left ++ ((split_at_span s items).own ++ (split_at_span s items).right) ≡ items
+unfolding split_at_span
+parts-join s items =
+    let n = before_len s.from items in
+    ap (λ r. take n items ++ r) (take-append-drop (before_len (s.to - s.from) (drop n items)) (drop n items)) ∙ take-append-drop n items
+
+pub parts_size : (s : Span) (items : List Lexeme) → length (split_at_span s items).left + (length (split_at_span s items).own + length (split_at_span s items).right) ≡ length items
+parts_size s items =
+    let p = split_at_span s items in
+    let outer = length-append p.left (p.own ++ p.right) in
+    let inner = length-append p.own p.right in
+    let whole = ap length (parts-join s items) in
+    omega arith

@@ -4,7 +4,7 @@ use Rattle.std.proofs.lemmas.List.{length-append}
 use Rattle.meson_lex.specs.Items.{Lexeme, joined}
 use Rattle.meson_lex.proofs.Seams.{joined-append}
 use Rattle.meson_layout.specs.declared.primitive.Primitive.{Primitive}
-use Rattle.meson_layout.specs.declared.primitive.Primitive.TheVariants.{First, After, Remove, Replace, Wrap, RemoveStatement, Append}
+use Rattle.meson_layout.specs.declared.primitive.Primitive.TheVariants.{First, After, Remove, Replace, Wrap, RemoveStatement, Append, Lines}
 use Rattle.meson_layout.specs.Layout.{IsPlaced}
 use Rattle.meson_layout.specs.inside.Layout.{FirstFits}
 
@@ -21,3 +21,4 @@ first_fits (Replace s new) items placed fits = tt
 first_fits (Wrap s) items placed fits = tt
 first_fits (RemoveStatement s) items placed fits = tt
 first_fits (Append new) items placed fits = tt
+first_fits (Lines spot new) items placed fits = tt

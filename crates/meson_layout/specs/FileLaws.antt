@@ -1,5 +1,5 @@
--- What the splices of a removed and of an appended statement make of a text, and those of an assigned value that is replaced.
-use Rattle.std.specs.Prelude.{◌≡◌, ℕ, true, false, List, [], ◌∷◌, ◌++◌, ◌⊎◌, length, reverse, Ok}
+-- What the splices of a removed and of an appended statement make of a text, those of an assigned value that is replaced, and those of lines that are inserted.
+use Rattle.std.specs.Prelude.{◌≡◌, ℕ, Bool, true, false, not, List, [], ◌∷◌, ◌++◌, ◌⊎◌, length, reverse, Ok}
 use Rattle.meson_lex.specs.declared.kinds.Kind.{Kind}
 use Rattle.meson_lex.specs.declared.kinds.Kind.TheVariants as k
 use Rattle.meson_lex.specs.declared.kinds.Span.{Span}
@@ -7,10 +7,15 @@ use Rattle.meson_lex.specs.Bytes.{is_equals, begins}
 use Rattle.meson_lex.specs.Items.{Lexeme, joined, IsItemList}
 use Rattle.meson_lex.specs.Significant.{Word, State, start, after, emitted, closing, new_line, significant}
 use Rattle.meson_splice.specs.declared.splice.Splice.{Splice}
-use Rattle.meson_layout.specs.declared.primitive.Primitive.TheVariants.{Replace, RemoveStatement, Append}
+use Rattle.meson_layout.specs.declared.primitive.Primitive.TheVariants.{Replace, RemoveStatement, Append, Lines}
+use Rattle.meson_layout.specs.declared.primitive.LineSpot.{LineSpot}
+use Rattle.meson_layout.specs.declared.primitive.LineSpot.TheVariants as spot
+use Rattle.std.specs.List.{list_all}
+use Rattle.meson_lex.specs.Kinds.{IsLineEnd}
+use Rattle.meson_lex.specs.Words.{spoken}
 use Rattle.meson_layout.specs.Looks.{is_line_end, at_most_blank}
 use Rattle.meson_layout.specs.Statements.{at_line_start}
-use Rattle.meson_layout.specs.Layout.{layout_of}
+use Rattle.meson_layout.specs.Layout.{layout_of, IsSpotOf}
 use Rattle.meson_lex.specs.Words.{IsTight}
 use Rattle.meson_layout.specs.Edited.{patched_by}
 
@@ -107,3 +112,58 @@ abbrev pub AssignmentLaw : Type 0
 AssignmentLaw = (file source : List ℕ) (items : List Lexeme) → IsItemList source items → (s : Span) (more : List Word) (p : ValueIn items s more)
     → (new : List ℕ) (fresh : List Lexeme) (words : List Word) → IsStatement new fresh words → begins is_equals new ≡ false
     → EditedFile source (layout_of file items (Replace s new)) (joined p.left ++ (new ++ joined p.right)) (emitted start p.left ++ (words ++ new_line ∷ more))
+
+-- ---- lines
+
+-- no item is a line end
+abbrev pub is_in_line : List Lexeme → Bool
+is_in_line xs = list_all (λ (x : Lexeme). not (is_line_end x.kind)) xs
+
+-- all items end their line
+abbrev pub ends_line : List Lexeme → Bool
+ends_line xs = at_line_start (reverse xs)
+
+-- Above a statement: `left` are the items before it, of which `head` are on its own line. The lines between, which are comments, end their line, as `front` does.
+pub record IsAbove (front left : List Lexeme) : Type 0 where
+  pub notes : List Lexeme
+  pub head : List Lexeme
+  pub parts : left ≡ front ++ (notes ++ head)
+  pub says_nothing : spoken notes ≡ []
+  pub front_ends : ends_line front ≡ true
+  pub notes_end : ends_line (front ++ notes) ≡ true
+  pub in_line : is_in_line head ≡ true
+
+-- Below a statement: `right` are the items after it. Those of `row` are on the line on which it ends, and `end` is the line end of that, unless there is none.
+pub record IsBelow (left own right front : List Lexeme) : Type 0 where
+  pub row : List Lexeme
+  pub end : List Lexeme
+  pub back : List Lexeme
+  pub parts : right ≡ row ++ (end ++ back)
+  pub is_front : front ≡ left ++ (own ++ (row ++ end))
+  pub in_line : is_in_line row ≡ true
+  pub is_end : ((x : Lexeme) × (is_line_end x.kind ≡ true) × (end ≡ x ∷ [])) ⊎ ((end ≡ []) × (back ≡ []))
+
+-- what is before the place, by the parts of the statement's span
+abbrev pub IsFrontOf : (items : List Lexeme) → LineSpot → (front : List Lexeme) → Type 0
+IsFrontOf items (spot.Above statement) front =
+    (left own right : List Lexeme) → items ≡ left ++ (own ++ right) → statement.from ≡ length (joined left) → statement.to ≡ length (joined (left ++ own))
+    → IsAbove front left
+IsFrontOf items (spot.Below statement) front =
+    (left own right : List Lexeme) → items ≡ left ++ (own ++ right) → statement.from ≡ length (joined left) → statement.to ≡ length (joined (left ++ own))
+    → IsBelow left own right front
+IsFrontOf items spot.End front = front ≡ items
+
+-- Lines are inserted: all items stay, those of `front` before the lines and those of `back` after them. A line end is put before the lines if `front` does not
+-- end its line.
+pub record LinesInserted (source : List ℕ) (items : List Lexeme) (spot : LineSpot) (ss : List Splice) (new : List ℕ) : Type 0 where
+  pub front : List Lexeme
+  pub back : List Lexeme
+  pub parts : items ≡ front ++ back
+  pub is_front : IsFrontOf items spot front
+  pub break : List ℕ
+  pub is_break : IsLineEnd break ⊎ ((break ≡ []) × (ends_line front ≡ true))
+  pub patches : patched_by source ss ≡ Ok (joined front ++ (break ++ (new ++ joined back)))
+
+abbrev pub LinesLaw : Type 0
+LinesLaw = (file source : List ℕ) (items : List Lexeme) → IsItemList source items → (spot : LineSpot) → IsSpotOf items spot → (new : List ℕ)
+    → LinesInserted source items spot (layout_of file items (Lines spot new)) new

@@ -10,7 +10,7 @@ use Rattle.meson_splice.specs.declared.splice.Splice.{Splice}
 use Rattle.meson_splice.specs.Files.{position_of_file, bytes_at, with_bytes}
 use Rattle.meson_splice.specs.Patch.{patched_all}
 use Rattle.meson_layout.specs.declared.primitive.Primitive.{Primitive}
-use Rattle.meson_layout.specs.declared.primitive.Primitive.TheVariants.{First, After, Remove, Replace, Wrap, RemoveStatement, Append}
+use Rattle.meson_layout.specs.declared.primitive.Primitive.TheVariants.{First, After, Remove, Replace, Wrap, RemoveStatement, Append, Lines}
 use Rattle.meson_layout.specs.Layout.{layout_of}
 use Rattle.meson_lex.specs.Words.{spoken}
 use Rattle.meson_layout.specs.Words.{remarks, comma_word, IsBehindElement, IsBeforeElement, IsBeforeValue}
@@ -77,6 +77,7 @@ WritesUtf8 (Replace value new) = IsUtf8 new
 WritesUtf8 (Wrap value) = Unit {0}
 WritesUtf8 (RemoveStatement statement) = Unit {0}
 WritesUtf8 (Append new) = IsUtf8 new
+WritesUtf8 (Lines spot new) = IsUtf8 new
 
 -- each item is UTF-8
 abbrev pub AreUtf8 : List Lexeme → Type 0

@@ -5,11 +5,14 @@ use Rattle.meson_lex.specs.Items.{Lexeme, joined, IsItemList}
 use Rattle.meson_lex.specs.Significant.{Opens, role}
 use Rattle.meson_splice.specs.declared.splice.Splice.{Splice}
 use Rattle.meson_layout.specs.declared.primitive.Primitive.{Primitive}
-use Rattle.meson_layout.specs.declared.primitive.Primitive.TheVariants.{First, After, Remove, Replace, Wrap, RemoveStatement, Append}
+use Rattle.meson_layout.specs.declared.primitive.Primitive.TheVariants.{First, After, Remove, Replace, Wrap, RemoveStatement, Append, Lines}
+use Rattle.meson_layout.specs.declared.primitive.LineSpot.{LineSpot}
+use Rattle.meson_layout.specs.declared.primitive.LineSpot.TheVariants as spot
 use Rattle.meson_layout.specs.Pieces.{Piece, Keep, Change, as_one, open_square, close_square, splices}
 use Rattle.meson_layout.specs.Insertion.{first, inserted}
 use Rattle.meson_layout.specs.Removal.{removed}
 use Rattle.meson_layout.specs.Statements.{statement_removed, appended}
+use Rattle.meson_layout.specs.LineSpots.{above_len, below_len, lines_after}
 
 -- ---- places
 
@@ -33,6 +36,12 @@ parts_of_items n size items = parts_by (before_len size (drop n items)) (take n 
 unfoldable pub split_at_span : Span → List Lexeme → Parts
 split_at_span s items = parts_of_items (before_len s.from items) (s.to - s.from) items
 
+-- the number of items before the place where lines are inserted
+abbrev pub spot_len : LineSpot → List Lexeme → ℕ
+spot_len (spot.Above statement) items = above_len (split_at_span statement items).left
+spot_len (spot.Below statement) items = let p = split_at_span statement items in below_len p.left p.own p.right
+spot_len spot.End items = length items
+
 -- ---- pieces
 
 -- a value is replaced by other items, and by the array of itself
@@ -53,6 +62,7 @@ pieces (Replace value new) items = let p = split_at_span value items in replaced
 pieces (Wrap value) items = let p = split_at_span value items in wrapped p.left p.own p.right
 pieces (RemoveStatement statement) items = let p = split_at_span statement items in statement_removed p.left p.own p.right
 pieces (Append new) items = appended items (as_one new)
+pieces (Lines spot new) items = lines_after (spot_len spot items) items (as_one new)
 
 -- The layout of an edit of the text of these items.
 abbrev pub layout_of : List ℕ → List Lexeme → Primitive → List Splice
@@ -79,6 +89,11 @@ pub record IsBracketOf (items : List Lexeme) (at : ℕ) : Type 0 where
   pub place : at ≡ length (joined left)
   pub opens : role bracket.kind ≡ Opens
 
+abbrev pub IsSpotOf : (items : List Lexeme) → LineSpot → Type 0
+IsSpotOf items (spot.Above statement) = IsSpanOf items statement
+IsSpotOf items (spot.Below statement) = IsSpanOf items statement
+IsSpotOf items spot.End = Unit {0}
+
 abbrev pub IsPlaced : Primitive → List Lexeme → Type 0
 IsPlaced (First bracket new) items = IsBracketOf items bracket
 IsPlaced (After element new) items = IsSpanOf items element
@@ -87,6 +102,7 @@ IsPlaced (Replace value new) items = IsSpanOf items value
 IsPlaced (Wrap value) items = IsSpanOf items value
 IsPlaced (RemoveStatement statement) items = IsSpanOf items statement
 IsPlaced (Append new) items = Unit {0}
+IsPlaced (Lines spot new) items = IsSpotOf items spot
 
 -- The source has an item list, and the places of the edit are borders of its items.
 pub record IsReady (source : List ℕ) (primitive : Primitive) : Type 0 where

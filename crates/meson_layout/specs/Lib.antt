@@ -5,6 +5,7 @@ pub mod Pieces
 pub mod Insertion
 pub mod Removal
 pub mod Statements
+pub mod LineSpots
 pub mod Layout
 pub mod Words
 pub mod Edited

@@ -4,7 +4,9 @@ use Rattle.meson_lex.specs.declared.kinds.Span.{Span}
 use Rattle.meson_lex.specs.Items.{Lexeme, joined, IsItemList}
 use Rattle.meson_splice.specs.declared.splice.Splice.{Splice}
 use Rattle.meson_layout.specs.declared.primitive.Primitive.{Primitive}
-use Rattle.meson_layout.specs.declared.primitive.Primitive.TheVariants.{First, After, Remove, Replace, Wrap, RemoveStatement, Append}
+use Rattle.meson_layout.specs.declared.primitive.Primitive.TheVariants.{First, After, Remove, Replace, Wrap, RemoveStatement, Append, Lines}
+use Rattle.meson_layout.specs.declared.primitive.LineSpot.{LineSpot}
+use Rattle.meson_layout.specs.declared.primitive.LineSpot.TheVariants as spot
 use Rattle.meson_layout.specs.Edited.{ListOfItems, PartIn}
 use Rattle.meson_layout.specs.Layout.{layout_of}
 
@@ -12,6 +14,11 @@ use Rattle.meson_layout.specs.Layout.{layout_of}
 
 abbrev pub nearer_span : ℕ → Span → Span
 nearer_span n s = record { from = s.from - n; to = s.to - n }
+
+abbrev pub nearer_spot : ℕ → LineSpot → LineSpot
+nearer_spot n (spot.Above statement) = spot.Above (nearer_span n statement)
+nearer_spot n (spot.Below statement) = spot.Below (nearer_span n statement)
+nearer_spot n spot.End = spot.End
 
 -- the edit, with a number of bytes before its places left out
 abbrev pub nearer : ℕ → Primitive → Primitive
@@ -22,6 +29,7 @@ nearer n (Replace value new) = Replace (nearer_span n value) new
 nearer n (Wrap value) = Wrap (nearer_span n value)
 nearer n (RemoveStatement statement) = RemoveStatement (nearer_span n statement)
 nearer n (Append new) = Append new
+nearer n (Lines spot new) = Lines (nearer_spot n spot) new
 
 -- the splice, with a number of bytes more before it
 abbrev pub farther : ℕ → Splice → Splice
@@ -41,6 +49,7 @@ IsOfList items l (Replace value new) = PartIn items l value
 IsOfList items l (Wrap value) = PartIn items l value
 IsOfList items l (RemoveStatement statement) = ⊥
 IsOfList items l (Append new) = ⊥
+IsOfList items l (Lines spot new) = ⊥
 
 -- the list's span in a source of these items
 abbrev pub span_in : (items : List Lexeme) → ListOfItems items → Span

@@ -3,7 +3,7 @@
 ghost use Rattle.std.specs.Prelude.{◌≡◌, ◌+◌, ◌<◌, ◌≤◌, ◌^◌, ◌++◌, ◌∷◌, [], IfErr, IfOk, List, drop, length, take};
 ghost use Rattle.meson_lex.specs.Items.{IsItemList, joined};
 ghost use Rattle.meson_lex.specs.Items.{Lexeme};
-ghost use Rattle.meson_layout.specs.Layout.{IsReady, before_len, layout_of, split_at_span, replaced, wrapped};
+ghost use Rattle.meson_layout.specs.Layout.{IsReady, before_len, layout_of, split_at_span, spot_len, replaced, wrapped};
 ghost use Rattle.meson_layout.specs.inside.Layout.{FirstFits, end_of_look};
 ghost use Rattle.meson_layout.specs.Insertion.{first};
 ghost use Rattle.meson_layout.specs.Pieces.{as_one, splices};
@@ -11,8 +11,9 @@ ghost use Rattle.meson_layout.specs.inside.Places.{PlaceFits, at_place};
 ghost use Rattle.meson_splice.specs.declared.fault.SpliceFault.TheVariants.{OutOfMemory};
 
 use crate::lexemes::{Lexeme, lexemes};
+use crate::line_spots::{above_len, lines_after, rest_of_line_len};
 use crate::place::{Place, addition, push_texts, replacement, text_len};
-use crate::primitive::Primitive;
+use crate::primitive::{LineSpot, Primitive};
 use crate::statements::appended;
 use meson_lex::Span;
 use meson_splice::{Splice, SpliceFault};
@@ -118,6 +119,23 @@ fn first(
     addition(alloc, file, text_len(left), now)
 }
 
+/// The number of items before the place where lines are inserted.
+#[tactic(auto, using(crate::proofs::Parts::parts_size))]
+fn spot_len(alloc: Global, file: &str, items: &[Lexeme<'_>], spot: LineSpot) -> usize
+    requires { length (joined items.now) + 1 < 2 ^ 64 }
+    ensures value { result ≡ spot_len spot items.now }
+    ensures within { result ≤ length items.now }
+{
+    match spot {
+        LineSpot::Above(statement) => above_len(place_of(alloc, file, items, statement).left),
+        LineSpot::Below(statement) => {
+            let right = place_of(alloc, file, items, statement).right;
+            items.len() - right.len() + rest_of_line_len(right)
+        }
+        LineSpot::End => items.len(),
+    }
+}
+
 /// The splices of an edit of a text of these items.
 #[tactic(auto, using(crate::proofs::Texts::joined_take))]
 pub(crate) fn layout_items(
@@ -148,6 +166,10 @@ pub(crate) fn layout_items(
             place_of(alloc, file, items, *statement).statement_removed()
         }
         Primitive::Append { new } => appended(alloc, file, items, new.get()),
+        Primitive::Lines { spot, new } => {
+            let n = spot_len(alloc, file, items, *spot);
+            lines_after(alloc, file, items, n, new.get())
+        }
     }
 }
 

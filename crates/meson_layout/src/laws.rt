@@ -1,6 +1,6 @@
 //! Laws of layout. The functions do nothing: what they ensure is the law.
 
-ghost use Rattle.meson_layout.specs.FileLaws.{AppendLaw, AssignmentLaw, StatementRemovalLaw};
+ghost use Rattle.meson_layout.specs.FileLaws.{AppendLaw, AssignmentLaw, LinesLaw, StatementRemovalLaw};
 ghost use Rattle.meson_layout.specs.Local.{LocalLaw};
 ghost use Rattle.meson_layout.specs.Laws.{CodingLaw, FilesLaw, FirstLaw, InsertionLaw, RemovalLaw, ReplacementLaw, TextsLaw, WrapKeeps, WrapLaw};
 
@@ -38,6 +38,11 @@ pub fn removed_statements()
 /// An appended statement is last, and the file before it stays as it is.
 pub fn appended_statements()
     ensures { AppendLaw }
+{}
+
+/// Lines that are inserted leave all bytes as they are. They are above a statement's line and the comment lines directly above it, below its line, or at the end.
+pub fn inserted_lines()
+    ensures { LinesLaw }
 {}
 
 /// An assigned value that is replaced leaves all other tokens, and all bytes before and after the value.

@@ -5,6 +5,7 @@ mod edits;
 mod insertion;
 pub mod laws;
 mod lexemes;
+mod line_spots;
 mod lists;
 mod looks;
 mod place;
@@ -14,4 +15,4 @@ mod statements;
 
 pub use edits::layout;
 pub use lists::list_layout;
-pub use primitive::Primitive;
+pub use primitive::{LineSpot, Primitive};

@@ -20,6 +20,12 @@ pub(crate) fn is_line_end(kind: Kind) -> bool
     matches!(kind, Kind::LineEnd)
 }
 
+pub(crate) fn is_comment(kind: Kind) -> bool
+    ensures { result ≡ is_comment kind }
+{
+    matches!(kind, Kind::Comment)
+}
+
 fn is_closing(kind: Kind) -> bool
     ensures { result ≡ is_closing kind }
 {
@@ -93,7 +99,7 @@ fn comments(items: &[Lexeme<'_>]) -> usize
     ensures within { result ≤ length items.now }
 {
     match items {
-        [x, ..] if matches!(x.kind, Kind::Comment) => 1,
+        [x, ..] if is_comment(x.kind) => 1,
         _ => 0,
     }
 }

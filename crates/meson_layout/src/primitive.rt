@@ -3,6 +3,17 @@
 use meson_lex::Span;
 use meson_values::Bytes;
 
+/// Where whole lines are inserted. Spans are in bytes of the file.
+#[derive(Clone, Copy)]
+pub enum LineSpot {
+    /// Before the line on which the statement at this span begins, and before the comment lines directly above that one.
+    Above(Span),
+    /// After the line on which the statement at this span ends.
+    Below(Span),
+    /// At the end of the file.
+    End,
+}
+
 /// One edit of a build file. Spans and offsets are in bytes of the file.
 #[derive(Drop)]
 pub enum Primitive {
@@ -20,4 +31,6 @@ pub enum Primitive {
     RemoveStatement { statement: Span },
     /// A statement at the end of the file.
     Append { new: Bytes },
+    /// Whole lines. If what is before them does not end its line, a line end is inserted first.
+    Lines { spot: LineSpot, new: Bytes },
 }

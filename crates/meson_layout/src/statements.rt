@@ -52,7 +52,7 @@ impl<'i, 'a> Place<'i, 'a> {
 }
 
 /// The first line end of a text, else LF.
-fn line_end<'a>(items: &[Lexeme<'a>]) -> &'a [u8]
+pub(crate) fn line_end<'a>(items: &[Lexeme<'a>]) -> &'a [u8]
     ensures { result.now ≡ (line_end_of items.now).text }
 {
     for x in items {

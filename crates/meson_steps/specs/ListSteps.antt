@@ -2,8 +2,10 @@
 use Rattle.std.specs.Prelude.{◌≡◌, ◌≤◌, ℕ, List, [], ◌∷◌, map, All, Option, Some, option_map}
 use Rattle.meson_syntax.specs.Tree.{Plain}
 use Rattle.meson_syntax.specs.Grammar.{LevelFile, file_depth}
-use Rattle.meson_edit.specs.Edits.{Edit, First, After, Remove, Replace, Wrap, RemoveStatement, Append, Assign}
+use Rattle.meson_edit.specs.Edits.{LinePlace, above, below, at_end, Edit, First, After, Remove, Replace, Wrap, RemoveStatement, Append, Assign, Lines}
 use Rattle.meson_edit.specs.Places.{Writes}
+use Rattle.meson_steps.specs.declared.step.LineSide.{LineSide}
+use Rattle.meson_steps.specs.declared.step.LineSide.TheVariants as side
 use Rattle.meson_steps.specs.declared.step.ListEdit.{ListEdit}
 use Rattle.meson_steps.specs.declared.step.ListEdit.TheVariants as code
 use Rattle.meson_steps.specs.declared.step.ListStep.{ListStep}
@@ -11,6 +13,17 @@ use Rattle.meson_calls.specs.Project.{place}
 use Rattle.meson_steps.specs.Steps.{Step, stepped}
 
 -- ---- what the steps of the code mean
+
+-- the block in which lines are inserted, and where in it; the end of the file is that of its block
+abbrev pub block_of_lines : LinePlace → List ℕ
+block_of_lines (above path n) = path
+block_of_lines (below path n) = path
+block_of_lines at_end = []
+
+abbrev pub side_of_lines : LinePlace → LineSide
+side_of_lines (above path n) = side.Above n
+side_of_lines (below path n) = side.Below n
+side_of_lines at_end = side.End
 
 -- an edit without the tree that is written
 abbrev pub bare_edit : Edit → Option ListEdit
@@ -22,6 +35,7 @@ bare_edit (Wrap path n) = Some (code.Wrap n)
 bare_edit (RemoveStatement path n) = Some (code.RemoveStatement n)
 bare_edit (Append new) = Some (code.Append new.bytes)
 bare_edit (Assign path new) = Some (code.Assign new.bytes)
+bare_edit (Lines place new) = Some (code.Lines (side_of_lines place) new.bytes)
 
 -- the list, the block or the assignment of an edit; a statement is appended to the block of the file
 abbrev pub path_of : Edit → List ℕ
@@ -33,6 +47,7 @@ path_of (Wrap path n) = path
 path_of (RemoveStatement path n) = path
 path_of (Append new) = []
 path_of (Assign path new) = path
+path_of (Lines place new) = block_of_lines place
 
 abbrev pub bare : Step → Option ListStep
 bare s = option_map (λ e. record { list = place s.file (path_of s.edit); edit = e }) (bare_edit s.edit)

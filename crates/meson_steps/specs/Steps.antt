@@ -16,7 +16,7 @@ use Rattle.meson_syntax.specs.Tree.{Plain}
 use Rattle.meson_syntax.specs.Tree as tree
 use Rattle.meson_syntax.specs.Reads.{IsSpannedWithin}
 use Rattle.meson_syntax.specs.Paths.{ListAt, list_at, list_span}
-use Rattle.meson_edit.specs.Edits.{Edit, First, After, Remove, Replace, Wrap, RemoveStatement, Append, Assign, edited}
+use Rattle.meson_edit.specs.Edits.{Edit, First, After, Remove, Replace, Wrap, RemoveStatement, Append, Assign, Lines, edited}
 use Rattle.meson_edit.specs.Laws.{IsEditOf, WritesList}
 use Rattle.meson_edit.specs.Places.{primitive_of, Writes}
 use Rattle.meson_calls.specs.declared.call.CallRef.{CallRef}
@@ -81,6 +81,7 @@ list_of (Wrap path n) = Some path
 list_of (RemoveStatement path n) = None
 list_of (Append new) = None
 list_of (Assign path new) = None
+list_of (Lines place new) = None
 
 -- the number of bytes that are read again when a file's text changes: those of the list that changes, or all of them
 abbrev pub bytes_again : Option (ListAt Span) → (before after : List ℕ) → ℕ

@@ -7,6 +7,17 @@ use meson_calls::CallRef;
 use meson_splice::Bytes;
 use std::alloc::AllocError;
 
+/// Where whole lines are inserted: beside a statement of a block, by its number there, or at the end of the file.
+#[derive(Clone, Copy, Debug)]
+pub enum LineSide {
+    /// Above the statement and the comment lines directly above it.
+    Above(usize),
+    /// Below the statement.
+    Below(usize),
+    /// At the end of the file.
+    End,
+}
+
 /// One edit of a list, a block or an assignment, with the numbers of elements or statements and the bytes to write.
 #[derive(Debug, Drop)]
 pub enum ListEdit {
@@ -26,6 +37,8 @@ pub enum ListEdit {
     Append(Bytes),
     /// The assignment assigns another value.
     Assign(Bytes),
+    /// Statements on lines of their own.
+    Lines(LineSide, Bytes),
 }
 
 impl ListEdit {
@@ -35,7 +48,10 @@ impl ListEdit {
     {
         !matches!(
             self,
-            ListEdit::RemoveStatement(_) | ListEdit::Append(_) | ListEdit::Assign(_)
+            ListEdit::RemoveStatement(_)
+                | ListEdit::Append(_)
+                | ListEdit::Assign(_)
+                | ListEdit::Lines(_, _)
         )
     }
 }

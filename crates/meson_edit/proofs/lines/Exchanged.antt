@@ -143,7 +143,7 @@ lines-told text new l =
 
 module _ (bytes : List ℕ) (t : Plain) (s : Spells bytes t) (path : List ℕ) (b : BlockAt Nowhere) (is : block_at t path ≡ Some b) (from many : ℕ) (left was right : List Lexeme)
     (are : IsItemList bytes (left ++ (was ++ right))) (st : StandsFor t path b.inside from many left was) (break : List ℕ) (parts : IsBreak left break)
-    (new : List (Statement Nowhere)) (text : List ℕ) (lines : IsLinesText text new) (level : LevelStatements (statements_of new)) where
+    (new : List (Statement Nowhere)) (text : List ℕ) (lines : IsLinesText text new) where
   front : Begun (joined left ++ break) (significant left)
   front = begun (joined left) left (alone left (was ++ right) are.each) (significant left) refl (left-lines t path b is from many left was st) break parts
 
@@ -174,13 +174,11 @@ module _ (bytes : List ℕ) (t : Plain) (s : Spells bytes t) (path : List ℕ) (
       ∙ ap (λ w. statements_words_of new ++ w) (right-words t path b is from many left was st right whole))
       ∙ sym (new-words t path b is from many left was st new)
 
-  pub lines-exchanged : Spells (joined left ++ (break ++ (text ++ joined right))) (b.back (exchanged_in from many new b.inside))
-  lines-exchanged = record {
-    items = now;
-    are_items = record { joins = now-joined; each = now-items };
-    words = now-words;
-    level = lines-level t path b is s.level from many new level;
-  }
+  pub lines-spelled : LevelFile (b.back (exchanged_in from many new b.inside)) → Spells (joined left ++ (break ++ (text ++ joined right))) (b.back (exchanged_in from many new b.inside))
+  lines-spelled level = record { items = now; are_items = record { joins = now-joined; each = now-items }; words = now-words; level = level }
+
+  pub lines-exchanged : LevelStatements (statements_of new) → Spells (joined left ++ (break ++ (text ++ joined right))) (b.back (exchanged_in from many new b.inside))
+  lines-exchanged level = lines-spelled (lines-level t path b is s.level from many new level)
 
 pub lines-read : (limits : Limits) (bytes : List ℕ) (t : Plain) → ReadsWithin limits bytes t → (path : List ℕ) (b : BlockAt Nowhere) → block_at t path ≡ Some b
     → (from many : ℕ) (left was right : List Lexeme) → IsItemList bytes (left ++ (was ++ right)) → StandsFor t path b.inside from many left was

@@ -1,6 +1,6 @@
 -- The laws of edits of lists.
 use Rattle.meson_edit.proofs.Words.{◌≡◌, ℕ, List, Some, Ok, sym, subst, Lexeme, IsItemList, Span, patched_by, layout_of, Primitive, IsSpannedWithin, Plain}
-use Rattle.meson_edit.proofs.Words.{File, erase, Limits, Edit, First, After, Remove, Replace, Wrap, RemoveStatement, Append, Assign, edited, edited_list, KeepsIn}
+use Rattle.meson_edit.proofs.Words.{File, erase, Limits, Edit, First, After, Remove, Replace, Wrap, RemoveStatement, Append, Assign, Lines, edited, edited_list, KeepsIn}
 use Rattle.meson_edit.proofs.Words.{FirstsSpell, InsertionsSpell, RemovalsSpell, ReplacementsSpell, WrapsSpell, IsEditOf, ListEditsLook, ListEditsWrite}
 use Rattle.meson_edit.proofs.Words.{primitive_of, Writes}
 use Rattle.meson_edit.proofs.lists.Found.{found}
@@ -34,6 +34,7 @@ list-lays (Wrap list n) path is = subst (Lays (Wrap list n)) (sym is) (wrap-lays
 list-lays (RemoveStatement block n) path is = absurd is
 list-lays (Assign assignment new) path is = absurd is
 list-lays (Append new) path is = absurd is
+list-lays (Lines place new) path is = absurd is
 
 pub list-edits-write : ListEditsWrite
 list-edits-write e limits bytes f s items are name writes t is path names = written e path (list-lays e path names) limits bytes f s items are name writes t is

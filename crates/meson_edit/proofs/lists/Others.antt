@@ -3,7 +3,7 @@ use Rattle.meson_edit.proofs.Words.{◌≡◌, ℕ, zero, suc, ◌+◌, ◌<◌,
 use Rattle.meson_edit.proofs.Words.{inr, ◌⊎◌, append_assoc, length-append, arith, eq-or-lt_of_le, append-nil, Lexeme, joined, IsItemList, Word, Role, Gap, Ends}
 use Rattle.meson_edit.proofs.Words.{Opens, Closes, Other, role, speaks, spoken_by, word, spoken, Span, joined-append, comma_word, IsCommaAtMost, comma_words}
 use Rattle.meson_edit.proofs.Words.{argument_words, nth, ListAt, ElementAt, elements_at, element_at, words_ahead, Arguments, no_arguments, argument, Listing}
-use Rattle.meson_edit.proofs.Words.{listing, some-injective, Edit, First, After, Remove, Replace, Wrap, RemoveStatement, Append, Assign, Touches, KeepsList, IsBefore}
+use Rattle.meson_edit.proofs.Words.{listing, some-injective, Edit, First, After, Remove, Replace, Wrap, RemoveStatement, Append, Assign, Lines, Touches, KeepsList, IsBefore}
 use Rattle.meson_edit.proofs.Words.{IsBehind, SameUpTo, SameFrom, argument_span, ListStands, ElementStands}
 use Rattle.meson_layout.proofs.Ends.{spoken-append}
 use Rattle.meson_edit.proofs.places.Elements.{element-words}
@@ -224,6 +224,7 @@ module _ (items : List Lexeme) (p : ListAt Span) (l : ListStands items p) (m : �
   enough-before (RemoveStatement path n) left right notes t before front gone cut comma = absurd before
   enough-before (Append new) left right notes t before front gone cut comma = absurd before
   enough-before (Assign path new) left right notes t before front gone cut comma = absurd before
+  enough-before (Lines place new) left right notes t before front gone cut comma = absurd before
 
   behind-of : (n : ℕ) (y : ElementAt Span) → element_at p.list n ≡ Some y → n < m → (right lost rest : List Lexeme) → spoken right ≡ y.behind → right ≡ lost ++ rest → IsCommaAtMost (spoken lost)
       → length (argument_words x.element) + length x.behind ≤ length (spoken rest)
@@ -247,6 +248,7 @@ module _ (items : List Lexeme) (p : ListAt Span) (l : ListStands items p) (m : �
   enough-behind (RemoveStatement path n) left right notes t behind lost rest cut comma = absurd behind
   enough-behind (Append new) left right notes t behind lost rest cut comma = absurd behind
   enough-behind (Assign path new) left right notes t behind lost rest cut comma = absurd behind
+  enough-behind (Lines place new) left right notes t behind lost rest cut comma = absurd behind
 
   -- ---- items
 
@@ -260,6 +262,7 @@ module _ (items : List Lexeme) (p : ListAt Span) (l : ListStands items p) (m : �
   inner-left (RemoveStatement path n) left right notes t = absurd t
   inner-left (Append new) left right notes t = absurd t
   inner-left (Assign path new) left right notes t = absurd t
+  inner-left (Lines place new) left right notes t = absurd t
 
 -- ---- bytes
 

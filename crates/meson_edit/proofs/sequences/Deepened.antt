@@ -2,7 +2,7 @@
 use Rattle.meson_edit.proofs.Words.{max, ◌≡◌, ℕ, zero, suc, ◌+◌, ◌≤◌, List, [], ◌∷◌, ◌++◌, take, drop, Some, ap, subst, arith, expression_depth, listing_depth}
 use Rattle.meson_edit.proofs.Words.{argument_depth, arguments_depth, file_depth, nth, value_of, Nowhere, Plain, Expression, Listing, listing, Argument, plain}
 use Rattle.meson_edit.proofs.Words.{named, pair, arguments_of, list-of-arguments, some-injective, map-some, Edit, First, After, Remove, Replace, Wrap}
-use Rattle.meson_edit.proofs.Words.{RemoveStatement, Append, Assign, elements, with_elements, with_value, array_of, first_element, element_added, element_removed}
+use Rattle.meson_edit.proofs.Words.{RemoveStatement, Append, Assign, Lines, elements, with_elements, with_value, array_of, first_element, element_added, element_removed}
 use Rattle.meson_edit.proofs.Words.{edited_elements, edited_list, new_depth, EditsDeepen, RemovalsStayWithin, FirstsStayWithin, InsertionsStayWithin}
 use Rattle.meson_edit.proofs.Words.{EditsDeepenByOne}
 use Rattle.meson_edit.proofs.lists.Found.{valued}
@@ -76,6 +76,7 @@ elements-deepen (Wrap path n) xs now is =
 elements-deepen (RemoveStatement path n) xs now is = absurd cc
 elements-deepen (Append new) xs now is = absurd cc
 elements-deepen (Assign path new) xs now is = absurd cc
+elements-deepen (Lines place new) xs now is = absurd cc
 
 -- ---- edited trees
 
@@ -98,6 +99,7 @@ edits-deepen (Wrap list n) path of t now is = list-deepens (Wrap list n) list t 
 edits-deepen (RemoveStatement block n) path of t now is = absurd of
 edits-deepen (Append new) path of t now is = absurd of
 edits-deepen (Assign assignment new) path of t now is = absurd of
+edits-deepen (Lines place new) path of t now is = absurd of
 
 pub removals-stay-within : RemovalsStayWithin
 removals-stay-within path n t now is = omega (arith, list-deepens (Remove path n) path t now is)

@@ -1,5 +1,5 @@
 -- A block and its statements in a tree and in the tree without its spans: what an edit leaves has the same words in both.
-use Rattle.meson_edit.proofs.Words.{option_map, ◌≡◌, ℕ, zero, suc, List, ◌++◌, Some, refl, sym, ap, ap₂, ◌∙◌, Span, block_words, file_words}
+use Rattle.meson_edit.proofs.Words.{option_map, option_and_then, ◌≡◌, ℕ, zero, suc, List, ◌++◌, Some, refl, sym, ap, ap₂, ◌∙◌, Span, block_words, file_words}
 use Rattle.meson_edit.proofs.Words.{of_block, Hole, nth, reach, block_of, Nowhere, Plain, Statement, Statements}
 use Rattle.meson_edit.proofs.Words.{no_statements, statement, statement_list, Block, block, File, erase, erase_statement, erase_statements, erase_block}
 use Rattle.meson_edit.proofs.Words.{block-words-erased, some-injective, map-some, and-then-some, reach-fits, with-words, BlockAt, block_at}
@@ -52,6 +52,30 @@ all-but-erased S (statement s more) (suc n) = ap (statement (erase_statement s))
 without-erased : (S : Type 0) (b : Block S) (n : ℕ) → block_without (erase_block b) n ≡ erase_block (block_without b n)
 without-erased S (block s list) n = ap (block tt) (all-but-erased S list n)
 
+-- ---- the statement that an edit names
+
+-- The block and the statement that an edit names, with spans and without, and the tree that the edit makes of that block.
+pub record Names (f : File Span) (path : List ℕ) (n : ℕ) (make : BlockAt Nowhere → Plain) (t : Plain) : Type 0 where
+  pub place : BlockAt Span
+  pub is_place : block_at f path ≡ Some place
+  pub node : Statement Span
+  pub is_node : statement_in place.inside n ≡ Some node
+  pub bare : BlockAt Nowhere
+  pub is_bare : block_at (erase f) path ≡ Some bare
+  pub same : erase_block place.inside ≡ bare.inside
+  pub makes : make bare ≡ t
+
+pub names : (f : File Span) (path : List ℕ) (n : ℕ) (make : BlockAt Nowhere → Plain) (t : Plain)
+    → option_and_then (λ b. option_map (λ s. make b) (statement_in b.inside n)) (block_at (erase f) path) ≡ Some t → Names f path n make t
+names f path n make t is =
+    let o = and-then-some (λ (b : BlockAt Nowhere). option_map (λ s. make b) (statement_in b.inside n)) (block_at (erase f) path) t is in
+    let q = o.0 in
+    let m = map-some (λ (s : Statement Nowhere). make q) (statement_in q.inside n) t o.2 in
+    let p = map-some (λ (b : BlockAt Span). erase_block b.inside) (block_at f path) q.inside (sym (blocks-erase f path) ∙ ap (option_map (λ (b : BlockAt Nowhere). b.inside)) o.1) in
+    let b = p.0 in
+    let x = map-some erase_statement (statement_in b.inside n) m.0 (sym (statement-erased Span b.inside n) ∙ ap (λ c. statement_in c n) p.2 ∙ m.1) in
+    record { place = b; is_place = p.1; node = x.0; is_node = x.1; bare = q; is_bare = o.1; same = p.2; makes = m.2 }
+
 -- ---- the statement that goes
 
 -- The statement that an edit takes out of a file, with its spans: without it the file has the words of the edited tree.
@@ -64,18 +88,15 @@ pub record Leaves (f : File Span) (path : List ℕ) (n : ℕ) (t : Plain) : Type
 
 pub leaves : (f : File Span) (path : List ℕ) (n : ℕ) (t : Plain) → without_statement path n (erase f) ≡ Some t → Leaves f path n t
 leaves f path n t is =
-    let o = and-then-some (λ (b : BlockAt Nowhere). option_map (λ s. b.back (block_without b.inside n)) (statement_in b.inside n)) (block_at (erase f) path) t is in
-    let q = o.0 in
-    let m = map-some (λ (s : Statement Nowhere). q.back (block_without q.inside n)) (statement_in q.inside n) t o.2 in
-    let p = map-some (λ (b : BlockAt Span). erase_block b.inside) (block_at f path) q.inside (sym (blocks-erase f path) ∙ ap (option_map (λ (b : BlockAt Nowhere). b.inside)) o.1) in
-    let b = p.0 in
-    let x = map-some erase_statement (statement_in b.inside n) m.0 (sym (statement-erased Span b.inside n) ∙ ap (λ c. statement_in c n) p.2 ∙ m.1) in
+    let v = names f path n (λ b. b.back (block_without b.inside n)) t is in
+    let b = v.place in
+    let q = v.bare in
     let same : block_words (block_without b.inside n) ≡ block_words (block_without q.inside n) =
-    sym (block-words-erased (block_without b.inside n)) ∙ ap block_words (sym (without-erased Span b.inside n) ∙ ap (λ c. block_without c n) p.2) in
+    sym (block-words-erased (block_without b.inside n)) ∙ ap block_words (sym (without-erased Span b.inside n) ∙ ap (λ c. block_without c n) v.same) in
     record {
       place = b;
-      is_place = p.1;
-      node = x.0;
-      is_node = x.1;
-      words = same-words f path b p.1 q o.1 (block_without b.inside n) (block_without q.inside n) same ∙ ap file_words m.2;
+      is_place = v.is_place;
+      node = v.node;
+      is_node = v.is_node;
+      words = same-words f path b v.is_place q v.is_bare (block_without b.inside n) (block_without q.inside n) same ∙ ap file_words v.makes;
     }

@@ -9,7 +9,7 @@ use Rattle.meson_edit.proofs.statements.Erasing.{leaves}
 
 module _ (items : List Lexeme) (s : Span) (words rest : List Word) (l : LineStands items s words rest) where
   -- its place among the items, for the layout
-  span-place : IsSpanOf items s
+  pub span-place : IsSpanOf items s
   span-place = record {
     left = l.left;
     first = l.tight.first;

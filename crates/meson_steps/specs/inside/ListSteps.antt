@@ -13,3 +13,4 @@ edits_list (code.Wrap n) = true
 edits_list (code.RemoveStatement n) = false
 edits_list (code.Append new) = false
 edits_list (code.Assign new) = false
+edits_list (code.Lines side new) = false

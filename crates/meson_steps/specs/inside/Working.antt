@@ -21,6 +21,10 @@ use Rattle.meson_edit.specs.Places.{bracket_offset, element_span, value_span, sp
 use Rattle.meson_steps.specs.declared.journal.Saved.{Saved}
 use Rattle.meson_steps.specs.declared.spans.ListSpot.{ListSpot}
 use Rattle.meson_steps.specs.declared.step.ListStep.{ListStep}
+use Rattle.meson_layout.specs.declared.primitive.LineSpot.{LineSpot}
+use Rattle.meson_layout.specs.declared.primitive.LineSpot.TheVariants as spot
+use Rattle.meson_steps.specs.declared.step.LineSide.{LineSide}
+use Rattle.meson_steps.specs.declared.step.LineSide.TheVariants as side
 use Rattle.meson_steps.specs.declared.step.ListEdit.{ListEdit}
 use Rattle.meson_steps.specs.declared.step.ListEdit.TheVariants as code
 use Rattle.meson_steps.specs.ListSteps.{bare}
@@ -32,6 +36,12 @@ use Rattle.meson_steps.specs.ResultLimits.{saturated}
 use Rattle.meson_steps.specs.Steps.{Step, bytes_again}
 use Rattle.meson_steps.specs.Working.{Standing, HasReached}
 
+-- where lines are inserted into a block, by the spans of its statements
+abbrev pub side_spot : tree.File Span → List ℕ → LineSide → Option LineSpot
+side_spot f path (side.Above n) = option_map spot.Above (span_of_statement f path n)
+side_spot f path (side.Below n) = option_map spot.Below (span_of_statement f path n)
+side_spot f path side.End = Some spot.End
+
 -- an edit of the list, the block or the assignment at a path as it is laid out
 abbrev pub placed_edit : tree.File Span → List ℕ → ListEdit → Option Primitive
 placed_edit f path (code.First new) = option_map (λ at. layout.First at new) (bracket_offset f path)
@@ -42,6 +52,7 @@ placed_edit f path (code.Wrap n) = option_map layout.Wrap (value_span f path n)
 placed_edit f path (code.RemoveStatement n) = option_map layout.RemoveStatement (span_of_statement f path n)
 placed_edit f path (code.Append new) = Some (layout.Append new)
 placed_edit f path (code.Assign new) = option_map (λ s. layout.Replace s new) (assigned_span f path)
+placed_edit f path (code.Lines side new) = option_map (λ s. layout.Lines s new) (side_spot f path side)
 
 -- an edit of a list as it is laid out
 abbrev pub placed_in : tree.Listing Span → ListEdit → Option Primitive
@@ -53,6 +64,7 @@ placed_in l (code.Wrap n) = option_map layout.Wrap (option_map expression_span (
 placed_in l (code.RemoveStatement n) = None
 placed_in l (code.Append new) = None
 placed_in l (code.Assign new) = None
+placed_in l (code.Lines side new) = None
 
 -- the list that alone is read, if an edit is one of a list
 abbrev pub looked_at : tree.File Span → List ℕ → Bool → Option Span
