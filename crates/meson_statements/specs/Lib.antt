@@ -2,3 +2,5 @@ pub mod Code
 pub mod Indented
 pub mod IndentRows
 pub mod inside
+pub mod Gaps
+pub mod Places

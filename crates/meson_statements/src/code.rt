@@ -1,15 +1,18 @@
 //! Code that is given for statements.
 
-ghost use Rattle.std.specs.Prelude.{◌≡◌, IfOk, List, MatchOption, true, ℕ};
+ghost use Rattle.std.specs.Prelude.{◌≡◌, IfOk, List, MatchOption, length, true, ℕ};
 ghost use Rattle.std.specs.Str.{IsTrimAscii};
+ghost use Rattle.meson_lex.specs.Items.{IsItemList, Lexeme};
 ghost use Rattle.meson_lex.specs.Kinds.{IsLineEnd};
 ghost use Rattle.meson_syntax.specs.Reads.{Reads};
 ghost use Rattle.meson_syntax.specs.Tree.{Plain};
 ghost use Rattle.meson_edit.specs.ExchangedLines.{IsLinesText, file_statements};
 ghost use Rattle.meson_statements.specs.Code.{IsStatements};
 ghost use Rattle.meson_statements.specs.Indented.{is_indent};
+ghost use Rattle.meson_statements.specs.Places.{IsPlace, text_at};
 
 use crate::indenting::indented;
+use crate::places::Surroundings;
 use meson_splice::Text;
 use meson_syntax::{ParseFault, parse};
 use std::alloc::{AllocError, Global};
@@ -81,5 +84,21 @@ impl StatementCode {
         ensures { (t : Plain) → Reads self.now t → IfOk result (λ v. IsLinesText v.items (file_statements t)) }
     {
         indented(alloc, self.text.get().as_bytes(), indent, end)
+    }
+    /// What is inserted at a place in a file: the lines of the statements, each with the indent of the place and with the line end of the file, and the blank
+    /// lines that part them from what is there. The statement beside them is a range of the file.
+    ///
+    /// # Errors
+    /// Out of memory.
+    pub fn placed(
+        &self,
+        alloc: Global,
+        around: Surroundings<'_>,
+    ) -> Result<Vec<u8>, AllocError>
+        requires { IsPlace around.place (length around.source.now) }
+        ensures bytes { (xs ys : List Lexeme) → IsItemList around.entry.source.now xs → IsItemList self.now ys
+            → IfOk result (λ v. v.items ≡ text_at around.entry.source.now xs around.entry.blank self.now ys around.entry.place) }
+    {
+        around.placed(alloc, self.text.get().as_bytes())
     }
 }

@@ -2,8 +2,11 @@
 #![tactic(auto)]
 
 mod code;
+mod endings;
 mod indenting;
 pub mod laws;
+mod places;
 
 pub use code::StatementCode;
 pub use indenting::indented;
+pub use places::{Place, Surroundings};
