@@ -5,3 +5,4 @@ mod Utf8
 mod Lines
 mod Statements
 mod Writing
+pub mod CodeTexts
