@@ -6,3 +6,4 @@ mod Lines
 mod Statements
 mod Writing
 mod FileEnds
+pub mod CodeTexts

@@ -1,4 +1,5 @@
 pub mod Code
+pub mod CodeTexts
 pub mod Indented
 pub mod IndentRows
 pub mod inside

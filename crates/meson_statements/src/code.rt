@@ -1,13 +1,13 @@
 //! Code that is given for statements.
 
-ghost use Rattle.std.specs.Prelude.{◌≡◌, IfOk, List, MatchOption, length, true, ℕ};
-ghost use Rattle.std.specs.Str.{IsTrimAscii};
+ghost use Rattle.std.specs.Prelude.{◌≡◌, IfOk, List, length, true, ℕ};
 ghost use Rattle.meson_lex.specs.Items.{IsItemList, Lexeme};
 ghost use Rattle.meson_lex.specs.Kinds.{IsLineEnd};
 ghost use Rattle.meson_syntax.specs.Reads.{Reads};
 ghost use Rattle.meson_syntax.specs.Tree.{Plain};
 ghost use Rattle.meson_edit.specs.ExchangedLines.{IsLinesText, file_statements};
 ghost use Rattle.meson_statements.specs.Code.{IsStatements};
+ghost use Rattle.meson_statements.specs.CodeTexts.{statement_code};
 ghost use Rattle.meson_statements.specs.Indented.{is_indent};
 ghost use Rattle.meson_statements.specs.Places.{IsPlace, text_at};
 
@@ -56,7 +56,7 @@ impl StatementCode {
     /// # Errors
     /// Out of memory.
     pub fn of(alloc: Global, text: &str) -> Result<Option<StatementCode>, AllocError>
-        ensures code { IfOk result (λ o. MatchOption o ((bytes : List ℕ) → IsTrimAscii text.now bytes → IsStatements bytes → ⊥) (IsTrimAscii text.now)) }
+        ensures code { IfOk result (λ o. o ≡ statement_code text.now) }
     {
         let code = text.trim_ascii();
         if !has_statements(alloc, code)? {

@@ -1,5 +1,6 @@
 //! Laws of lines that are written. The functions do nothing: what they ensure is the law.
 
+ghost use Rattle.meson_statements.specs.CodeTexts.{CodeIsStatements, LexemesAreItems, TreesAreRead};
 ghost use Rattle.meson_statements.specs.IndentRows.{IndentRows};
 ghost use Rattle.meson_statements.specs.Indented.{IndentedAreLines, IndentedAreUtf8, IndentedSayTheSame};
 
@@ -13,4 +14,11 @@ pub fn indented()
 /// Examples of indented lines.
 pub fn indented_examples()
     ensures { IndentRows }
+{}
+
+/// What the functions on texts say: of the items of a text, of the tree that it parses as, and of whether it has a statement.
+pub fn texts()
+    ensures items { LexemesAreItems }
+    ensures trees { TreesAreRead }
+    ensures code { CodeIsStatements }
 {}
