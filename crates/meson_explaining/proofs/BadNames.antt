@@ -260,4 +260,5 @@ module _ (l : Loaded) where
       (λ n t. after is_bad (checked_option n) _ (option_good n t) (λ u. tt)) (λ n t. ap (λ r. then_ok r (λ _. Ok (delete_option n ∷ []))) (option_bad n t)) names refl
       (same_names (find is_bad_option names))
   bad_meant (command.Argument name change) = λ e. absurd (let none : ◌≡◌ {A = Result (List Step) Refusal} (Ok []) (Err refusal.BadName) = e in let no : ⊥ = cc in no)
+  bad_meant (command.CodeInsert place code blank) = λ e. absurd (let none : ◌≡◌ {A = Result (List Step) Refusal} (Ok []) (Err refusal.BadName) = e in let no : ⊥ = cc in no)
   bad_meant (command.ArgumentInfo name) = λ e. absurd (let none : ◌≡◌ {A = Result (List Step) Refusal} (Ok []) (Err refusal.BadName) = e in let no : ⊥ = cc in no)

@@ -283,4 +283,5 @@ module _ (l : Loaded) (why : Refusal) (gone : is_gone why ≡ true)
   gone_meant (command.OptionsDelete names) =
       never_changed (command.OptionsDelete names) role.Project (anywhere (codes "/")) delete_option_entry names refl (λ n. after is_gone (checked_option n) _ (option_free is_gone n refl) (λ u. tt))
   gone_meant (command.Argument name change) = λ e. absurd (let none : ◌≡◌ {A = Result (List Step) Refusal} (Ok []) (Err why) = e in let no : ⊥ = cc in no)
+  gone_meant (command.CodeInsert place code blank) = λ e. absurd (let none : ◌≡◌ {A = Result (List Step) Refusal} (Ok []) (Err why) = e in let no : ⊥ = cc in no)
   gone_meant (command.ArgumentInfo name) = λ e. absurd (let none : ◌≡◌ {A = Result (List Step) Refusal} (Ok []) (Err why) = e in let no : ⊥ = cc in no)

@@ -44,6 +44,7 @@ subject (command.KwargsInfo r id) = (r, id)
 subject (command.OptionsSet pairs) = (role.Project, anywhere (codes "/"))
 subject (command.OptionsDelete names) = (role.Project, anywhere (codes "/"))
 subject (command.Argument name change) = (role.Project, anywhere (codes "/"))
+subject (command.CodeInsert place code blank) = (role.Project, anywhere (codes "/"))
 subject (command.ArgumentInfo name) = (role.Project, anywhere (codes "/"))
 
 -- ---- the id names more than one call

@@ -52,6 +52,7 @@ pub(crate) fn subject_of(command: &Command) -> Subject<'_>
         Command::OptionsSet { .. }
         | Command::OptionsDelete { .. }
         | Command::Argument { .. }
+        | Command::CodeInsert { .. }
         | Command::ArgumentInfo { .. } => Subject {
             role: Role::Project,
             name: BorrowedName {

@@ -41,6 +41,7 @@ used_members (command.KwargsInfo role name) = codes "function" ∷ codes "id" �
 used_members (command.OptionsSet pairs) = codes "options" ∷ []
 used_members (command.OptionsDelete names) = codes "options" ∷ []
 used_members (command.Argument name c) = value_members c
+used_members (command.CodeInsert place code blank) = codes "function" ∷ codes "id" ∷ codes "file" ∷ codes "code" ∷ codes "blank" ∷ codes "in" ∷ []
 used_members (command.ArgumentInfo name) = codes "function" ∷ codes "id" ∷ codes "key" ∷ codes "in" ∷ []
 
 -- one of these, or one that says which command it is

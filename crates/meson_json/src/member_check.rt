@@ -73,6 +73,14 @@ fn is_known(command: &Command, name: &str) -> bool
         Command::KwargsInfo { .. } => name == "function" || name == "id" || name == "in",
         Command::OptionsSet { .. } | Command::OptionsDelete { .. } => name == "options",
         Command::Argument { change, .. } => is_known_of_value(change, name),
+        Command::CodeInsert { .. } => {
+            name == "function"
+                || name == "id"
+                || name == "file"
+                || name == "code"
+                || name == "blank"
+                || name == "in"
+        }
         Command::ArgumentInfo { .. } => {
             name == "function" || name == "id" || name == "key" || name == "in"
         }

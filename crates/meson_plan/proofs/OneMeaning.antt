@@ -28,6 +28,7 @@ means-one l (command.OptionsSet pairs) m n p q = sym p ∙ q
 means-one l (command.OptionsDelete names) m n p q = sym p ∙ q
 means-one l (command.Argument name change) m n p q = sym p.1 ∙ arguments_one l name change p.0 q.0 ∙ q.1
 means-one l (command.ArgumentInfo name) m n p q = sym p ∙ q
+means-one l (command.CodeInsert place code blank) m n p q = sym p ∙ q
 
 module _ (l k : Loaded) (same_files : l.files ≡ k.files) (same_trees : trees l ≡ trees k) where
   same-plan : (c : Command) (m : Meaning) → planned (project l) c ≡ m → planned (project k) c ≡ m
@@ -51,4 +52,5 @@ module _ (l k : Loaded) (same_files : l.files ≡ k.files) (same_trees : trees l
   means-same (command.OptionsSet pairs) m is = same-plan (command.OptionsSet pairs) m is
   means-same (command.OptionsDelete names) m is = same-plan (command.OptionsDelete names) m is
   means-same (command.ArgumentInfo name) m is = sym (ap (λ r. then_ok r (λ c. Ok [])) (value_places_same l k same_files same_trees name)) ∙ is
+  means-same (command.CodeInsert place code blank) m is = same-plan (command.CodeInsert place code blank) m is
   means-same (command.Argument name change) m is = (is.0, sym (arguments_same l k same_files same_trees name change is.0) ∙ is.1)

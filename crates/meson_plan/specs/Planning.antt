@@ -52,6 +52,7 @@ planned p (command.OptionsSet pairs) = then_ok (the_call p role.Project (anywher
 planned p (command.OptionsDelete names) = then_ok (the_call p role.Project (anywhere (codes "/"))) (call_changed p (each_made delete_option_entry names))
 planned p (command.SourcesAddSorted target sources) = Ok []
 planned p (command.Argument name change) = Ok []
+planned p (command.CodeInsert place code blank) = Ok []
 planned p (command.ArgumentInfo name) = Ok []
 
 -- What a command means. A change of a value, whose values may be given, also reads the files: where lines begin, and how its neighbours are written. So does an

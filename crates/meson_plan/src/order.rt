@@ -36,6 +36,8 @@ pub(crate) enum Plan<'c> {
     AddTarget(NewTarget<'c>),
     /// A target is removed, with its statement.
     RemoveTarget(BorrowedName<'c>),
+    /// Nothing is done.
+    Nothing,
 }
 
 impl<'c> Plan<'c> {
@@ -49,6 +51,7 @@ impl<'c> Plan<'c> {
             Plan::RenameSources(target, _) => (Role::Target, target.id),
             Plan::AddTarget(new) => (Role::Target, new.name.get()),
             Plan::RemoveTarget(target) => (Role::Target, target.id),
+            Plan::Nothing => (Role::Project, "/"),
         }
     }
 }
@@ -164,5 +167,6 @@ pub(crate) fn order_of(command: &Command) -> Order<'_>
             Order::Changed(on_project(AskedWords::DeleteOptions(names.get())))
         }
         Command::Argument { name, change } => Order::OnValue(name, change),
+        Command::CodeInsert { .. } => Order::Planned(Plan::Nothing),
     }
 }

@@ -98,6 +98,7 @@ fn steps_of(alloc: Global, noted: &Noted<'_>, plan: Plan<'_>) -> Result<Vec<List
         Plan::RenameSources(target, names) => on_sources(alloc, noted, target, names),
         Plan::AddTarget(new) => target_added(alloc, noted, new),
         Plan::RemoveTarget(target) => target_removed(alloc, noted, target),
+        Plan::Nothing => Ok(Vec::new(alloc)),
     }
 }
 

@@ -6,11 +6,11 @@ use Rattle.serde_json.specs.Find.{get}
 use Rattle.meson_calls.specs.Loading.{Loaded}
 use Rattle.meson_calls.specs.declared.refusal.Refusal.{Refusal}
 use Rattle.meson_steps.specs.declared.command.Command.{Command}
-use Rattle.meson_steps.specs.declared.command.Command.TheVariants.{SourcesAdd, SourcesAddSorted, SourcesRemove, SourcesRename, ExtraAdd, ExtraRemove, TargetAdd, TargetRemove, TargetInfo, KwargsSet, KwargsAdd, KwargsRemove, KwargsDelete, KwargsInfo, OptionsSet, OptionsDelete, Argument, ArgumentInfo}
+use Rattle.meson_steps.specs.declared.command.Command.TheVariants.{SourcesAdd, SourcesAddSorted, SourcesRemove, SourcesRename, ExtraAdd, ExtraRemove, TargetAdd, TargetRemove, TargetInfo, KwargsSet, KwargsAdd, KwargsRemove, KwargsDelete, KwargsInfo, OptionsSet, OptionsDelete, Argument, ArgumentInfo, CodeInsert}
 use Rattle.meson_rewrite.specs.Codes.{memory_code, stop_code}
 use Rattle.meson_rewrite.specs.Lines.{stop_text}
 use Rattle.meson_rewrite.specs.Refused.{stop_command, stop_entry, stop_members}
-use Rattle.meson_rewrite.specs.Subjects.{id_in, subject_of}
+use Rattle.meson_rewrite.specs.Subjects.{anchor_id, id_in, subject_of}
 use Rattle.meson_rewrite.specs.declared.stop.Stop.{Stop}
 use Rattle.meson_rewrite.specs.declared.stop.Stop.TheVariants.{Parse}
 
@@ -63,6 +63,7 @@ words_of (OptionsSet pairs) = map (λ p. p.0) pairs
 words_of (OptionsDelete names) = names
 words_of (Argument n change) = id_and (id_in n.place.name) n.keys
 words_of (ArgumentInfo n) = id_and (id_in n.place.name) n.keys
+words_of (CodeInsert place code blank) = id_and (anchor_id place) []
 
 abbrev pub IsAmong : List (List ℕ) → List ℕ → Type 0
 IsAmong [] word = ⊥

@@ -6,8 +6,10 @@ use Rattle.meson_calls.specs.declared.refusal.Refusal.TheVariants as refusal
 use Rattle.meson_explaining.specs.Names.{meant_name}
 use Rattle.meson_steps.specs.declared.argument.PlaceName.{PlaceName}
 use Rattle.meson_steps.specs.declared.argument.PlaceName.TheVariants as name
+use Rattle.meson_steps.specs.declared.command.CodePlace.{CodePlace}
+use Rattle.meson_steps.specs.declared.command.CodePlace.TheVariants as place
 use Rattle.meson_steps.specs.declared.command.Command.{Command}
-use Rattle.meson_steps.specs.declared.command.Command.TheVariants.{SourcesAdd, SourcesAddSorted, SourcesRemove, SourcesRename, ExtraAdd, ExtraRemove, TargetAdd, TargetRemove, TargetInfo, KwargsSet, KwargsAdd, KwargsRemove, KwargsDelete, KwargsInfo, OptionsSet, OptionsDelete, Argument, ArgumentInfo}
+use Rattle.meson_steps.specs.declared.command.Command.TheVariants.{SourcesAdd, SourcesAddSorted, SourcesRemove, SourcesRename, ExtraAdd, ExtraRemove, TargetAdd, TargetRemove, TargetInfo, KwargsSet, KwargsAdd, KwargsRemove, KwargsDelete, KwargsInfo, OptionsSet, OptionsDelete, Argument, ArgumentInfo, CodeInsert}
 
 -- the id of a call or a variable; a line has none
 abbrev pub id_in : PlaceName → Option (List ℕ)
@@ -15,6 +17,12 @@ id_in (name.Project id) = Some id
 id_in (name.Call callee id) = Some id
 id_in (name.Variable id) = Some id
 id_in (name.Line file line) = None
+
+-- that of the statement beside which code is inserted; at the end of a file there is none
+abbrev pub anchor_id : CodePlace → Option (List ℕ)
+anchor_id (place.Above s) = id_in s.name
+anchor_id (place.Below s) = id_in s.name
+anchor_id (place.End file) = None
 
 -- the id of the call that the command is about; default options are of no id
 abbrev pub id_of : Command → Option (List ℕ)
@@ -36,6 +44,7 @@ id_of (OptionsSet pairs) = None
 id_of (OptionsDelete names) = None
 id_of (Argument n change) = id_in n.place.name
 id_of (ArgumentInfo n) = id_in n.place.name
+id_of (CodeInsert place code blank) = anchor_id place
 
 -- the folder of a new target
 abbrev pub folder_of : Command → Option (List ℕ)

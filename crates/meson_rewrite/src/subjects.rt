@@ -1,13 +1,14 @@
 //! The names that refusals of commands mean.
 
 ghost use Rattle.std.specs.Prelude.{◌≡◌, IfOk, option_map};
-ghost use Rattle.meson_rewrite.specs.Subjects.{folder_of, id_in, id_of, subject_of};
+ghost use Rattle.meson_rewrite.specs.Subjects.{anchor_id, folder_of, id_in, id_of, subject_of};
 
 use meson_explaining::meant_name;
 use meson_json::owned;
 use meson_plan::{Command, Project, Refusal};
 use meson_splice::Text;
 use meson_steps::argument::PlaceName;
+use meson_steps::command::CodePlace;
 use std::alloc::{AllocError, Global};
 
 /// The id of a call or a variable; a line has none.
@@ -17,6 +18,16 @@ fn id_in(name: &PlaceName) -> Option<&Text>
     match name {
         PlaceName::Project(id) | PlaceName::Call { id, .. } | PlaceName::Variable(id) => Some(id),
         PlaceName::Line { .. } => None,
+    }
+}
+
+/// The id of the statement beside which code is inserted; at the end of a file there is none.
+fn anchor_id(place: &CodePlace) -> Option<&Text>
+    ensures { option_map (λ id. id.now) result ≡ anchor_id place.now }
+{
+    match place {
+        CodePlace::Above(search) | CodePlace::Below(search) => id_in(&search.name),
+        CodePlace::End(_) => None,
     }
 }
 
@@ -43,6 +54,7 @@ fn id_of(command: &Command) -> Option<&Text>
         Command::Argument { name, .. } | Command::ArgumentInfo { name } => {
             id_in(&name.place.name)
         }
+        Command::CodeInsert { place, .. } => anchor_id(place),
     }
 }
 

@@ -63,6 +63,7 @@ told-same p q s (command.KwargsDelete role id keys) = refl
 told-same p q s (command.OptionsSet pairs) = refl
 told-same p q s (command.OptionsDelete names) = refl
 told-same p q s (command.Argument name change) = refl
+told-same p q s (command.CodeInsert place code blank) = refl
 
 -- ---- what is done
 

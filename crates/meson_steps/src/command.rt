@@ -1,8 +1,9 @@
 //! Commands, and what a command did.
 
-use crate::argument::{ValueChange, ValueName};
+use crate::argument::{Search, ValueChange, ValueName};
 use meson_calls::{CallName, Role};
 use meson_splice::{Change, Many, Text};
+use meson_statements::StatementCode;
 use std::fmt;
 
 /// The value that a keyword argument is set to.
@@ -11,6 +12,17 @@ pub enum Setting {
     Text(Text),
     Bool(bool),
     Texts(Many<Text>),
+}
+
+/// Where statements are inserted, on lines of their own.
+#[derive(Debug)]
+pub enum CodePlace {
+    /// Above the statement that is found, and above the comment lines directly above it.
+    Above(Search),
+    /// Below the statement that is found.
+    Below(Search),
+    /// At the end of the file of this name.
+    End(Text),
 }
 
 /// What may be done to a project, or queried of it.
@@ -90,6 +102,12 @@ pub enum Command {
         name: ValueName,
         change: ValueChange,
     },
+    /// Statements are inserted. This number of blank lines is between them and the statement beside them; without a number one, if either has more than one line.
+    CodeInsert {
+        place: CodePlace,
+        code: StatementCode,
+        blank: Option<usize>,
+    },
     /// What a value is, or what is in it, is reported.
     ArgumentInfo {
         name: ValueName,
@@ -166,7 +184,23 @@ impl Drop for Command {
             Command::OptionsSet { pairs: _ } => {}
             Command::OptionsDelete { names: _ } => {}
             Command::Argument { name: _, change: _ } => {}
+            Command::CodeInsert {
+                place: _,
+                code: _,
+                blank: _,
+            } => {}
             Command::ArgumentInfo { name: _ } => {}
+        }
+    }
+}
+
+/// Written by hand, as a command's is.
+impl Drop for CodePlace {
+    fn drop(self) {
+        match self {
+            CodePlace::Above(_) => {}
+            CodePlace::Below(_) => {}
+            CodePlace::End(_) => {}
         }
     }
 }
@@ -203,6 +237,7 @@ impl Command {
             Command::OptionsSet { .. } => "OptionsSet",
             Command::OptionsDelete { .. } => "OptionsDelete",
             Command::Argument { .. } => "Argument",
+            Command::CodeInsert { .. } => "CodeInsert",
             Command::ArgumentInfo { .. } => "ArgumentInfo",
         }
     }
@@ -245,6 +280,9 @@ impl fmt::Debug for Command {
             Command::OptionsSet { pairs } => shown.field(pairs),
             Command::OptionsDelete { names } => shown.field(names),
             Command::Argument { name, change } => shown.field(name).field(change),
+            Command::CodeInsert { place, code, blank } => {
+                shown.field(place).field(code).field(blank)
+            }
             Command::ArgumentInfo { name } => shown.field(name),
         };
         shown.finish()

@@ -1,5 +1,5 @@
 -- What an order means: its steps, or why it is refused.
-use Rattle.std.specs.Prelude.{◌≡◌, ℕ, List}
+use Rattle.std.specs.Prelude.{◌≡◌, ℕ, List, [], codes, Ok}
 use Rattle.meson_calls.specs.declared.call.Role.{Role}
 use Rattle.meson_calls.specs.declared.call.Role.TheVariants as role
 use Rattle.meson_calls.specs.Loading.{Loaded, project}
@@ -25,6 +25,7 @@ sought (plan.SortSources target names) = (role.Target, target.id.now)
 sought (plan.RenameSources target names) = (role.Target, target.id.now)
 sought (plan.AddTarget new) = (role.Target, new.name.now)
 sought (plan.RemoveTarget target) = (role.Target, target.id.now)
+sought plan.Nothing = (role.Project, codes "/")
 
 abbrev pub plan_steps : Loaded → Plan → Meaning
 plan_steps l (plan.OnTarget target change names) = target_steps (project l) (name_at target) change names.now
@@ -32,6 +33,7 @@ plan_steps l (plan.SortSources target names) = sorted_steps l.files (project l) 
 plan_steps l (plan.RenameSources target names) = renamed_steps (project l) (name_at target) names.old.now names.new.now
 plan_steps l (plan.AddTarget new) = new_target (project l) new
 plan_steps l (plan.RemoveTarget target) = named_removed (project l) (name_at target)
+plan_steps l plan.Nothing = Ok []
 
 -- an order of a command: its steps are those that the command means, or it is the change of a value that the command is
 abbrev pub IsOrder : Command → Order → Type 0
