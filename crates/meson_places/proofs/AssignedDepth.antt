@@ -1,4 +1,5 @@
--- A file with another assigned value nests no deeper than before, or no deeper than that value with what is around its statement; and no less deep than that.
+-- A file with another assigned value, or with another block, nests no deeper than before, or no deeper than that with what is around it; and no less deep than
+-- that.
 use Rattle.std.proofs.Common.{◌≡◌, ℕ, suc, ◌+◌, ◌≤◌, List, [], ◌∷◌, ◌++◌, Some, refl, sym, ap, ◌∙◌, subst, arith}
 use Rattle.std.specs.Prelude.{max, option_map}
 use Rattle.meson_lex.specs.declared.kinds.Kind.{Kind}
@@ -11,6 +12,7 @@ use Rattle.meson_syntax.proofs.parsing.Steps.{some-injective}
 use Rattle.meson_syntax.proofs.paths.Every.{Every, every-append, every-around, every-nth}
 use Rattle.meson_syntax.proofs.paths.Reaching.{and-then-some, map-some}
 use Rattle.meson_edit.specs.Assigned.{AssignedAt, assigned_at}
+use Rattle.meson_edit.specs.Blocks.{BlockAt, block_at, block_of_node}
 use Rattle.meson_edit.proofs.exchange.LinedHoles.{expression-inner}
 use Rattle.meson_edit.proofs.statements.Assigned.{named-at}
 use Rattle.meson_places.specs.AssignedValues as places
@@ -93,11 +95,11 @@ block-deep (block s list) = statements-in statements_depth block_depth [] [] (bl
 
 -- ---- along a path
 
--- with the statement in the hole, and with another one
+-- with the statement or the block in the hole, and with another one
 abbrev DeepBy : {T : Type 0} → (T → ℕ) → ℕ → T → (sort : Sort) → Node sort S → (Node sort S → T) → Type 0
 DeepBy depth n x of_expression i back = Unit {0}
 DeepBy depth n x of_statement i back = (n + statement_depth i ≤ depth x) × ((y : Statement S) → depth (back y) ≤ max (depth x) (n + statement_depth y))
-DeepBy depth n x of_block i back = Unit {0}
+DeepBy depth n x of_block i back = (n + block_depth i ≤ depth x) × ((y : Block S) → depth (back y) ≤ max (depth x) (n + block_depth y))
 
 abbrev DeepAt : {T : Type 0} → (T → ℕ) → ℕ → T → Hole S T → Type 0
 DeepAt depth n x h = DeepBy depth n x h.sort h.inside h.back
@@ -111,20 +113,22 @@ of_statement_in : (b : Block S) (n : ℕ) (s : Statement S) (back : Statement S 
 of_statement_in b n s back h of_expression i inner d = tt
 of_statement_in b n s back h of_statement i inner d =
     let low = h.0 in (let two = d.0 in omega (arith, low, two), λ y. let one = h.1 (inner y) in let two = d.1 y in omega (arith, low, one, two))
-of_statement_in b n s back h of_block i inner d = tt
+of_statement_in b n s back h of_block i inner d =
+    let low = h.0 in (let two = d.0 in omega (arith, low, two), λ y. let one = h.1 (inner y) in let two = d.1 y in omega (arith, low, one, two))
 
 of_block_in : (s : Statement S) (n : ℕ) (b : Block S) (back : Block S → Statement S) → BlockIn statement_depth 1 s of_block b back → (sort : Sort) (i : Node sort S) (inner : Node sort S → Block S)
     → DeepBy block_depth n b sort i inner → DeepBy statement_depth (suc n) s sort i (λ y. back (inner y))
 of_block_in s n b back h of_expression i inner d = tt
 of_block_in s n b back h of_statement i inner d =
     let low = h.0 in (let two = d.0 in omega (arith, low, two), λ y. let one = h.1 (inner y) in let two = d.1 y in omega (arith, low, one, two))
-of_block_in s n b back h of_block i inner d = tt
+of_block_in s n b back h of_block i inner d =
+    let low = h.0 in (let two = d.0 in omega (arith, low, two), λ y. let one = h.1 (inner y) in let two = d.1 y in omega (arith, low, one, two))
 
--- no statement is in an expression
+-- no statement and no block is in an expression
 none_in : {T : Type 0} (depth : T → ℕ) (n : ℕ) (x : T) (sort : Sort) (i : Node sort S) (back : Node sort S → T) → sort ≡ of_expression → DeepBy depth n x sort i back
 none_in depth n x of_expression i back is = tt
 none_in depth n x of_statement i back is = absurd cc
-none_in depth n x of_block i back is = tt
+none_in depth n x of_block i back is = absurd cc
 
 inner_below : (path : List ℕ) → ((y : Expression S) (j : Hole S (Expression S)) → reach S of_expression y path ≡ Some j → j.sort ≡ of_expression)
     → (sort : Sort) (x : Node sort S) (h : Hole S (Node sort S)) → reach S sort x path ≡ Some h → sort ≡ of_expression → h.sort ≡ of_expression
@@ -158,7 +162,7 @@ below_statement s path rest of_block i before behind back j is h = of_block_in s
 
 mutual
   in_block : (b : Block S) (path : List ℕ) (h : Hole S (Block S)) → reach S of_block b path ≡ Some h → DeepAt block_depth (places.around path) b h
-  in_block b [] h is = subst (DeepAt block_depth 0 b) (some-injective _ _ is) tt
+  in_block b [] h is = subst (DeepAt block_depth 0 b) (some-injective _ _ is) (omega arith, λ y. omega arith)
   in_block b (n ∷ path) h is =
       let o = and-then-some (λ g. option_map (around g.before g.behind g.back) (reach S g.sort g.inside path)) (nth_hole S of_block b n) h is in
       let g = o.0 in
@@ -187,3 +191,21 @@ assigned_depth (file s b) path p is v =
 pub statement_low : (b : Block S) (path : List ℕ) (s : Statement S) (before behind : List Word) (back : Statement S → Block S)
     → reach S of_block b path ≡ Some (record { sort = of_statement; inside = s; before = before; behind = behind; back = back }) → places.around path + statement_depth s ≤ block_depth b
 statement_low b path s before behind back is = (in_block b path _ is).0
+
+-- ---- a block
+
+-- what is around a block, and what it nests itself; and the file with another one there
+pub record BlockGrows (t : Plain) (path : List ℕ) (b : BlockAt Nowhere) : Type 0 where
+  pub low : places.around path + block_depth b.inside ≤ file_depth t
+  pub grows : (y : Block Nowhere) → file_depth (b.back y) ≤ max (file_depth t) (places.around path + block_depth y)
+
+block_in : (s : Nowhere) (c : Block Nowhere) (path : List ℕ) (sort : Sort) (x : Node sort Nowhere) (back : Node sort Nowhere → Block Nowhere) (b : BlockAt Nowhere)
+    → DeepBy block_depth (places.around path) c sort x back → block_of_node Nowhere sort x (file s c) back ≡ Some b → BlockGrows (file s c) path b
+block_in s c path of_expression x back b d is = absurd cc
+block_in s c path of_statement x back b d is = absurd cc
+block_in s c path of_block x back b d is = subst (BlockGrows (file s c) path) (some-injective _ _ is) (record { low = d.0; grows = d.1 })
+
+pub block_grows : (t : Plain) (path : List ℕ) (b : BlockAt Nowhere) → block_at t path ≡ Some b → BlockGrows t path b
+block_grows (file s c) path b is =
+    let o = and-then-some (λ h. block_of_node Nowhere h.sort h.inside (file s c) h.back) (reach Nowhere of_block c path) b is in
+    block_in s c path o.0.sort o.0.inside o.0.back b (in_block c path o.0 o.1) o.2

@@ -15,6 +15,7 @@ placed_by o (code.Wrap n) = option_map layout.Wrap (option_map expression_span (
 placed_by o (code.RemoveStatement n) = None
 placed_by o (code.Append new) = None
 placed_by o (code.Assign new) = None
+placed_by o (code.Lines side new) = None
 
 edit_by : (f : File Span) (path : List ℕ) (e : ListEdit) → edits_list e ≡ true → placed_edit f path e ≡ placed_by (list_at f path) e
 edit_by f path (code.First new) of = refl
@@ -25,6 +26,7 @@ edit_by f path (code.Wrap n) of = refl
 edit_by f path (code.RemoveStatement n) of = absurd cc
 edit_by f path (code.Append new) of = absurd cc
 edit_by f path (code.Assign new) of = absurd cc
+edit_by f path (code.Lines side new) of = absurd cc
 
 by_list : (p : ListAt Span) (e : ListEdit) → placed_by (Some p) e ≡ placed_in p.list e
 by_list p (code.First new) = refl

@@ -1,7 +1,7 @@
 -- What a step on a list has read again.
 use Rattle.meson_steps.proofs.Words.{◌≡◌, ℕ, zero, suc, ◌<◌, ◌≤◌, List, [], ◌∷◌, ◌++◌, Some, length, length-append, sym, ap, ◌∙◌, arith, option_and_then}
 use Rattle.meson_steps.proofs.Words.{bytes_at, with_bytes, File, Span, ListAt, list_at, list_span, Edit, First, After, Remove, Replace, Wrap, RemoveStatement}
-use Rattle.meson_steps.proofs.Words.{Append, Assign, IsEditOf, ListsAreReadAgain, bytes_again, list_of}
+use Rattle.meson_steps.proofs.Words.{Append, Assign, Lines, IsEditOf, ListsAreReadAgain, bytes_again, list_of}
 use Rattle.meson_steps.proofs.ListTaken.{old_list_some}
 use Rattle.meson_steps.proofs.OtherBytes.{bytes_there}
 use Rattle.meson_steps.proofs.PatchedFiles.{same_files}
@@ -15,6 +15,7 @@ list_named (Wrap list n) path is = ap Some (sym is)
 list_named (RemoveStatement block n) path is = absurd is
 list_named (Append new) path is = absurd is
 list_named (Assign assignment new) path is = absurd is
+list_named (Lines place new) path is = absurd is
 
 -- by the lengths of both texts
 pub again_is : (p : ListAt Span) (before after front was now back : List ℕ) → before ≡ front ++ (was ++ back) → after ≡ front ++ (now ++ back)

@@ -1,12 +1,14 @@
 -- The code of a step is laid out where its edit is, and each edit makes the text of the edited tree.
 use Rattle.meson_steps.proofs.Words.{◌≡◌, ℕ, List, ◌∷◌, refl, sym, ap, subst, Bool, true, false, None, Some, option_map, All, Span, Plain, erase}
-use Rattle.meson_steps.proofs.Words.{some-injective, Edit, First, After, Remove, Replace, Wrap, RemoveStatement, Append, Assign, edited, edited_list, IsEditOf, Spelled}
+use Rattle.meson_steps.proofs.Words.{some-injective, Edit, First, After, Remove, Replace, Wrap, RemoveStatement, Append, Assign, Lines, edited, edited_list, IsEditOf, Spelled}
 use Rattle.meson_steps.proofs.Words.{Writes, primitive_of, place, AreDoable, MayStandBetween, one, bare, bare_edit, path_of, Step, list_of, stepped, ListEdit}
 use Rattle.meson_steps.proofs.Words.{ListStep, edits_list, placed_edit}
 use Rattle.meson_syntax.specs.Tree.{File}
+use Rattle.meson_edit.specs.Edits.{above, below, at_end}
 use Rattle.meson_edit.proofs.lists.Answers as lists
 use Rattle.meson_edit.proofs.statements.Appended as appended
 use Rattle.meson_edit.proofs.statements.Assigned as assigned
+use Rattle.meson_edit.proofs.statements.InsertedLines as lines
 use Rattle.meson_edit.proofs.statements.Removed as removed
 
 -- ---- the code of a step
@@ -30,6 +32,9 @@ edit_code f file (Wrap path n) code is = code_is f file (Wrap path n) _ code ref
 edit_code f file (RemoveStatement path n) code is = code_is f file (RemoveStatement path n) _ code refl is
 edit_code f file (Append new) code is = code_is f file (Append new) _ code refl is
 edit_code f file (Assign path new) code is = code_is f file (Assign path new) _ code refl is
+edit_code f file (Lines (above path n) new) code is = code_is f file (Lines (above path n) new) _ code refl is
+edit_code f file (Lines (below path n) new) code is = code_is f file (Lines (below path n) new) _ code refl is
+edit_code f file (Lines at_end new) code is = code_is f file (Lines at_end new) _ code refl is
 
 pub step_code : (f : File Span) (s : Step) (code : ListStep) → bare s ≡ Some code → IsCode f s code
 step_code f s code is = edit_code f s.file s.edit code is
@@ -45,6 +50,7 @@ every_edit (Wrap path n) = lists.wraps-spell path n
 every_edit (RemoveStatement path n) = removed.removals-spell path n
 every_edit (Append new) = appended.appended-spell new
 every_edit (Assign path new) = assigned.assignments-spell path new
+every_edit (Lines place new) = lines.lines-spell place new
 
 -- ---- the next step
 
@@ -70,6 +76,7 @@ list_there (Wrap list n) f path t of is = let same = some-injective list path of
 list_there (RemoveStatement block n) f path t of is = absurd cc
 list_there (Append new) f path t of is = absurd cc
 list_there (Assign assignment new) f path t of is = absurd cc
+list_there (Lines place new) f path t of is = absurd cc
 
 -- whether it is one, by its code
 of_code : (file : ℕ) (path : List ℕ) (b : ListEdit) (code : ListStep) → Some (record { list = place file path; edit = b }) ≡ Some code → (b ≡ code.edit) × (path ≡ code.list.path.steps)
@@ -96,6 +103,7 @@ by_code (Wrap path n) file code is = list_code (Wrap path n) _ file code (λ l s
 by_code (RemoveStatement path n) file code is = list_code (RemoveStatement path n) _ file code (λ l same. refl) is
 by_code (Append new) file code is = list_code (Append new) _ file code (λ l same. refl) is
 by_code (Assign path new) file code is = list_code (Assign path new) _ file code (λ l same. refl) is
+by_code (Lines place new) file code is = list_code (Lines place new) _ file code (λ l same. refl) is
 
 pub step_list : (s : Step) (code : ListStep) → bare s ≡ Some code → edits_list code.edit ≡ true → list_of s.edit ≡ Some code.list.path.steps
 step_list s code is of_list = subst (λ b. ListBy b code.list.path.steps s.edit) of_list (by_code s.edit s.file code is)

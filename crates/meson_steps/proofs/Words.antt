@@ -79,7 +79,7 @@ pub use Rattle.meson_syntax.proofs.parsing.WithinFiles.{other_limits}
 pub use Rattle.meson_syntax.proofs.paths.Every.{Every}
 pub use Rattle.meson_syntax.proofs.paths.Reaching.{and-then-some, list-fits, map-some}
 pub use Rattle.meson_edit.specs.Blocks.{block_at, block_of_node, BlockAt, statement_in}
-pub use Rattle.meson_edit.specs.Edits.{After, Append, Assign, Edit, edited, edited_elements, edited_list, element_added, elements, First, first_element, is_empty}
+pub use Rattle.meson_edit.specs.Edits.{After, Append, Assign, Edit, edited, edited_elements, edited_list, element_added, elements, First, first_element, is_empty, Lines}
 pub use Rattle.meson_edit.specs.Edits.{Remove, RemoveStatement, Replace, with_elements, with_value, Wrap, Written}
 pub use Rattle.meson_edit.specs.ExchangedTrees.{IsExchange, tree_with}
 pub use Rattle.meson_edit.specs.Laws.{IsEditOf, MakesText, Spelled, WritesList}

@@ -7,13 +7,13 @@ ghost use Rattle.meson_syntax.specs.View.{list_view, view};
 ghost use Rattle.meson_calls.specs.ChosenNotes.{Source};
 ghost use Rattle.meson_steps.specs.inside.ListSteps.{edits_list};
 ghost use Rattle.meson_steps.specs.Steps.{effective};
-ghost use Rattle.meson_steps.specs.inside.Working.{MayBeLaid, looked_at, placed_edit, placed_in};
+ghost use Rattle.meson_steps.specs.inside.Working.{MayBeLaid, looked_at, placed_edit, placed_in, side_spot};
 
 use crate::spans::{element_span, list_spot, value_span};
 use crate::statements::{assigned_span, statement_span};
-use crate::step::ListEdit;
+use crate::step::{LineSide, ListEdit};
 use meson_calls::Refusal;
-use meson_layout::{Primitive, layout, list_layout};
+use meson_layout::{LineSpot, Primitive, layout, list_layout};
 use meson_lex::Span;
 use meson_splice::{Splice, SpliceFault};
 use meson_syntax::{Parsed, Path};
@@ -47,6 +47,18 @@ pub(crate) fn list_primitive(list: &meson_syntax::List, edit: ListEdit) -> Optio
         ListEdit::RemoveStatement(_) => None,
         ListEdit::Append(_) => None,
         ListEdit::Assign(_) => None,
+        ListEdit::Lines(_, _) => None,
+    }
+}
+
+/// Where lines are inserted into the block at a path.
+fn side_spot(tree: &Parsed, path: &Path, side: LineSide) -> Option<LineSpot>
+    ensures { (source : Source) → result ≡ side_spot (view source tree.now) path.now.steps side }
+{
+    match side {
+        LineSide::Above(n) => statement_span(tree, path, n).map(|statement| LineSpot::Above(statement)),
+        LineSide::Below(n) => statement_span(tree, path, n).map(|statement| LineSpot::Below(statement)),
+        LineSide::End => Some(LineSpot::End),
     }
 }
 
@@ -62,6 +74,10 @@ fn block_primitive(tree: &Parsed, path: &Path, edit: ListEdit) -> Option<Primiti
         ListEdit::Append(new) => Some(Primitive::Append { new }),
         ListEdit::Assign(new) => match assigned_span(tree, path) {
             Some(value) => Some(Primitive::Replace { value, new }),
+            None => None,
+        },
+        ListEdit::Lines(side, new) => match side_spot(tree, path, side) {
+            Some(spot) => Some(Primitive::Lines { spot, new }),
             None => None,
         },
         _ => None,
