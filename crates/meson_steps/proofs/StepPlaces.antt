@@ -8,7 +8,7 @@ use Rattle.meson_edit.specs.Edits.{above, below, at_end}
 use Rattle.meson_edit.proofs.lists.Answers as lists
 use Rattle.meson_edit.proofs.statements.Appended as appended
 use Rattle.meson_edit.proofs.statements.Assigned as assigned
-use Rattle.meson_edit.proofs.statements.InsertedLines as lines
+use Rattle.meson_edit.proofs.statements.Lined as lines
 use Rattle.meson_edit.proofs.statements.Removed as removed
 
 -- ---- the code of a step

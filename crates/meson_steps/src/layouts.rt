@@ -56,8 +56,14 @@ fn side_spot(tree: &Parsed, path: &Path, side: LineSide) -> Option<LineSpot>
     ensures { (source : Source) → result ≡ side_spot (view source tree.now) path.now.steps side }
 {
     match side {
-        LineSide::Above(n) => statement_span(tree, path, n).map(|statement| LineSpot::Above(statement)),
-        LineSide::Below(n) => statement_span(tree, path, n).map(|statement| LineSpot::Below(statement)),
+        LineSide::Above(n) => match statement_span(tree, path, n) {
+            Some(statement) => Some(LineSpot::Above(statement)),
+            None => None,
+        },
+        LineSide::Below(n) => match statement_span(tree, path, n) {
+            Some(statement) => Some(LineSpot::Below(statement)),
+            None => None,
+        },
         LineSide::End => Some(LineSpot::End),
     }
 }

@@ -18,8 +18,8 @@ returns-in-Assign c = λ source of.
 
 pub returns-in-Some-side_spot : goal.returns-in-Some-side_spot
 returns-in-Some-side_spot c = λ source of.
-    ap (option_map (λ s. layout.Lines s c.in-Lines.field-1)) (c.in-Some-side_spot.ensures source) ∙ ap (placed_edit (view source c.args.tree.now) c.args.path.now.steps) (sym c.in-Lines.is)
+    ap (option_map (λ s. layout.Lines s c.in-Lines.new)) (c.in-Some-side_spot.ensures source) ∙ ap (placed_edit (view source c.args.tree.now) c.args.path.now.steps) (sym c.in-Lines.is)
 
 pub returns-in-Lines : goal.returns-in-Lines
 returns-in-Lines c = λ source of.
-    ap (option_map (λ s. layout.Lines s c.in-Lines.field-1)) (c.in-None-side_spot.ensures source) ∙ ap (placed_edit (view source c.args.tree.now) c.args.path.now.steps) (sym c.in-Lines.is)
+    ap (option_map (λ s. layout.Lines s c.in-Lines.new)) (c.in-None-side_spot.ensures source) ∙ ap (placed_edit (view source c.args.tree.now) c.args.path.now.steps) (sym c.in-Lines.is)
