@@ -13,7 +13,7 @@ use Rattle.meson_layout.specs.declared.primitive.LineSpot.TheVariants as spot
 use Rattle.std.specs.List.{list_all}
 use Rattle.meson_lex.specs.Kinds.{IsLineEnd}
 use Rattle.meson_lex.specs.Words.{spoken}
-use Rattle.meson_layout.specs.Looks.{is_line_end, at_most_blank}
+use Rattle.meson_layout.specs.Looks.{is_comment, is_line_end, at_most_blank}
 use Rattle.meson_layout.specs.Statements.{at_line_start}
 use Rattle.meson_layout.specs.Layout.{layout_of, IsSpotOf}
 use Rattle.meson_lex.specs.Words.{IsTight}
@@ -123,7 +123,18 @@ is_in_line xs = list_all (λ (x : Lexeme). not (is_line_end x.kind)) xs
 abbrev pub ends_line : List Lexeme → Bool
 ends_line xs = at_line_start (reverse xs)
 
+-- a line of a comment, with at most a blank before it, and its line end
+pub record IsCommentLine (xs : List Lexeme) : Type 0 where
+  pub blank : List Lexeme
+  pub note : Lexeme
+  pub end : Lexeme
+  pub parts : xs ≡ blank ++ (note ∷ end ∷ [])
+  pub is_blank : at_most_blank blank ≡ true
+  pub is_note : is_comment note.kind ≡ true
+  pub is_end : is_line_end end.kind ≡ true
+
 -- Above a statement: `left` are the items before it, of which `head` are on its own line. The lines between, which are comments, end their line, as `front` does.
+-- The last line of `front` is no comment line: so the comment lines directly above a statement stay with it.
 pub record IsAbove (front left : List Lexeme) : Type 0 where
   pub notes : List Lexeme
   pub head : List Lexeme
@@ -131,6 +142,7 @@ pub record IsAbove (front left : List Lexeme) : Type 0 where
   pub says_nothing : spoken notes ≡ []
   pub front_ends : ends_line front ≡ true
   pub notes_end : ends_line (front ++ notes) ≡ true
+  pub no_more : (more line : List Lexeme) → front ≡ more ++ line → ends_line more ≡ true → IsCommentLine line → ⊥
   pub in_line : is_in_line head ≡ true
 
 -- Below a statement: `right` are the items after it. Those of `row` are on the line on which it ends, and `end` is the line end of that, unless there is none.
@@ -154,7 +166,7 @@ IsFrontOf items (spot.Below statement) front =
 IsFrontOf items spot.End front = front ≡ items
 
 -- Lines are inserted: all items stay, those of `front` before the lines and those of `back` after them. A line end is put before the lines if `front` does not
--- end its line.
+-- end its line, and only then.
 pub record LinesInserted (source : List ℕ) (items : List Lexeme) (spot : LineSpot) (ss : List Splice) (new : List ℕ) : Type 0 where
   pub front : List Lexeme
   pub back : List Lexeme
@@ -162,6 +174,7 @@ pub record LinesInserted (source : List ℕ) (items : List Lexeme) (spot : LineS
   pub is_front : IsFrontOf items spot front
   pub break : List ℕ
   pub is_break : IsLineEnd break ⊎ ((break ≡ []) × (ends_line front ≡ true))
+  pub only_then : ends_line front ≡ true → break ≡ []
   pub patches : patched_by source ss ≡ Ok (joined front ++ (break ++ (new ++ joined back)))
 
 abbrev pub LinesLaw : Type 0
