@@ -15,11 +15,10 @@ use Rattle.meson_layout.specs.Pieces.{as_one}
 use Rattle.meson_layout.specs.Statements.{at_line_start, line_end_of}
 use Rattle.meson_layout.specs.LineSpots.{in_line_len, comment_line_len, rest_of_line_len, comment_lines_len, above_len, below_len, lines_after}
 use Rattle.meson_layout.specs.Layout.{Parts, spot_len}
-use Rattle.meson_layout.specs.FileLaws.{is_in_line, ends_line, IsCommentLine, IsAbove, IsBelow, IsFrontOf, LinesLaw}
+use Rattle.meson_layout.specs.FileLaws.{is_in_line, ends_line, items_of_lines, IsCommentLine, IsAbove, IsBelow, IsFrontOf, LinesLaw}
 use Rattle.meson_layout.proofs.AppendLaws.{line-of}
 use Rattle.meson_layout.proofs.Ends.{AllGap, back-joins, gap-spoken, line-kind}
-use Rattle.meson_layout.proofs.Gaps.{gap-reverse}
-use Rattle.meson_layout.proofs.LineSpots.{back-ends, in-line-passes, in-line-stops, notes}
+use Rattle.meson_layout.proofs.LineSpots.{back-ends, in-line-passes, in-line-stops, lines-gap, notes}
 use Rattle.meson_layout.proofs.Near.{AllGood, items-good}
 use Rattle.meson_layout.proofs.Parts.{parts-are}
 use Rattle.meson_layout.proofs.Patched.{patched-pieces}
@@ -104,11 +103,15 @@ module _ (left : List Lexeme) where
       let row = last_few head left in
       let counted = take head (reverse left) in
       let written = last_few lines before in
+      let joins : written ≡ items_of_lines noted.lines = sym (reverse-reverse written) ∙ ap reverse back.1 ∙ noted.joins in
       record {
         notes = written;
         head = row;
         parts = sym (sym (append_assoc above-front written row) ∙ ap (λ xs. xs ++ row) (back-joins before lines) ∙ back-joins left head);
-        says_nothing = gap-spoken written (forth AllGap written _ back.1 (gap-reverse _ noted.gap));
+        lines = noted.lines;
+        are_lines = noted.are_lines;
+        notes_are = joins;
+        says_nothing = gap-spoken written (subst AllGap (sym joins) (lines-gap noted.lines noted.are_lines));
         front_ends = ap at_line_start back.0 ∙ noted.start;
         no_more = λ more line e starts l.
             line-seen more l.blank l.note l.end starts l.is_blank l.is_note l.is_end (ap comment_line_len (sym (ap reverse e ∙ line-backwards more line l) ∙ back.0) ∙ noted.over);

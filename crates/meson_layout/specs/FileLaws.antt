@@ -10,7 +10,7 @@ use Rattle.meson_splice.specs.declared.splice.Splice.{Splice}
 use Rattle.meson_layout.specs.declared.primitive.Primitive.TheVariants.{Replace, RemoveStatement, Append, Lines}
 use Rattle.meson_layout.specs.declared.primitive.LineSpot.{LineSpot}
 use Rattle.meson_layout.specs.declared.primitive.LineSpot.TheVariants as spot
-use Rattle.std.specs.List.{list_all}
+use Rattle.std.specs.List.{list_all, AllByRecursion}
 use Rattle.meson_lex.specs.Kinds.{IsLineEnd}
 use Rattle.meson_lex.specs.Words.{spoken}
 use Rattle.meson_layout.specs.Looks.{is_comment, is_line_end, at_most_blank}
@@ -133,12 +133,20 @@ pub record IsCommentLine (xs : List Lexeme) : Type 0 where
   pub is_note : is_comment note.kind ≡ true
   pub is_end : is_line_end end.kind ≡ true
 
--- Above a statement: `left` are the items before it, of which `head` are on its own line. The lines between, which are comments, end their line, as `front` does.
--- The last line of `front` is no comment line: so the comment lines directly above a statement stay with it.
+-- the items of lines
+abbrev pub items_of_lines : List (List Lexeme) → List Lexeme
+items_of_lines [] = []
+items_of_lines (line ∷ lines) = line ++ items_of_lines lines
+
+-- Above a statement: `left` are the items before it, of which `head` are on its own line. The lines between are comment lines, and the last line of
+-- `front` is none: so the comment lines directly above a statement stay with it.
 pub record IsAbove (front left : List Lexeme) : Type 0 where
   pub notes : List Lexeme
   pub head : List Lexeme
   pub parts : left ≡ front ++ (notes ++ head)
+  pub lines : List (List Lexeme)
+  pub are_lines : AllByRecursion IsCommentLine lines
+  pub notes_are : notes ≡ items_of_lines lines
   pub says_nothing : spoken notes ≡ []
   pub front_ends : ends_line front ≡ true
   pub notes_end : ends_line (front ++ notes) ≡ true
