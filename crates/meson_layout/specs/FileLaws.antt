@@ -1,4 +1,4 @@
--- What the splices of a removed and of an appended statement make of a text, those of an assigned value that is replaced, and those of lines that are inserted.
+-- What the splices of a removed and of an appended statement make of a text, those of an assigned value that is replaced, and those of inserted lines.
 use Rattle.std.specs.Prelude.{◌≡◌, ℕ, Bool, true, false, not, List, [], ◌∷◌, ◌++◌, ◌⊎◌, length, reverse, Ok}
 use Rattle.meson_lex.specs.declared.kinds.Kind.{Kind}
 use Rattle.meson_lex.specs.declared.kinds.Kind.TheVariants as k
