@@ -26,7 +26,7 @@ pub gap-stops : (xs : List Lexeme) → Stops (drop (look.gap_len xs) xs)
 gap-stops [] = tt
 gap-stops (x ∷ xs) = cond_both (look.is_gap x.kind) _ _ (λ n. Stops (drop n (x ∷ xs))) (λ h. subst (λ n. Stops (drop n (x ∷ xs))) (sym (one-add (look.gap_len xs))) (gap-stops xs)) (λ h. h)
 
-pub gap-reverse : (xs : List Lexeme) → AllGap xs → AllGap (reverse xs)
+gap-reverse : (xs : List Lexeme) → AllGap xs → AllGap (reverse xs)
 gap-reverse [] h = tt
 gap-reverse (x ∷ xs) h = subst AllGap (sym (reverse-append (x ∷ []) xs)) (gap-join (reverse xs) (x ∷ []) (gap-reverse xs h.1) (h.0, tt))
 

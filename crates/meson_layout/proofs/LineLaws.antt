@@ -1,7 +1,7 @@
 -- The law of lines that are inserted.
-use Rattle.std.proofs.Common.{◌≡◌, ℕ, ◌-◌, ◌≤◌, true, false, cond, ◌⊎◌, List, [], ◌∷◌, ◌++◌, length, take, drop, Ok, refl, sym, ap, ◌∙◌, subst, inl, inr, append_assoc, length-take, arith}
+use Rattle.std.proofs.Common.{◌≡◌, ℕ, ◌+◌, ◌-◌, ◌≤◌, ◌&&◌, true, false, cond, ◌⊎◌, List, [], ◌∷◌, ◌++◌, length, take, drop, Ok, refl, sym, ap, ◌∙◌, subst, inl, inr, append_assoc, length-take, arith}
 use Rattle.std.proofs.Math.Seq.{take-append_seam}
-use Rattle.std.proofs.lemmas.Bool.{cond_both, and_from, and_parts}
+use Rattle.std.proofs.lemmas.Bool.{false≢true, cond-true, cond-false, cond_both, and_from, and_parts}
 use Rattle.std.proofs.lemmas.List.{append-nil, length-append, length-reverse, take-append-drop, reverse-append, reverse-reverse}
 use Rattle.std.proofs.lemmas.List.Folds.{length-prefix_len, list_all-append}
 use Rattle.std.proofs.lemmas.List.Sums.{prefix_len-le-length}
@@ -10,16 +10,15 @@ use Rattle.meson_lex.specs.Items.{Lexeme, joined}
 use Rattle.meson_lex.specs.Kinds.{IsLineEnd, OfKind}
 use Rattle.meson_layout.specs.declared.primitive.LineSpot.{LineSpot}
 use Rattle.meson_layout.specs.declared.primitive.LineSpot.TheVariants as spot
-use Rattle.meson_layout.specs.Looks.{but_last, last_few, first_is, is_line_end}
+use Rattle.meson_layout.specs.Looks.{at_most_blank, but_last, last_few, first_is, is_blank_kind, is_comment, is_line_end, one_if}
 use Rattle.meson_layout.specs.Pieces.{as_one}
 use Rattle.meson_layout.specs.Statements.{at_line_start, line_end_of}
-use Rattle.meson_layout.specs.LineSpots.{in_line_len, rest_of_line_len, comment_lines_len, above_len, below_len, lines_after}
+use Rattle.meson_layout.specs.LineSpots.{in_line_len, comment_line_len, rest_of_line_len, comment_lines_len, above_len, below_len, lines_after}
 use Rattle.meson_layout.specs.Layout.{Parts, spot_len}
-use Rattle.meson_layout.specs.FileLaws.{is_in_line, ends_line, IsAbove, IsBelow, IsFrontOf, LinesLaw}
+use Rattle.meson_layout.specs.FileLaws.{is_in_line, ends_line, items_of_lines, IsCommentLine, IsAbove, IsBelow, IsFrontOf, LinesLaw}
 use Rattle.meson_layout.proofs.AppendLaws.{line-of}
 use Rattle.meson_layout.proofs.Ends.{AllGap, back-joins, gap-spoken, line-kind}
-use Rattle.meson_layout.proofs.Gaps.{gap-reverse}
-use Rattle.meson_layout.proofs.LineSpots.{back-ends, in-line-passes, in-line-stops, notes}
+use Rattle.meson_layout.proofs.LineSpots.{back-ends, in-line-passes, in-line-stops, lines-gap, notes}
 use Rattle.meson_layout.proofs.Near.{AllGood, items-good}
 use Rattle.meson_layout.proofs.Parts.{parts-are}
 use Rattle.meson_layout.proofs.Patched.{patched-pieces}
@@ -38,6 +37,36 @@ in-line-reverse (x ∷ xs) h =
 -- what is known backwards is known of the items
 forth : (P : List Lexeme → Type 0) (xs ys : List Lexeme) → reverse xs ≡ ys → P (reverse ys) → P xs
 forth P xs ys e h = subst P (sym (sym (reverse-reverse xs) ∙ ap reverse e)) h
+
+-- a comment line at the end is seen there
+line-seen : (more blank : List Lexeme) (note end : Lexeme) → at_line_start (reverse more) ≡ true → at_most_blank blank ≡ true → is_comment note.kind ≡ true → is_line_end end.kind ≡ true
+    → comment_line_len (end ∷ note ∷ (reverse blank ++ reverse more)) ≡ 0 → ⊥
+line-seen more [] note end starts one is_note ends none = at-start (reverse more) starts none
+  where
+    both : (is_line_end end.kind && is_comment note.kind) ≡ true
+    both = and_from _ _ ends is_note
+
+    at-start : (xs : List Lexeme) → at_line_start xs ≡ true → comment_line_len (end ∷ note ∷ xs) ≡ 0 → ⊥
+    at-start [] h z = let two : comment_line_len (end ∷ note ∷ []) ≡ 2 = cond-true _ 2 0 both in omega arith
+    at-start (x ∷ xs) h z =
+        let plain : is_blank_kind x.kind ≡ false = ap is_blank_kind (line-kind x.kind h) in
+        let none_blank : one_if is_blank_kind (x ∷ xs) ≡ 0 = cond-false _ 1 0 plain in
+        let count = λ (n : ℕ). cond (is_line_end end.kind && is_comment note.kind) (cond (at_line_start (drop n (x ∷ xs))) (n + 2) 0) 0 in
+        let two : comment_line_len (end ∷ note ∷ x ∷ xs) ≡ 2 = ap count none_blank ∙ cond-true _ _ _ both ∙ cond-true _ _ _ h in
+        omega arith
+line-seen more (b ∷ []) note end starts one is_note ends none =
+    let both : (is_line_end end.kind && is_comment note.kind) ≡ true = and_from _ _ ends is_note in
+    let blanks : one_if is_blank_kind (b ∷ reverse more) ≡ 1 = cond-true _ 1 0 one in
+    let count = λ (n : ℕ). cond (is_line_end end.kind && is_comment note.kind) (cond (at_line_start (drop n (b ∷ reverse more))) (n + 2) 0) 0 in
+    let three : comment_line_len (end ∷ note ∷ b ∷ reverse more) ≡ 3 = ap count blanks ∙ cond-true _ _ _ both ∙ cond-true _ _ _ starts in
+    omega arith
+line-seen more (b ∷ c ∷ blank) note end starts one is_note ends none = absurd cc
+
+line-backwards : (more line : List Lexeme) (l : IsCommentLine line) → reverse (more ++ line) ≡ l.end ∷ l.note ∷ (reverse l.blank ++ reverse more)
+line-backwards more line l =
+    ap (λ xs. reverse (more ++ xs)) l.parts
+    ∙ reverse-append more (l.blank ++ (l.note ∷ l.end ∷ []))
+    ∙ ap (λ xs. xs ++ reverse more) (reverse-append l.blank (l.note ∷ l.end ∷ []))
 
 module _ (left : List Lexeme) where
   abbrev head : ℕ
@@ -74,12 +103,18 @@ module _ (left : List Lexeme) where
       let row = last_few head left in
       let counted = take head (reverse left) in
       let written = last_few lines before in
+      let joins : written ≡ items_of_lines noted.lines = sym (reverse-reverse written) ∙ ap reverse back.1 ∙ noted.joins in
       record {
         notes = written;
         head = row;
         parts = sym (sym (append_assoc above-front written row) ∙ ap (λ xs. xs ++ row) (back-joins before lines) ∙ back-joins left head);
-        says_nothing = gap-spoken written (forth AllGap written _ back.1 (gap-reverse _ noted.gap));
+        lines = noted.lines;
+        are_lines = noted.are_lines;
+        notes_are = joins;
+        says_nothing = gap-spoken written (subst AllGap (sym joins) (lines-gap noted.lines noted.are_lines));
         front_ends = ap at_line_start back.0 ∙ noted.start;
+        no_more = λ more line e starts l.
+            line-seen more l.blank l.note l.end starts l.is_blank l.is_note l.is_end (ap comment_line_len (sym (ap reverse e ∙ line-backwards more line l) ∙ back.0) ∙ noted.over);
         notes_end = ap ends_line (back-joins before lines) ∙ before-ends;
         in_line = forth (λ xs. is_in_line xs ≡ true) row counted (back-ends head left head-few).1 (in-line-reverse counted (in-line-passes (reverse left)));
       }
@@ -178,6 +213,7 @@ front-of items good spot.End = ap (take (length items)) (sym (append-nil items))
 record IsBroken (items front : List Lexeme) (new : List ℕ) (now : List Lexeme) : Type 0 where
   pub break : List ℕ
   pub is_break : IsLineEnd break ⊎ ((break ≡ []) × (ends_line front ≡ true))
+  pub only_then : ends_line front ≡ true → break ≡ []
   pub says : joined now ≡ break ++ new
 
 broken : (items front : List Lexeme) (new : List ℕ) → AllGood items → IsBroken items front new (cond (at_line_start (reverse front)) (as_one new) (line_end_of items ∷ as_one new))
@@ -185,8 +221,8 @@ broken items front new good =
     let line = line_end_of items in
     let is = line-of items good in
     cond_both (at_line_start (reverse front)) _ _ (IsBroken items front new)
-    (λ ends. record { break = []; is_break = inr (refl, ends); says = append-nil new })
-    (λ other. record { break = line.text; is_break = inl (subst (λ κ. OfKind κ line.text) (line-kind line.kind is.is) is.good.0); says = ap (λ t. line.text ++ t) (append-nil new) })
+    (λ ends. record { break = []; is_break = inr (refl, ends); only_then = λ h. refl; says = append-nil new })
+    (λ other. record { break = line.text; is_break = inl (subst (λ κ. OfKind κ line.text) (line-kind line.kind is.is) is.good.0); only_then = λ h. absurd (false≢true (sym other ∙ h)); says = ap (λ t. line.text ++ t) (append-nil new) })
 
 pub lines-law : LinesLaw
 unfolding lines_after
@@ -208,5 +244,6 @@ lines-law file source items list place ready new =
       is_front = front-of items good place;
       break = b.break;
       is_break = b.is_break;
+      only_then = b.only_then;
       patches = patched-pieces file source (lines_after n items (as_one new)) (ap joined old ∙ list.joins) ∙ ap Ok text;
     }

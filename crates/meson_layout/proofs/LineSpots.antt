@@ -1,17 +1,20 @@
 -- What the looks at the lines beside a statement say of the items there.
-use Rattle.std.proofs.Common.{◌≡◌, ℕ, ◌+◌, ◌-◌, ◌<◌, ◌≤◌, Bool, true, false, cond, not, ◌&&◌, ◌⊎◌, List, [], ◌∷◌, ◌++◌, length, get_or, take, drop, refl, sym, ap, ◌∙◌, subst, inl, inr, length-take, arith}
+use Rattle.std.proofs.Common.{◌≡◌, ℕ, ◌+◌, ◌-◌, ◌<◌, ◌≤◌, Bool, true, false, cond, not, ◌&&◌, ◌⊎◌, List, [], ◌∷◌, ◌++◌, length, get_or, take, drop, refl, sym, ap, ap₂, ◌∙◌, subst, inl, inr, append_assoc, length-take, arith}
+use Rattle.std.specs.List.{AllByRecursion}
+use Rattle.std.proofs.Math.Seq.{take-add, take-append_seam, drop-append_seam}
+use Rattle.meson_layout.proofs.Splits.{drop-add}
 use Rattle.std.proofs.Math.Numerals.{one-add}
-use Rattle.std.proofs.lemmas.Bool.{cond-true, cond_both, and_parts, and_from}
-use Rattle.std.proofs.lemmas.List.{take-append-drop, reverse-reverse, reverse-append, length-reverse, get_or-reverse}
+use Rattle.std.proofs.lemmas.Bool.{cond-true, cond-false, cond_both, and_parts, and_from}
+use Rattle.std.proofs.lemmas.List.{append-nil, length-append, take-append-drop, reverse-reverse, reverse-append, length-reverse, get_or-reverse}
 use Rattle.std.specs.Prelude.{reverse}
 use Rattle.meson_lex.specs.declared.kinds.Kind.{Kind}
 use Rattle.meson_lex.specs.declared.kinds.Kind.TheVariants as k
 use Rattle.meson_lex.specs.Items.{Lexeme}
-use Rattle.meson_layout.specs.Looks.{is_blank_kind, is_comment, is_gap, is_line_end, one_if, but_last, last_few}
+use Rattle.meson_layout.specs.Looks.{at_most_blank, is_blank_kind, is_comment, is_gap, is_line_end, one_if, but_last, last_few}
 use Rattle.meson_layout.specs.Statements.{at_line_start}
 use Rattle.meson_layout.specs.LineSpots.{in_line_len, comment_line_len, comment_lines_len}
-use Rattle.meson_layout.specs.FileLaws.{is_in_line}
-use Rattle.meson_layout.proofs.Ends.{AllGap, back-parts, blank-kind, comment-kind, line-kind}
+use Rattle.meson_layout.specs.FileLaws.{is_in_line, items_of_lines, IsCommentLine}
+use Rattle.meson_layout.proofs.Ends.{AllGap, back-parts, gap-join, blank-kind, comment-kind, line-kind}
 
 -- ---- backwards
 
@@ -59,45 +62,7 @@ in-line-stops (x ∷ xs) =
     let P : ℕ → Type 0 = λ n. at_line_start (drop n (x ∷ xs)) ≡ true in
     cond_both (not (is_line_end x.kind)) _ _ P (λ yes. subst P (sym (one-add _)) (in-line-stops xs)) (λ other. not-false (is_line_end x.kind) other)
 
--- ---- comment lines
-
--- a number of items, and what is beyond them begins a line
-pub record IsNotes (n : ℕ) (xs : List Lexeme) : Type 0 where
-  pub start : at_line_start (drop n xs) ≡ true
-  pub gap : AllGap (take n xs)
-  pub few : n ≤ length xs
-
-no-notes : (xs : List Lexeme) → at_line_start xs ≡ true → IsNotes 0 xs
-no-notes xs h = record { start = h; gap = tt; few = omega arith }
-
-one-more : (n : ℕ) (x : Lexeme) (xs : List Lexeme) → is_gap x.kind ≡ true → IsNotes n xs → IsNotes (1 + n) (x ∷ xs)
-one-more n x xs h more = subst (λ m. IsNotes m (x ∷ xs)) (sym (one-add n)) (record { start = more.start; gap = (h, more.gap); few = let few = more.few in omega arith })
-
-two-more : (n : ℕ) (end note : Lexeme) (xs : List Lexeme) → (is_line_end end.kind && is_comment note.kind) ≡ true → IsNotes n xs → IsNotes (2 + n) (end ∷ note ∷ xs)
-two-more n end note xs h more =
-    let both = and_parts (is_line_end end.kind) (is_comment note.kind) h in
-    let size : 1 + (1 + n) ≡ 2 + n = omega arith in
-    subst (λ m. IsNotes m (end ∷ note ∷ xs)) size
-    (one-more (1 + n) end (note ∷ xs) (ap is_gap (line-kind end.kind both.0)) (one-more n note xs (ap is_gap (comment-kind note.kind both.1)) more))
-
-pub notes : (xs : List Lexeme) → at_line_start xs ≡ true → IsNotes (comment_lines_len xs) xs
-notes [] h = no-notes [] h
-notes (end ∷ []) h = no-notes (end ∷ []) h
-notes (end ∷ note ∷ []) h =
-    cond_both (is_line_end end.kind && is_comment note.kind) _ _ (λ n. IsNotes n (end ∷ note ∷ [])) (λ is. two-more 0 end note [] is (no-notes [] refl)) (λ other. no-notes (end ∷ note ∷ []) h)
-notes (end ∷ note ∷ x ∷ xs) h =
-    let P : ℕ → Type 0 = λ n. IsNotes n (end ∷ note ∷ x ∷ xs) in
-    let none = no-notes (end ∷ note ∷ x ∷ xs) h in
-    cond_both (is_line_end end.kind && is_comment note.kind) _ _ P
-    (λ is. cond_both (is_line_end x.kind) _ _ P
-    (λ ends. two-more (comment_lines_len (x ∷ xs)) end note (x ∷ xs) is (notes (x ∷ xs) ends))
-    (λ other. cond_both (is_blank_kind x.kind && at_line_start xs) _ _ P
-    (λ white.
-    let both = and_parts (is_blank_kind x.kind) (at_line_start xs) white in
-    let size : 2 + (1 + comment_lines_len xs) ≡ 3 + comment_lines_len xs = omega arith in
-    subst P size (two-more (1 + comment_lines_len xs) end note (x ∷ xs) is (one-more (comment_lines_len xs) x xs (ap is_gap (blank-kind x.kind both.0)) (notes xs both.1))))
-    (λ other. none)))
-    (λ other. none)
+-- ---- a comment line
 
 -- the comment line at the end of items
 pub comment-line-is : (items : List Lexeme) (note end : Lexeme) (n : ℕ) → 2 ≤ length items → end ≡ get_or items (length items - 1) end → note ≡ get_or items (length items - 2) note
@@ -159,6 +124,9 @@ step (end ∷ note ∷ x ∷ xs) = step-three end note x xs (is_line_end end.kin
 pub no-comment-lines : (xs : List Lexeme) → comment_line_len xs ≡ 0 → comment_lines_len xs ≡ 0
 no-comment-lines xs none = elim (step xs) [ inl h ↦ h.1 | inr h ↦ absurd (omega arith) ]
 
+no-comment-line : (xs : List Lexeme) → comment_lines_len xs ≡ 0 → comment_line_len xs ≡ 0
+no-comment-line xs none = elim (step xs) [ inl h ↦ h.0 | inr h ↦ absurd (let more = h.1 in let some = h.0 in omega arith) ]
+
 pub more-comment-lines : (xs : List Lexeme) → 0 < comment_line_len xs → comment_lines_len xs ≡ comment_line_len xs + comment_lines_len (drop (comment_line_len xs) xs)
 more-comment-lines xs some = elim (step xs) [ inl h ↦ absurd (omega arith) | inr h ↦ h.1 ]
 
@@ -172,3 +140,88 @@ one-line-less items rest n line some few same =
     more ∙ ap (λ m. m + comment_lines_len (drop m (reverse rest))) (sym line) ∙ ap (λ xs. n + comment_lines_len xs) (sym back.0) in
     let size = length-take (length rest - n) rest in
     omega arith
+
+-- ---- comment lines
+
+blank-gap : (xs : List Lexeme) → at_most_blank xs ≡ true → AllGap xs
+blank-gap [] h = tt
+blank-gap (x ∷ []) h = (ap is_gap (blank-kind x.kind h), tt)
+blank-gap (x ∷ y ∷ xs) h = absurd cc
+
+line-gap : (xs : List Lexeme) → IsCommentLine xs → AllGap xs
+line-gap xs l =
+    subst AllGap (sym l.parts) (gap-join l.blank (l.note ∷ l.end ∷ []) (blank-gap l.blank l.is_blank) (ap is_gap (comment-kind l.note.kind l.is_note), (ap is_gap (line-kind l.end.kind l.is_end), tt)))
+
+pub lines-gap : (lines : List (List Lexeme)) → AllByRecursion IsCommentLine lines → AllGap (items_of_lines lines)
+lines-gap [] each = tt
+lines-gap (line ∷ lines) each = gap-join line (items_of_lines lines) (line-gap line each.0) (lines-gap lines each.1)
+
+-- one more at the end
+lines-join : (lines : List (List Lexeme)) (line : List Lexeme) → items_of_lines (lines ++ line ∷ []) ≡ items_of_lines lines ++ line
+lines-join [] line = append-nil line
+lines-join (first ∷ lines) line = ap (λ xs. first ++ xs) (lines-join lines line) ∙ sym (append_assoc first (items_of_lines lines) line)
+
+all-join : (lines : List (List Lexeme)) (line : List Lexeme) → AllByRecursion IsCommentLine lines → IsCommentLine line → AllByRecursion IsCommentLine (lines ++ line ∷ [])
+all-join [] line each is = (is, tt)
+all-join (first ∷ lines) line each is = (each.0, all-join lines line each.1 is)
+
+-- a number of items are comment lines, backwards: what is beyond them begins a line, and is no such line
+pub record IsNotes (n : ℕ) (xs : List Lexeme) : Type 0 where
+  pub start : at_line_start (drop n xs) ≡ true
+  pub over : comment_line_len (drop n xs) ≡ 0
+  pub few : n ≤ length xs
+  pub lines : List (List Lexeme)
+  pub are_lines : AllByRecursion IsCommentLine lines
+  pub joins : reverse (take n xs) ≡ items_of_lines lines
+
+no-notes : (xs : List Lexeme) → at_line_start xs ≡ true → comment_lines_len xs ≡ 0 → IsNotes 0 xs
+no-notes xs h none = record { start = h; over = no-comment-line xs none; few = omega arith; lines = []; are_lines = tt; joins = refl }
+
+line-more : (n : ℕ) (line rest : List Lexeme) → IsCommentLine line → IsNotes n rest → IsNotes (length line + n) (reverse line ++ rest)
+line-more n line rest is more =
+    let back = reverse line in
+    let size : length line ≡ length back = sym (length-reverse line) in
+    let seam : drop (length line) (back ++ rest) ≡ rest = ap (λ m. drop m (back ++ rest)) size ∙ drop-append_seam back rest in
+    let left : drop (length line + n) (back ++ rest) ≡ drop n rest = drop-add (length line) n (back ++ rest) ∙ ap (drop n) seam in
+    let taken : take (length line + n) (back ++ rest) ≡ back ++ take n rest =
+    take-add (length line) n (back ++ rest) ∙ ap₂ (λ a b. a ++ take n b) (ap (λ m. take m (back ++ rest)) size ∙ take-append_seam back rest) seam in
+    let both = length-append back rest in
+    let few = more.few in
+    record {
+      start = ap at_line_start left ∙ more.start;
+      over = ap comment_line_len left ∙ more.over;
+      few = omega arith;
+      lines = more.lines ++ line ∷ [];
+      are_lines = all-join more.lines line more.are_lines is;
+      joins = ap reverse taken ∙ reverse-append back (take n rest) ∙ ap₂ (λ a b. a ++ b) more.joins (reverse-reverse line) ∙ sym (lines-join more.lines line);
+    }
+
+plain-line : (note end : Lexeme) → (is_line_end end.kind && is_comment note.kind) ≡ true → IsCommentLine (note ∷ end ∷ [])
+plain-line note end h =
+    let both = and_parts (is_line_end end.kind) (is_comment note.kind) h in
+    record { blank = []; note = note; end = end; parts = refl; is_blank = refl; is_note = both.1; is_end = both.0 }
+
+indented-line : (x note end : Lexeme) → (is_line_end end.kind && is_comment note.kind) ≡ true → is_blank_kind x.kind ≡ true → IsCommentLine (x ∷ note ∷ end ∷ [])
+indented-line x note end h white =
+    let both = and_parts (is_line_end end.kind) (is_comment note.kind) h in
+    record { blank = x ∷ []; note = note; end = end; parts = refl; is_blank = white; is_note = both.1; is_end = both.0 }
+
+pub notes : (xs : List Lexeme) → at_line_start xs ≡ true → IsNotes (comment_lines_len xs) xs
+notes [] h = no-notes [] h refl
+notes (end ∷ []) h = no-notes (end ∷ []) h refl
+notes (end ∷ note ∷ []) h =
+    cond_both (is_line_end end.kind && is_comment note.kind) _ _ (λ n. IsNotes n (end ∷ note ∷ []))
+    (λ is. line-more 0 (note ∷ end ∷ []) [] (plain-line note end is) (no-notes [] refl refl))
+    (λ other. no-notes (end ∷ note ∷ []) h (cond-false _ _ _ other))
+notes (end ∷ note ∷ x ∷ xs) h =
+    let all = end ∷ note ∷ x ∷ xs in
+    let P : ℕ → Type 0 = λ n. IsNotes n (end ∷ note ∷ x ∷ xs) in
+    cond_both (is_line_end end.kind && is_comment note.kind) _ _ P
+    (λ is. cond_both (is_line_end x.kind) _ _ P
+    (λ ends. line-more (comment_lines_len (x ∷ xs)) (note ∷ end ∷ []) (x ∷ xs) (plain-line note end is) (notes (x ∷ xs) ends))
+    (λ goes_on. cond_both (is_blank_kind x.kind && at_line_start xs) _ _ P
+    (λ white.
+    let both = and_parts (is_blank_kind x.kind) (at_line_start xs) white in
+    line-more (comment_lines_len xs) (x ∷ note ∷ end ∷ []) xs (indented-line x note end is both.0) (notes xs both.1))
+    (λ other. no-notes all h (cond-true _ _ _ is ∙ cond-false _ _ _ goes_on ∙ cond-false _ _ _ other))))
+    (λ other. no-notes all h (cond-false _ _ _ other))

@@ -1,4 +1,4 @@
--- What the splices of a removed and of an appended statement make of a text, those of an assigned value that is replaced, and those of lines that are inserted.
+-- What the splices of a removed and of an appended statement make of a text, those of an assigned value that is replaced, and those of inserted lines.
 use Rattle.std.specs.Prelude.{◌≡◌, ℕ, Bool, true, false, not, List, [], ◌∷◌, ◌++◌, ◌⊎◌, length, reverse, Ok}
 use Rattle.meson_lex.specs.declared.kinds.Kind.{Kind}
 use Rattle.meson_lex.specs.declared.kinds.Kind.TheVariants as k
@@ -10,10 +10,10 @@ use Rattle.meson_splice.specs.declared.splice.Splice.{Splice}
 use Rattle.meson_layout.specs.declared.primitive.Primitive.TheVariants.{Replace, RemoveStatement, Append, Lines}
 use Rattle.meson_layout.specs.declared.primitive.LineSpot.{LineSpot}
 use Rattle.meson_layout.specs.declared.primitive.LineSpot.TheVariants as spot
-use Rattle.std.specs.List.{list_all}
+use Rattle.std.specs.List.{list_all, AllByRecursion}
 use Rattle.meson_lex.specs.Kinds.{IsLineEnd}
 use Rattle.meson_lex.specs.Words.{spoken}
-use Rattle.meson_layout.specs.Looks.{is_line_end, at_most_blank}
+use Rattle.meson_layout.specs.Looks.{is_comment, is_line_end, at_most_blank}
 use Rattle.meson_layout.specs.Statements.{at_line_start}
 use Rattle.meson_layout.specs.Layout.{layout_of, IsSpotOf}
 use Rattle.meson_lex.specs.Words.{IsTight}
@@ -123,14 +123,34 @@ is_in_line xs = list_all (λ (x : Lexeme). not (is_line_end x.kind)) xs
 abbrev pub ends_line : List Lexeme → Bool
 ends_line xs = at_line_start (reverse xs)
 
--- Above a statement: `left` are the items before it, of which `head` are on its own line. The lines between, which are comments, end their line, as `front` does.
+-- a line of a comment, with at most a blank before it, and its line end
+pub record IsCommentLine (xs : List Lexeme) : Type 0 where
+  pub blank : List Lexeme
+  pub note : Lexeme
+  pub end : Lexeme
+  pub parts : xs ≡ blank ++ (note ∷ end ∷ [])
+  pub is_blank : at_most_blank blank ≡ true
+  pub is_note : is_comment note.kind ≡ true
+  pub is_end : is_line_end end.kind ≡ true
+
+-- the items of lines
+abbrev pub items_of_lines : List (List Lexeme) → List Lexeme
+items_of_lines [] = []
+items_of_lines (line ∷ lines) = line ++ items_of_lines lines
+
+-- Above a statement: `left` are the items before it, of which `head` are on its own line. The lines between are comment lines, and the last line of
+-- `front` is none: so the comment lines directly above a statement stay with it.
 pub record IsAbove (front left : List Lexeme) : Type 0 where
   pub notes : List Lexeme
   pub head : List Lexeme
   pub parts : left ≡ front ++ (notes ++ head)
+  pub lines : List (List Lexeme)
+  pub are_lines : AllByRecursion IsCommentLine lines
+  pub notes_are : notes ≡ items_of_lines lines
   pub says_nothing : spoken notes ≡ []
   pub front_ends : ends_line front ≡ true
   pub notes_end : ends_line (front ++ notes) ≡ true
+  pub no_more : (more line : List Lexeme) → front ≡ more ++ line → ends_line more ≡ true → IsCommentLine line → ⊥
   pub in_line : is_in_line head ≡ true
 
 -- Below a statement: `right` are the items after it. Those of `row` are on the line on which it ends, and `end` is the line end of that, unless there is none.
@@ -154,7 +174,7 @@ IsFrontOf items (spot.Below statement) front =
 IsFrontOf items spot.End front = front ≡ items
 
 -- Lines are inserted: all items stay, those of `front` before the lines and those of `back` after them. A line end is put before the lines if `front` does not
--- end its line.
+-- end its line, and only then.
 pub record LinesInserted (source : List ℕ) (items : List Lexeme) (spot : LineSpot) (ss : List Splice) (new : List ℕ) : Type 0 where
   pub front : List Lexeme
   pub back : List Lexeme
@@ -162,6 +182,7 @@ pub record LinesInserted (source : List ℕ) (items : List Lexeme) (spot : LineS
   pub is_front : IsFrontOf items spot front
   pub break : List ℕ
   pub is_break : IsLineEnd break ⊎ ((break ≡ []) × (ends_line front ≡ true))
+  pub only_then : ends_line front ≡ true → break ≡ []
   pub patches : patched_by source ss ≡ Ok (joined front ++ (break ++ (new ++ joined back)))
 
 abbrev pub LinesLaw : Type 0

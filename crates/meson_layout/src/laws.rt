@@ -40,7 +40,8 @@ pub fn appended_statements()
     ensures { AppendLaw }
 {}
 
-/// Lines that are inserted leave all bytes as they are. They are above a statement's line and the comment lines directly above it, below its line, or at the end.
+/// Lines that are inserted leave all bytes as they are. They are above a statement's line and the comment lines directly above it, below its line, or at
+/// the end.
 pub fn inserted_lines()
     ensures { LinesLaw }
 {}
