@@ -6,3 +6,6 @@ mod Lines
 mod Statements
 mod Writing
 mod FileEnds
+mod BlankLines
+mod Placed
+mod Counted
