@@ -7,3 +7,6 @@ mod Statements
 mod Writing
 mod FileEnds
 pub mod CodeTexts
+mod BlankLines
+mod Placed
+mod Counted

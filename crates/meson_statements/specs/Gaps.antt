@@ -1,10 +1,11 @@
 -- The indent of code beside a statement, and the blank lines between them.
-use Rattle.std.specs.Prelude.{ℕ, ◌+◌, ◌-◌, nat_eq, Bool, ◌||◌, List, [], ◌∷◌, Option, Some, None, length, drop, reverse, take, if◌then◌else◌}
-use Rattle.std.specs.List.{list_any, prefix_len, repeat}
+use Rattle.std.specs.Prelude.{◌≡◌, ℕ, ◌+◌, ◌-◌, nat_eq, Bool, false, ◌||◌, ◌⊎◌, List, [], ◌∷◌, ◌++◌, Option, Some, None, length, drop, reverse, take, if◌then◌else◌}
+use Rattle.std.specs.List.{AllByRecursion, list_any, prefix_len, repeat}
 use Rattle.meson_lex.specs.declared.kinds.Kind.{Kind}
 use Rattle.meson_lex.specs.declared.kinds.Kind.TheVariants.{Blank, LineEnd}
 use Rattle.meson_lex.specs.Bytes.{is_blank}
 use Rattle.meson_lex.specs.Items.{Lexeme}
+use Rattle.meson_layout.specs.Looks.{is_white}
 use Rattle.meson_statements.specs.declared.endings.Ending.{Ending}
 use Rattle.meson_statements.specs.declared.endings.Ending.TheVariants as ending
 
@@ -64,3 +65,25 @@ blank_lines (ending.Blanks n) = n
 -- The number of blank lines that end a file: those after its last line with text. A last line that is blanks without a line end is one too.
 abbrev pub blank_lines_at_end : List Lexeme → ℕ
 blank_lines_at_end xs = blank_lines (ending_after (ending.Lines 0) xs)
+
+-- ---- laws
+
+-- a line end, perhaps after a blank
+abbrev pub IsBlankLine : List Lexeme → Type 0
+IsBlankLine [] = ⊥
+IsBlankLine (x ∷ []) = x.kind ≡ LineEnd
+IsBlankLine (x ∷ y ∷ []) = (x.kind ≡ Blank) × (y.kind ≡ LineEnd)
+IsBlankLine (x ∷ y ∷ z ∷ xs) = ⊥
+
+abbrev pub all_of : List (List Lexeme) → List Lexeme
+all_of [] = []
+all_of (row ∷ rows) = row ++ all_of rows
+
+-- The items end with a line that has text, or there are none.
+abbrev pub EndsWithText : List Lexeme → Type 0
+EndsWithText xs = (xs ≡ []) ⊎ ((front : List Lexeme) × (x : Lexeme) × (rest : List Lexeme) × (xs ≡ front ++ x ∷ rest) × (is_white x.kind ≡ false) × IsBlankLine rest)
+
+-- The blank lines that end a file are those after its last line with text.
+abbrev pub BlankLinesCounted : Type 0
+BlankLinesCounted = (xs : List Lexeme) → EndsWithText xs → (rows : List (List Lexeme)) → AllByRecursion IsBlankLine rows
+    → blank_lines_at_end (xs ++ all_of rows) ≡ length rows

@@ -4,4 +4,5 @@ pub mod Indented
 pub mod IndentRows
 pub mod inside
 pub mod Gaps
+pub mod GapRows
 pub mod Places

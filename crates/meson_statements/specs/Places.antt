@@ -1,5 +1,5 @@
 -- Code as it is written at its place in a file.
-use Rattle.std.specs.Prelude.{◌≡◌, ◌≤◌, ℕ, ◌-◌, true, List, [], ◌++◌, Option, Some, None, length, slice_range}
+use Rattle.std.specs.Prelude.{◌≤◌, ℕ, ◌-◌, true, List, [], ◌++◌, Option, Some, None, slice_range}
 use Rattle.std.specs.Str.{IsUtf8}
 use Rattle.meson_lex.specs.declared.kinds.Span.{Span}
 use Rattle.meson_lex.specs.Items.{Lexeme, joined, IsItemList}
@@ -7,8 +7,8 @@ use Rattle.meson_layout.specs.Statements.{line_end_of}
 use Rattle.meson_syntax.specs.Reads.{Spells}
 use Rattle.meson_syntax.specs.Tree.{Plain}
 use Rattle.meson_edit.specs.ExchangedLines.{IsLinesText, file_statements}
-use Rattle.meson_statements.specs.declared.places.Place.{Place}
-use Rattle.meson_statements.specs.declared.places.Place.TheVariants as place
+use Rattle.meson_statements.specs.declared.places.Side.{Side}
+use Rattle.meson_statements.specs.declared.places.Side.TheVariants as side
 use Rattle.meson_statements.specs.Gaps.{blank_lines_at_end, gap_between, indent_at, line_ends, requested}
 use Rattle.meson_statements.specs.Indented.{indented}
 
@@ -17,11 +17,11 @@ abbrev pub IsWithin : Span → ℕ → Type 0
 IsWithin s len = (s.from ≤ s.to) × (s.to ≤ len)
 
 -- the statement beside it is a range of the text
-abbrev pub IsPlace : Place → ℕ → Type 0
-IsPlace (place.Above s) len = IsWithin s len
-IsPlace (place.Below s) len = IsWithin s len
-IsPlace (place.End (Some s)) len = IsWithin s len
-IsPlace (place.End None) len = Unit {0}
+abbrev pub IsBeside : Side → ℕ → Type 0
+IsBeside (side.Above s) len = IsWithin s len
+IsBeside (side.Below s) len = IsWithin s len
+IsBeside (side.End (Some s)) len = IsWithin s len
+IsBeside (side.End None) len = Unit {0}
 
 -- the number of blank lines between the code and a statement
 abbrev pub gap_beside : (source : List ℕ) (blank : Option ℕ) (code : List ℕ) → Span → ℕ
@@ -33,41 +33,41 @@ wanted_at_end source blank code (Some last) = gap_beside source blank code last
 wanted_at_end source blank code None = requested blank
 
 -- The number of blank lines that are written with the code. At the end of a file, which has the items xs, those that end it are there.
-abbrev pub gap_at : (source : List ℕ) (xs : List Lexeme) (blank : Option ℕ) (code : List ℕ) → Place → ℕ
-gap_at source xs blank code (place.Above s) = gap_beside source blank code s
-gap_at source xs blank code (place.Below s) = gap_beside source blank code s
-gap_at source xs blank code (place.End last) = wanted_at_end source blank code last - blank_lines_at_end xs
+abbrev pub gap_at : (source : List ℕ) (xs : List Lexeme) (blank : Option ℕ) (code : List ℕ) → Side → ℕ
+gap_at source xs blank code (side.Above s) = gap_beside source blank code s
+gap_at source xs blank code (side.Below s) = gap_beside source blank code s
+gap_at source xs blank code (side.End last) = wanted_at_end source blank code last - blank_lines_at_end xs
 
 -- the indent of the statement beside it, and none at the end of a file
-abbrev pub place_indent : (source : List ℕ) → Place → List ℕ
-place_indent source (place.Above s) = indent_at source s.from
-place_indent source (place.Below s) = indent_at source s.from
-place_indent source (place.End last) = []
+abbrev pub side_indent : (source : List ℕ) → Side → List ℕ
+side_indent source (side.Above s) = indent_at source s.from
+side_indent source (side.Below s) = indent_at source s.from
+side_indent source (side.End last) = []
 
 -- the line end of the file that has these items
 abbrev pub end_of : List Lexeme → List ℕ
 end_of xs = (line_end_of xs).text
 
 -- lines and blank lines, in their order
-abbrev pub parted : Place → (blank lines : List ℕ) → List ℕ
-parted (place.Above s) blank lines = lines ++ blank
-parted (place.Below s) blank lines = blank ++ lines
-parted (place.End last) blank lines = blank ++ lines
+abbrev pub parted : Side → (blank lines : List ℕ) → List ℕ
+parted (side.Above s) blank lines = lines ++ blank
+parted (side.Below s) blank lines = blank ++ lines
+parted (side.End last) blank lines = blank ++ lines
 
 -- What is inserted: the lines of the code, each with the indent of the place and with the line end of the file, and the blank lines that part them from what is
 -- there. The source has the items xs, and the code has the items ys.
-abbrev pub text_at : (source : List ℕ) (xs : List Lexeme) (blank : Option ℕ) (code : List ℕ) (ys : List Lexeme) → Place → List ℕ
+abbrev pub text_at : (source : List ℕ) (xs : List Lexeme) (blank : Option ℕ) (code : List ℕ) (ys : List Lexeme) → Side → List ℕ
 text_at source xs blank code ys at_ =
-    parted at_ (line_ends (gap_at source xs blank code at_) (end_of xs)) (joined (indented (place_indent source at_) (end_of xs) true ys))
+    parted at_ (line_ends (gap_at source xs blank code at_) (end_of xs)) (joined (indented (side_indent source at_) (end_of xs) true ys))
 
 -- ---- laws
 
 -- What is inserted is whole lines of the code's statements.
 abbrev pub PlacedAreLines : Type 0
 PlacedAreLines = (source : List ℕ) (xs : List Lexeme) → IsItemList source xs → (code : List ℕ) (t : Plain) → Spells code t → (ys : List Lexeme)
-    → IsItemList code ys → (blank : Option ℕ) (at_ : Place) → IsLinesText (text_at source xs blank code ys at_) (file_statements t)
+    → IsItemList code ys → (blank : Option ℕ) (at_ : Side) → IsLinesText (text_at source xs blank code ys at_) (file_statements t)
 
 -- It is UTF-8 if the code is.
 abbrev pub PlacedAreUtf8 : Type 0
 PlacedAreUtf8 = (source : List ℕ) (xs : List Lexeme) → IsItemList source xs → (code : List ℕ) → IsUtf8 code → (ys : List Lexeme)
-    → IsItemList code ys → (blank : Option ℕ) (at_ : Place) → IsUtf8 (text_at source xs blank code ys at_)
+    → IsItemList code ys → (blank : Option ℕ) (at_ : Side) → IsUtf8 (text_at source xs blank code ys at_)

@@ -1,6 +1,7 @@
 //! Code that is given for statements.
 
 ghost use Rattle.std.specs.Prelude.{◌≡◌, IfOk, List, length, true, ℕ};
+ghost use Rattle.std.specs.Str.{IsUtf8};
 ghost use Rattle.meson_lex.specs.Items.{IsItemList, Lexeme};
 ghost use Rattle.meson_lex.specs.Kinds.{IsLineEnd};
 ghost use Rattle.meson_syntax.specs.Reads.{Reads};
@@ -9,7 +10,7 @@ ghost use Rattle.meson_edit.specs.ExchangedLines.{IsLinesText, file_statements};
 ghost use Rattle.meson_statements.specs.Code.{IsStatements};
 ghost use Rattle.meson_statements.specs.CodeTexts.{statement_code};
 ghost use Rattle.meson_statements.specs.Indented.{is_indent};
-ghost use Rattle.meson_statements.specs.Places.{IsPlace, text_at};
+ghost use Rattle.meson_statements.specs.Places.{IsBeside, text_at};
 
 use crate::indenting::indented;
 use crate::places::Surroundings;
@@ -85,19 +86,18 @@ impl StatementCode {
     {
         indented(alloc, self.text.get().as_bytes(), indent, end)
     }
-    /// What is inserted at a place in a file: the lines of the statements, each with the indent of the place and with the line end of the file, and the blank
-    /// lines that part them from what is there. The statement beside them is a range of the file.
+    /// What is inserted beside a statement or at the end of a file: the lines of the code, each with the indent of that statement and with the line end of the
+    /// file, and the blank lines that part them from what is there.
     ///
     /// # Errors
     /// Out of memory.
-    pub fn placed(
-        &self,
-        alloc: Global,
-        around: Surroundings<'_>,
-    ) -> Result<Vec<u8>, AllocError>
-        requires { IsPlace around.place (length around.source.now) }
+    pub fn placed(&self, alloc: Global, around: Surroundings<'_>) -> Result<Vec<u8>, AllocError>
+        requires { IsBeside around.side (length around.source.now) }
         ensures bytes { (xs ys : List Lexeme) → IsItemList around.entry.source.now xs → IsItemList self.now ys
-            → IfOk result (λ v. v.items ≡ text_at around.entry.source.now xs around.entry.blank self.now ys around.entry.place) }
+            → IfOk result (λ v. v.items ≡ text_at around.entry.source.now xs around.entry.blank self.now ys around.entry.side) }
+        ensures lines { (xs : List Lexeme) → IsItemList around.entry.source.now xs → (t : Plain) → Reads self.now t
+            → IfOk result (λ v. IsLinesText v.items (file_statements t)) }
+        ensures utf8 { (xs : List Lexeme) → IsItemList around.entry.source.now xs → IfOk result (λ v. IsUtf8 v.items) }
     {
         around.placed(alloc, self.text.get().as_bytes())
     }

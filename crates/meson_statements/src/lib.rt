@@ -9,4 +9,4 @@ mod places;
 
 pub use code::StatementCode;
 pub use indenting::indented;
-pub use places::{Place, Surroundings};
+pub use places::{Side, Surroundings};

@@ -5,7 +5,7 @@ ghost use Rattle.std.specs.List.{prefix_len};
 ghost use Rattle.meson_lex.specs.Bytes.{is_blank};
 ghost use Rattle.meson_lex.specs.Items.{IsItemList, Lexeme};
 ghost use Rattle.meson_statements.specs.Gaps.{gap_between, has_several_lines, indent_at, last_blanks, line_ends};
-ghost use Rattle.meson_statements.specs.Places.{IsPlace, gap_at, gap_beside, place_indent, text_at, wanted_at_end};
+ghost use Rattle.meson_statements.specs.Places.{IsBeside, gap_at, gap_beside, side_indent, text_at, wanted_at_end};
 
 use crate::endings::{blank_lines_at_end, line_end};
 use crate::indenting::indented;
@@ -14,7 +14,7 @@ use std::alloc::{AllocError, Global};
 
 /// Where code is inserted into a file.
 #[derive(Clone, Copy, Debug)]
-pub enum Place {
+pub enum Side {
     /// Above a statement.
     Above(Span),
     /// Below a statement.
@@ -29,7 +29,7 @@ pub struct Surroundings<'s> {
     /// The bytes of the file.
     pub source: &'s [u8],
     /// Where in the file it is inserted.
-    pub place: Place,
+    pub side: Side,
     /// The number of blank lines between the code and the statement beside it, if that is requested.
     pub blank: Option<usize>,
 }
@@ -46,7 +46,10 @@ fn last_blank_count(text: &[u8]) -> usize
     ensures value { result ≡ prefix_len is_blank (reverse text.now) }
     ensures within { result ≤ length text.now }
 {
-    text.iter().rev().take_while(|byte| is_blank(**byte)).count()
+    text.iter()
+        .rev()
+        .take_while(|byte| is_blank(**byte))
+        .count()
 }
 
 /// The spaces and TABs at the end of a text.
@@ -100,7 +103,7 @@ impl<'s> Surroundings<'s> {
 
     /// The number of blank lines that are wanted between the end of the file and the code.
     fn wanted_at_end(self, last: Option<Span>, code: &[u8]) -> usize
-        requires { IsPlace (Place.End last) (length self.source.now) }
+        requires { IsBeside (Side.End last) (length self.source.now) }
         ensures { result ≡ wanted_at_end self.entry.source.now self.entry.blank code.now last }
     {
         match last {
@@ -111,13 +114,13 @@ impl<'s> Surroundings<'s> {
 
     /// The number of blank lines that are written with the code.
     fn gap(self, code: &[u8]) -> usize
-        requires { IsPlace self.place (length self.source.now) }
-        ensures { (xs : List Lexeme) → IsItemList self.entry.source.now xs → result ≡ gap_at self.entry.source.now xs self.entry.blank code.now self.entry.place }
+        requires { IsBeside self.side (length self.source.now) }
+        ensures { (xs : List Lexeme) → IsItemList self.entry.source.now xs → result ≡ gap_at self.entry.source.now xs self.entry.blank code.now self.entry.side }
     {
-        match self.place {
-            Place::Above(statement) => self.gap_beside(statement, code),
-            Place::Below(statement) => self.gap_beside(statement, code),
-            Place::End(last) => self
+        match self.side {
+            Side::Above(statement) => self.gap_beside(statement, code),
+            Side::Below(statement) => self.gap_beside(statement, code),
+            Side::End(last) => self
                 .wanted_at_end(last, code)
                 .saturating_sub(blank_lines_at_end(self.source)),
         }
@@ -125,13 +128,13 @@ impl<'s> Surroundings<'s> {
 
     /// The indent of the statement beside the code, and none at the end of the file.
     fn indent(self) -> &'s [u8]
-        requires { IsPlace self.place (length self.source.now) }
-        ensures { result.now ≡ place_indent self.entry.source.now self.entry.place }
+        requires { IsBeside self.side (length self.source.now) }
+        ensures { result.now ≡ side_indent self.entry.source.now self.entry.side }
     {
-        match self.place {
-            Place::Above(statement) => indent_at(self.source, statement.from),
-            Place::Below(statement) => indent_at(self.source, statement.from),
-            Place::End(_) => b"",
+        match self.side {
+            Side::Above(statement) => indent_at(self.source, statement.from),
+            Side::Below(statement) => indent_at(self.source, statement.from),
+            Side::End(_) => b"",
         }
     }
 
@@ -140,15 +143,15 @@ impl<'s> Surroundings<'s> {
     /// # Errors
     /// Out of memory.
     pub(crate) fn placed(self, alloc: Global, code: &[u8]) -> Result<Vec<u8>, AllocError>
-        requires { IsPlace self.place (length self.source.now) }
+        requires { IsBeside self.side (length self.source.now) }
         ensures { (xs ys : List Lexeme) → IsItemList self.entry.source.now xs → IsItemList code.now ys
-            → IfOk result (λ v. v.items ≡ text_at self.entry.source.now xs self.entry.blank code.now ys self.entry.place) }
+            → IfOk result (λ v. v.items ≡ text_at self.entry.source.now xs self.entry.blank code.now ys self.entry.side) }
     {
         let end = line_end(self.source);
         let mut blank = line_ends(alloc, self.gap(code), end)?;
         let mut lines = indented(alloc, code, self.indent(), end)?;
-        match self.place {
-            Place::Above(_) => {
+        match self.side {
+            Side::Above(_) => {
                 lines.extend_from_slice(&blank)?;
                 Ok(lines)
             }
