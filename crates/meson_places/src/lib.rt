@@ -16,7 +16,7 @@ mod insertions;
 mod keys;
 mod known;
 pub mod laws;
-mod lines;
+pub mod lines;
 mod list_search;
 mod lone_values;
 pub mod lookup;

@@ -50,11 +50,11 @@ fn find_line(source: &[u8], number: usize) -> (usize, usize)
     }
 }
 
-/// A line of a source: its number, and the first and the last offset on it.
+/// A line of a source: its number, counted from 1, and the first and the last offset on it, in bytes.
 #[derive(Clone, Copy)]
-pub(crate) struct Line<'s> {
-    source: &'s [u8],
-    number: usize,
+pub struct Line<'s> {
+    pub source: &'s [u8],
+    pub number: usize,
     from: usize,
     to: usize,
     ghost is_line: { IsLine source.now number from to },
@@ -62,7 +62,7 @@ pub(crate) struct Line<'s> {
 
 impl<'s> Line<'s> {
     /// The line of a number, counted from 1. The source is read once.
-    pub(crate) fn find(source: &'s [u8], number: usize) -> Self
+    pub fn find(source: &'s [u8], number: usize) -> Self
         ensures source { result.source.now ≡ source.entry.now }
         ensures number { result.number ≡ number }
     {
@@ -75,8 +75,8 @@ impl<'s> Line<'s> {
         }
     }
 
-    /// Whether an offset is on the line.
-    fn has(self, at: usize) -> bool
+    /// Whether an offset, in bytes, is on the line.
+    pub fn has(self, at: usize) -> bool
         ensures { result ≡ (line_of self.entry.source.now at == self.entry.number) }
     {
         self.from <= at && at <= self.to

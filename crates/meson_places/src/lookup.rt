@@ -77,8 +77,8 @@ fn lists_on(
     opened_on(alloc, Line::find(source, line), lists)
 }
 
-/// Whether places of a file are searched.
-pub(crate) fn is_searched(within: Option<usize>, place: &CallRef) -> bool
+/// Whether a place is in the files that are searched: the one file of this number, if there is a number, and all files if there is none.
+pub fn is_searched(within: Option<usize>, place: &CallRef) -> bool
     ensures { result ≡ is_searched within place.now }
 {
     match within {
@@ -125,7 +125,7 @@ fn only_one(places: Vec<CallRef>) -> Result<CallRef, Refusal>
 ///
 /// # Errors
 /// There is no such file.
-fn numbered_file(files: &FileSet, name: &str) -> Result<usize, Refusal>
+pub fn numbered_file(files: &FileSet, name: &str) -> Result<usize, Refusal>
     ensures { result ≡ numbered_file files.now name.now }
 {
     files.find(name).ok_or(Refusal::NoFile)
@@ -146,7 +146,7 @@ fn file_of_folder(alloc: Global, folder: &Text) -> Result<String, AllocError>
 ///
 /// # Errors
 /// The folder has no build file, or out of memory.
-fn searched_file(
+pub fn searched_file(
     alloc: Global,
     files: &FileSet,
     folder: &Option<Text>,
@@ -183,8 +183,11 @@ fn project_there(alloc: Global, name: &PlaceName, notes: &[Note<'_, '_>]) -> Res
     }
 }
 
-/// What an id finds in the files that are searched.
-fn found_by_id(
+/// What an id finds in the files that are searched: the place of a call, or that of the value of an assignment.
+///
+/// # Errors
+/// No place is found, or more than one; a search for the call of `project` where there is no such call; or out of memory.
+pub fn found_by_id(
     alloc: Global,
     sources: Sources<'_>,
     within: Option<usize>,

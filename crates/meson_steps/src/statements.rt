@@ -199,8 +199,8 @@ pub fn stmt_at<'t>(tree: &'t Parsed, path: &Path, n: usize) -> Option<&'t Stmt>
     }
 }
 
-/// The span of a statement.
-fn span_of_stmt(stmt: &Stmt) -> Span
+/// The span of a statement in its source, in bytes.
+pub fn span_of_stmt(stmt: &Stmt) -> Span
     ensures { (source : Source) → result ≡ statement_span (stmt_view source stmt.now) }
 {
     match stmt {

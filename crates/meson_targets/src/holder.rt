@@ -46,8 +46,11 @@ fn held_by<'t>(source: &'t [u8], stmt: &Stmt) -> Option<Held<'t>>
     }
 }
 
-/// The statement whose expression would be at the place.
-fn statement_of(alloc: Global, call: &CallRef) -> Result<Option<StatementPlace>, AllocError>
+/// The statement whose expression would be at the place: that of the block around it, at the number before the last one of the path.
+///
+/// # Errors
+/// Out of memory.
+pub fn statement_of(alloc: Global, call: &CallRef) -> Result<Option<StatementPlace>, AllocError>
     ensures { IfOk result (λ line. option_map place_view line ≡ statement_of call.now) }
 {
     let steps = call.path.steps.get();

@@ -32,7 +32,7 @@ use std::alloc::{AllocError, Global};
 
 /// A statement: the place of its block, and its number there.
 #[derive(Drop)]
-pub(crate) struct StatementPlace {
+pub struct StatementPlace {
     pub block: CallRef,
     pub number: usize,
 }
