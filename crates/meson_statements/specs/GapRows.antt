@@ -100,7 +100,8 @@ pub record PlaceRows : Type 0 where
   pub last_long : text_at (one return_feed) (one_items return_feed) None long long_items (End (Some (span 0 1)))
       ≡ return_feed ++ codes "f(" ++ return_feed ++ codes ")" ++ return_feed
   -- the indent of the statement, and none at the end of the file
-  pub below_inner : text_at (inner feed) (inner_items feed) None long long_items (Below (span 3 4)) ≡ feed ++ tab ++ codes "f(" ++ feed ++ tab ++ codes ")" ++ feed
+  pub below_inner : text_at (inner feed) (inner_items feed) None long long_items (Below (span 3 4))
+      ≡ feed ++ tab ++ codes "f(" ++ feed ++ tab ++ codes ")" ++ feed
   pub above_inner : text_at (inner feed) (inner_items feed) None short short_items (Above (span 3 4)) ≡ tab ++ codes "x" ++ feed
   pub last_inner : text_at (inner feed) (inner_items feed) None short short_items (End (Some (span 0 1))) ≡ codes "x" ++ feed
   -- a file that ends in a blank line gets no more
@@ -113,4 +114,5 @@ pub record PlaceRows : Type 0 where
       ≡ tab ++ codes "f(" ++ return_feed ++ tab ++ codes ")" ++ return_feed
   -- a file without statements
   pub first : text_at [] [] None long long_items (End None) ≡ codes "f(" ++ feed ++ codes ")" ++ feed
-  pub first_parted : text_at (codes "# c" ++ feed) (lexeme Comment (codes "# c") ∷ line feed ∷ []) (Some 1) short short_items (End None) ≡ feed ++ codes "x" ++ feed
+  pub first_parted : text_at (codes "# c" ++ feed) (lexeme Comment (codes "# c") ∷ line feed ∷ []) (Some 1) short short_items (End None)
+      ≡ feed ++ codes "x" ++ feed

@@ -1,5 +1,6 @@
 -- The indent of code beside a statement, and the blank lines between them.
-use Rattle.std.specs.Prelude.{◌≡◌, ℕ, ◌+◌, ◌-◌, nat_eq, Bool, false, ◌||◌, ◌⊎◌, List, [], ◌∷◌, ◌++◌, Option, Some, None, length, drop, reverse, take, if◌then◌else◌}
+use Rattle.std.specs.Prelude.{◌≡◌, ℕ, ◌+◌, ◌-◌, nat_eq, Bool, false, ◌||◌, ◌⊎◌, List, [], ◌∷◌, ◌++◌, Option, Some, None, length}
+use Rattle.std.specs.Prelude.{drop, reverse, take, if◌then◌else◌}
 use Rattle.std.specs.List.{AllByRecursion, list_any, prefix_len, repeat}
 use Rattle.meson_lex.specs.declared.kinds.Kind.{Kind}
 use Rattle.meson_lex.specs.declared.kinds.Kind.TheVariants.{Blank, LineEnd}
@@ -25,8 +26,8 @@ indent_at source from = last_blanks (take from source)
 abbrev pub has_several_lines : List ℕ → Bool
 has_several_lines text = list_any (λ b. nat_eq b 10) text
 
--- The number of blank lines between a statement and the code beside it: the number requested. Without a request it is one if either has more than one line, else
--- none.
+-- The number of blank lines between a statement and the code beside it: the number requested. Without a request it is one if either has more than one line,
+-- else none.
 abbrev pub gap_between : (blank : Option ℕ) (statement code : List ℕ) → ℕ
 gap_between (Some n) statement code = n
 gap_between None statement code = if has_several_lines statement || has_several_lines code then 1 else 0
@@ -81,7 +82,8 @@ all_of (row ∷ rows) = row ++ all_of rows
 
 -- The items end with a line that has text, or there are none.
 abbrev pub EndsWithText : List Lexeme → Type 0
-EndsWithText xs = (xs ≡ []) ⊎ ((front : List Lexeme) × (x : Lexeme) × (rest : List Lexeme) × (xs ≡ front ++ x ∷ rest) × (is_white x.kind ≡ false) × IsBlankLine rest)
+EndsWithText xs = (xs ≡ [])
+    ⊎ ((front : List Lexeme) × (x : Lexeme) × (rest : List Lexeme) × (xs ≡ front ++ x ∷ rest) × (is_white x.kind ≡ false) × IsBlankLine rest)
 
 -- The blank lines that end a file are those after its last line with text.
 abbrev pub BlankLinesCounted : Type 0

@@ -23,7 +23,7 @@ pub enum Side {
     End(Option<Span>),
 }
 
-/// What is around code that is inserted into a file.
+/// The file around code that is inserted into it.
 #[derive(Clone, Copy)]
 pub struct Surroundings<'s> {
     /// The bytes of the file.
@@ -115,7 +115,8 @@ impl<'s> Surroundings<'s> {
     /// The number of blank lines that are written with the code.
     fn gap(self, code: &[u8]) -> usize
         requires { IsBeside self.side (length self.source.now) }
-        ensures { (xs : List Lexeme) → IsItemList self.entry.source.now xs → result ≡ gap_at self.entry.source.now xs self.entry.blank code.now self.entry.side }
+        ensures { (xs : List Lexeme) → IsItemList self.entry.source.now xs
+            → result ≡ gap_at self.entry.source.now xs self.entry.blank code.now self.entry.side }
     {
         match self.side {
             Side::Above(statement) => self.gap_beside(statement, code),
@@ -138,7 +139,8 @@ impl<'s> Surroundings<'s> {
         }
     }
 
-    /// What is inserted for code: its lines, each with the indent of the place and the line end of the file, and the blank lines that part them from what is there.
+    /// What is inserted for code: its lines, each with the indent of the statement beside it and the line end of the file, and the blank lines that part them
+    /// from what is there.
     ///
     /// # Errors
     /// Out of memory.
