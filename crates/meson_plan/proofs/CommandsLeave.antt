@@ -38,8 +38,13 @@ use Rattle.meson_steps.proofs.WentWell.{then_was}
 use Rattle.meson_targets.specs.TargetEdits.{target_added, target_removed}
 use Rattle.meson_targets.proofs.AddedTargets.{added-targets-are-named}
 use Rattle.meson_targets.proofs.RemovedTargets.{removed-targets-are-gone}
-use Rattle.meson_plan.specs.Effects.{CommandsLeave, ExtrasCome, ExtrasGo, LeavesOf, SourcesCome, SourcesComeAmong, SourcesGo, SourcesRenamed, TargetComes, TargetGoes}
+use Rattle.meson_plan.specs.Effects.{CodeComes, CommandsLeave, ExtrasCome, ExtrasGo, LeavesOf, SourcesCome, SourcesComeAmong, SourcesGo, SourcesRenamed, TargetComes, TargetGoes}
 use Rattle.meson_places.specs.Effects.{ValueLeft}
+use Rattle.meson_places.proofs.Refused.{ok_then}
+use Rattle.meson_places.proofs.SetValues.{one_step}
+use Rattle.meson_code.specs.declared.insertion.FileLines.{FileLines}
+use Rattle.meson_code.specs.Insertion.{code_statements, code_steps, has_room, inserted_if_room, insertion_step, lines_at}
+use Rattle.meson_steps.specs.declared.command.CodePlace.{CodePlace}
 use Rattle.meson_places.proofs.ValuesLeft.{values_left}
 use Rattle.meson_plan.specs.Performing.{Performs}
 use Rattle.meson_plan.specs.Planning.{Means}
@@ -132,6 +137,20 @@ module _ (old new : Loaded) (c : Command) (done : Done) (is : IsProject old) (p 
   value_left : (name : ValueName) (change : ValueChange) → Means old (command.Argument name change) (Ok p.made.steps) → ValueLeft old name change (plain_trees old) (plain_trees new)
   value_left name change means = values_left old is name change means.0 p.made.steps (plain_trees new) means.1 stepped
 
+  code_comes : (place : CodePlace) (code : List ℕ) (blank : Option ℕ) → code_steps old place code blank ≡ Ok p.made.steps → CodeComes old place code new
+  code_comes place code blank made =
+      let o = ok_then (lines_at old place) (inserted_if_room old code blank) p.made.steps made in
+      record {
+        lines = o.0;
+        are_lines = o.1;
+        trees = one_step (insertion_step old o.0 code blank) (plain_trees old) (plain_trees new)
+            (ap (λ steps. all_stepped steps (plain_trees old)) (roomy o.0 (has_room o.0 (code_statements code)) refl o.2) ∙ stepped);
+      }
+    where
+      roomy : (lines : FileLines) (b : Bool) → has_room lines (code_statements code) ≡ b → inserted_if_room old code blank lines ≡ Ok p.made.steps → insertion_step old lines code blank ∷ [] ≡ p.made.steps
+      roomy lines true is done = cc
+      roomy lines false is done = absurd (let no : ⊥ = cc in no)
+
 pub commands-leave : CommandsLeave
 commands-leave old new (command.SourcesAdd id names) done is p = sources_come old new (command.SourcesAdd id names) done is p id names p.made.are_planned
 commands-leave old new (command.SourcesAddSorted id names) done is p = sources_come_among old new (command.SourcesAddSorted id names) done is p id names p.made.are_planned
@@ -147,5 +166,6 @@ commands-leave old new (command.KwargsRemove r id pairs) done is p = leaves old 
 commands-leave old new (command.KwargsDelete r id keys) done is p = leaves old new (command.KwargsDelete r id keys) done is p r id (to_delete keys) p.made.are_planned
 commands-leave old new (command.OptionsSet pairs) done is p = leaves old new (command.OptionsSet pairs) done is p _ _ (to_set_options pairs) p.made.are_planned
 commands-leave old new (command.OptionsDelete names) done is p = leaves old new (command.OptionsDelete names) done is p _ _ (to_delete_options names) p.made.are_planned
+commands-leave old new (command.CodeInsert place code blank) done is p = code_comes old new (command.CodeInsert place code blank) done is p place code blank p.made.are_planned
 commands-leave old new (command.Argument name change) done is p = value_left old new (command.Argument name change) done is p name change p.made.are_planned
 commands-leave old new _ done is p = tt

@@ -6,6 +6,7 @@ use Rattle.meson_steps.specs.Done.{Meaning}
 use Rattle.meson_steps.specs.declared.command.Command.{Command}
 use Rattle.meson_steps.specs.declared.command.Command.TheVariants as command
 use Rattle.meson_places.proofs.OneMeaning.{arguments_one, arguments_same, value_places_same}
+use Rattle.meson_code.proofs.OneMeaning.{code_steps_same}
 use Rattle.meson_sources.specs.Targeted.{sorted_steps}
 use Rattle.meson_plan.specs.Planning.{Means, planned}
 
@@ -52,5 +53,5 @@ module _ (l k : Loaded) (same_files : l.files ≡ k.files) (same_trees : trees l
   means-same (command.OptionsSet pairs) m is = same-plan (command.OptionsSet pairs) m is
   means-same (command.OptionsDelete names) m is = same-plan (command.OptionsDelete names) m is
   means-same (command.ArgumentInfo name) m is = sym (ap (λ r. then_ok r (λ c. Ok [])) (value_places_same l k same_files same_trees name)) ∙ is
-  means-same (command.CodeInsert place code blank) m is = same-plan (command.CodeInsert place code blank) m is
+  means-same (command.CodeInsert place code blank) m is = sym (code_steps_same l k same_files same_trees place code blank) ∙ is
   means-same (command.Argument name change) m is = (is.0, sym (arguments_same l k same_files same_trees name change is.0) ∙ is.1)

@@ -1,10 +1,11 @@
 -- What is there after a command: the arguments of the call that it changes, the lists that get or lose sources or extra files, the sources that get another name,
 -- the calls that a name names, and the value that is changed.
 -- Meson manual, Rewriter.
-use Rattle.std.specs.Prelude.{◌≡◌, ℕ, true, List, ◌∷◌, All, codes, Ok}
+use Rattle.std.specs.Prelude.{◌≡◌, ℕ, true, List, ◌∷◌, All, codes, Some, Ok}
 use Rattle.std.specs.List.{AllByRecursion}
 use Rattle.std.specs.Str.{IsUtf8}
 use Rattle.meson_lex.specs.declared.kinds.Span.{Span}
+use Rattle.meson_edit.specs.Edits.{with_lines}
 use Rattle.meson_calls.specs.declared.call.CallRef.{CallRef}
 use Rattle.meson_calls.specs.declared.call.Role.{Role}
 use Rattle.meson_calls.specs.declared.call.Role.TheVariants as role
@@ -15,6 +16,7 @@ use Rattle.meson_calls.specs.Project.{Placed}
 use Rattle.meson_variables.specs.TargetSources.{home, source_marks}
 use Rattle.meson_keywords.specs.Effects.{AreAskedTexts, CallLeft}
 use Rattle.meson_keywords.specs.Tasking.{Asked, to_set, to_add, to_remove, to_delete, to_set_options, to_delete_options}
+use Rattle.meson_steps.specs.declared.command.CodePlace.{CodePlace}
 use Rattle.meson_steps.specs.declared.command.Command.{Command}
 use Rattle.meson_steps.specs.declared.command.Command.TheVariants as command
 use Rattle.meson_steps.specs.declared.command.Done.{Done}
@@ -27,8 +29,11 @@ use Rattle.meson_sources.specs.WholeExtras.{ExtrasGrow, ExtrasShrink}
 use Rattle.meson_sources.specs.WholeSources.{SourcesGrow, SourcesShrink}
 use Rattle.meson_steps.specs.Names.{distinct}
 use Rattle.meson_steps.specs.ResultLimits.{plain_trees}
+use Rattle.meson_steps.specs.Steps.{changed_at}
 use Rattle.meson_targets.specs.Effects.{NamesTarget, TargetRemoved, call_with_texts}
 use Rattle.meson_targets.specs.TargetEdits.{number_in}
+use Rattle.meson_code.specs.declared.insertion.FileLines.{FileLines}
+use Rattle.meson_code.specs.Insertion.{code_statements, lines_at, tree_place}
 use Rattle.meson_plan.specs.Performing.{Performs}
 use Rattle.meson_calls.specs.declared.call.CallName.{CallName}
 use Rattle.meson_calls.specs.Searching.{anywhere}
@@ -97,6 +102,13 @@ pub record TargetComes (old : Loaded) (name kind folder : List ℕ) (sources : L
   pub is_file : number_in (project old) folder ≡ Ok file
   pub named : NamesTarget (named_trees old.files (plain_trees new)) name (call_with_texts kind (name ∷ distinct sources)) file
 
+-- The block that is found, or that of the file, has the statements of the code in their place, in their order. All else of the trees is as it was.
+pub record CodeComes (old : Loaded) (place : CodePlace) (code : List ℕ) (new : Loaded) : Type 0 where
+  pub lines : FileLines
+  pub are_lines : lines_at old place ≡ Ok lines
+  pub trees : changed_at lines.block.file (with_lines (tree_place lines.block.path.steps lines.side) (code_statements code)) (plain_trees old)
+      ≡ Some (plain_trees new)
+
 abbrev pub HasEffect : Loaded → Command → Loaded → Type 0
 HasEffect old (command.SourcesAdd target names) new = SourcesCome old target names new
 HasEffect old (command.SourcesAddSorted target names) new = SourcesComeAmong old target names new
@@ -113,6 +125,7 @@ HasEffect old (command.KwargsDelete r name keys) new = LeavesOf old r name (to_d
 HasEffect old (command.OptionsSet pairs) new = LeavesOf old role.Project (anywhere (codes "/")) (to_set_options pairs) new
 HasEffect old (command.OptionsDelete names) new = LeavesOf old role.Project (anywhere (codes "/")) (to_delete_options names) new
 HasEffect old (command.Argument name change) new = ValueLeft old name change (plain_trees old) (plain_trees new)
+HasEffect old (command.CodeInsert place code blank) new = CodeComes old place code new
 HasEffect old _ new = Unit {0}
 
 -- the law: what a command that is performed leaves of the call that it changes

@@ -19,6 +19,7 @@ use Rattle.meson_keywords.specs.Tasks.{each_made, set_entry, delete_entry, add_e
 use Rattle.meson_keywords.specs.TaskSteps.{call_changed}
 use Rattle.meson_places.specs.Arguments.{MayBeMade, argument_steps}
 use Rattle.meson_places.specs.NamedValues.{value_place}
+use Rattle.meson_code.specs.Insertion.{code_steps}
 use Rattle.meson_steps.specs.Done.{Meaning}
 use Rattle.meson_steps.specs.Steps.{Step}
 use Rattle.meson_calls.specs.Searching.{anywhere}
@@ -60,5 +61,6 @@ planned p (command.ArgumentInfo name) = Ok []
 abbrev pub Means : Loaded → Command → Meaning → Type 0
 Means l (command.SourcesAddSorted target sources) meant = sorted_steps l.files (project l) target sources ≡ meant
 Means l (command.Argument name change) meant = (may : MayBeMade change) × (argument_steps l name change may ≡ meant)
+Means l (command.CodeInsert place code blank) meant = code_steps l place code blank ≡ meant
 Means l (command.ArgumentInfo name) meant = then_ok (value_place l name) (λ c. Ok []) ≡ meant
 Means l c meant = planned (project l) c ≡ meant

@@ -12,6 +12,7 @@ ghost use Rattle.meson_plan.specs.inside.Orders.{IsOrder, plan_steps, sought};
 ghost use Rattle.meson_sources.specs.Targeted.{renamed_steps, sorted_steps, target_steps};
 
 use meson_calls::{BorrowedName, CallName, Role};
+use meson_code::Insertion;
 use meson_keywords::request::{AskedWords, Request};
 use meson_sources::renaming::Renaming;
 use meson_sources::targeting::TargetChange;
@@ -36,8 +37,6 @@ pub(crate) enum Plan<'c> {
     AddTarget(NewTarget<'c>),
     /// A target is removed, with its statement.
     RemoveTarget(BorrowedName<'c>),
-    /// Nothing is done.
-    Nothing,
 }
 
 impl<'c> Plan<'c> {
@@ -51,7 +50,6 @@ impl<'c> Plan<'c> {
             Plan::RenameSources(target, _) => (Role::Target, target.id),
             Plan::AddTarget(new) => (Role::Target, new.name.get()),
             Plan::RemoveTarget(target) => (Role::Target, target.id),
-            Plan::Nothing => (Role::Project, "/"),
         }
     }
 }
@@ -63,6 +61,8 @@ pub(crate) enum Order<'c> {
     Changed(Request<'c>),
     /// A value is changed.
     OnValue(&'c ValueName, &'c ValueChange),
+    /// Code is inserted.
+    InsertCode(Insertion<'c>),
 }
 
 /// A change of a target.
@@ -167,6 +167,10 @@ pub(crate) fn order_of(command: &Command) -> Order<'_>
             Order::Changed(on_project(AskedWords::DeleteOptions(names.get())))
         }
         Command::Argument { name, change } => Order::OnValue(name, change),
-        Command::CodeInsert { .. } => Order::Planned(Plan::Nothing),
+        Command::CodeInsert { place, code, blank } => Order::InsertCode(Insertion {
+            place,
+            code,
+            blank: *blank,
+        }),
     }
 }

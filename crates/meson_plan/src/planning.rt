@@ -17,6 +17,7 @@ use meson_calls::Refusal;
 use meson_calls::kept::Kept;
 use meson_calls::noted::Noted;
 use meson_calls::notes::notes_for;
+use meson_code::insertion_steps;
 use meson_keywords::changing::changed;
 use meson_places::Sources;
 use meson_places::arguments::argument_steps;
@@ -98,7 +99,6 @@ fn steps_of(alloc: Global, noted: &Noted<'_>, plan: Plan<'_>) -> Result<Vec<List
         Plan::RenameSources(target, names) => on_sources(alloc, noted, target, names),
         Plan::AddTarget(new) => target_added(alloc, noted, new),
         Plan::RemoveTarget(target) => target_removed(alloc, noted, target),
-        Plan::Nothing => Ok(Vec::new(alloc)),
     }
 }
 
@@ -132,6 +132,14 @@ pub(crate) fn performed(
                 trees: work.trees.as_slice(),
             };
             let steps = argument_steps(alloc, sources, name, change)?;
+            done(alloc, work, steps)
+        }
+        Order::InsertCode(insertion) => {
+            let sources = Sources {
+                files: &work.files,
+                trees: work.trees.as_slice(),
+            };
+            let steps = insertion_steps(alloc, sources, insertion)?;
             done(alloc, work, steps)
         }
     }

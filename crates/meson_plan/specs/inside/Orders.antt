@@ -1,5 +1,5 @@
 -- What an order means: its steps, or why it is refused.
-use Rattle.std.specs.Prelude.{◌≡◌, ℕ, List, [], codes, Ok}
+use Rattle.std.specs.Prelude.{◌≡◌, ℕ, List}
 use Rattle.meson_calls.specs.declared.call.Role.{Role}
 use Rattle.meson_calls.specs.declared.call.Role.TheVariants as role
 use Rattle.meson_calls.specs.Loading.{Loaded, project}
@@ -25,7 +25,6 @@ sought (plan.SortSources target names) = (role.Target, target.id.now)
 sought (plan.RenameSources target names) = (role.Target, target.id.now)
 sought (plan.AddTarget new) = (role.Target, new.name.now)
 sought (plan.RemoveTarget target) = (role.Target, target.id.now)
-sought plan.Nothing = (role.Project, codes "/")
 
 abbrev pub plan_steps : Loaded → Plan → Meaning
 plan_steps l (plan.OnTarget target change names) = target_steps (project l) (name_at target) change names.now
@@ -33,13 +32,13 @@ plan_steps l (plan.SortSources target names) = sorted_steps l.files (project l) 
 plan_steps l (plan.RenameSources target names) = renamed_steps (project l) (name_at target) names.old.now names.new.now
 plan_steps l (plan.AddTarget new) = new_target (project l) new
 plan_steps l (plan.RemoveTarget target) = named_removed (project l) (name_at target)
-plan_steps l plan.Nothing = Ok []
 
--- an order of a command: its steps are those that the command means, or it is the change of a value that the command is
+-- an order of a command: its steps are those that the command means, or it is the change of a value or the code that the command is
 abbrev pub IsOrder : Command → Order → Type 0
 IsOrder c (order.Planned q) = (l : Loaded) → Means l c (plan_steps l q)
 IsOrder c (order.Changed r) = (l : Loaded) → Means l c (request_steps (project l) (request_view r))
 IsOrder c (order.OnValue name change) = c ≡ command.Argument name.now change.now
+IsOrder c (order.InsertCode i) = c ≡ command.CodeInsert i.place.now i.code.now i.blank
 
 -- what a command means, as it is done or refused
 abbrev pub Ends : Loaded → Command → (Meaning → Type 0) → Type 0

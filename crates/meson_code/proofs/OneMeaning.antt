@@ -1,0 +1,45 @@
+-- What inserting code means depends on the files and trees of a project alone.
+use Rattle.std.proofs.Common.{◌≡◌, List, [], ◌∷◌, Option, Ok, Err, refl, sym, ap, ap₂, ◌∙◌}
+use Rattle.std.specs.Prelude.{ℕ, if◌then◌else◌, option_and_then, ok_or, Result}
+use Rattle.meson_lex.specs.declared.kinds.Span.{Span}
+use Rattle.meson_splice.specs.declared.file_set.File as files
+use Rattle.meson_splice.specs.Files.{bytes_at}
+use Rattle.meson_splice.specs.Patch.{then_ok}
+use Rattle.meson_syntax.specs.Tree.{File}
+use Rattle.meson_edit.specs.Edits.{Lines}
+use Rattle.meson_calls.specs.declared.refusal.Refusal.{Refusal}
+use Rattle.meson_calls.specs.declared.refusal.Refusal.TheVariants.{TooDeep}
+use Rattle.meson_calls.specs.Loading.{Loaded, named_trees, project, trees}
+use Rattle.meson_calls.specs.Project.{BuildFile, nth_file}
+use Rattle.meson_steps.specs.declared.command.CodePlace.{CodePlace}
+use Rattle.meson_steps.specs.declared.command.CodePlace.TheVariants as code_place
+use Rattle.meson_steps.specs.Steps.{Step}
+use Rattle.meson_places.specs.Names.{numbered_file}
+use Rattle.meson_code.specs.declared.insertion.FileLines.{FileLines}
+use Rattle.meson_code.specs.Insertion.{above_statement, below_statement, end_of_file, lines_at, tree_place, code_statements, has_room, side_in, text_on, inserted_if_room, code_steps}
+use Rattle.meson_code.proofs.AnchorsThere.{anchors_same}
+
+module _ (p q : Loaded) (same_files : p.files ≡ q.files) (same_trees : trees p ≡ trees q) where
+  alike : {X : Type 0} (f : List files.File → List (File Span) → X) → f p.files (trees p) ≡ f q.files (trees q)
+  alike f = ap₂ f same_files same_trees
+
+  lines_same : (c : CodePlace) → lines_at p c ≡ lines_at q c
+  lines_same (code_place.Above s) = ap (λ r. then_ok r (λ a. Ok (above_statement a))) (anchors_same p q same_files same_trees s)
+  lines_same (code_place.Below s) = ap (λ r. then_ok r (λ a. Ok (below_statement a))) (anchors_same p q same_files same_trees s)
+  lines_same (code_place.End file) = ap (λ fs. then_ok (numbered_file fs file) (λ n. Ok (end_of_file n))) same_files
+
+  if_room_same : (code : List ℕ) (blank : Option ℕ) (lines : FileLines) → inserted_if_room p code blank lines ≡ inserted_if_room q code blank lines
+  if_room_same code blank lines = alike (λ fs ts. if has_room lines (code_statements code) then Ok (record {
+    file = lines.block.file;
+    edit = Lines (tree_place lines.block.path.steps lines.side) (record {
+      bytes = text_on (bytes_at lines.block.file fs) blank code (option_and_then (λ (f : BuildFile Span). side_in f.tree lines.block.path.steps lines.side) (nth_file (named_trees fs ts) lines.block.file));
+      node = code_statements code;
+    });
+  } ∷ []) else Err TooDeep)
+
+  then_alike : {X : Type 0} (r : Result X Refusal) (f g : X → Result (List Step) Refusal) → ((x : X) → f x ≡ g x) → then_ok r f ≡ then_ok r g
+  then_alike (Ok x) f g same = same x
+  then_alike (Err e) f g same = refl
+
+  pub code_steps_same : (c : CodePlace) (code : List ℕ) (blank : Option ℕ) → code_steps p c code blank ≡ code_steps q c code blank
+  code_steps_same c code blank = ap (λ r. then_ok r (inserted_if_room p code blank)) (lines_same c) ∙ then_alike (lines_at q c) _ _ (λ lines. if_room_same code blank lines)
