@@ -1,17 +1,19 @@
 -- What a command orders is what it means: its steps are planned and done, its call is changed, or its value.
 use Rattle.std.proofs.Common.{◌≡◌, List, refl, sym, subst}
-use Rattle.std.specs.Prelude.{Err}
+use Rattle.std.specs.Prelude.{Err, Option, ℕ}
 use Rattle.std.proofs.lemmas.Result.{IfErr-weaker, err_from_is_err_and, on_ok_weaker}
 use Rattle.meson_splice.specs.declared.file_set.File.{File}
 use Rattle.meson_syntax.specs.declared.tree.Parsed.{Parsed}
 use Rattle.meson_calls.specs.Loading.{IsProject, Loaded, project}
 use Rattle.meson_calls.specs.Setters.{AreKept}
 use Rattle.meson_places.specs.Arguments.{MayBeMade, argument_steps}
+use Rattle.meson_code.specs.Insertion.{code_steps}
 use Rattle.meson_keywords.specs.Changing.{request_steps}
 use Rattle.meson_keywords.specs.Tasking.{request_view}
 use Rattle.meson_steps.specs.Done.{unmeant}
 use Rattle.meson_steps.specs.declared.argument.ValueChange.{ValueChange}
 use Rattle.meson_steps.specs.declared.argument.ValueName.{ValueName}
+use Rattle.meson_steps.specs.declared.command.CodePlace.{CodePlace}
 use Rattle.meson_steps.specs.declared.command.Command.{Command}
 use Rattle.meson_steps.specs.declared.command.Command.TheVariants as command
 use Rattle.meson_steps.specs.declared.step.ListStep.{ListStep}
@@ -129,3 +131,47 @@ returns-in_err-steps-in-OnValue-clause-refused c =
     let e = c.in_err-steps-in-OnValue.field-0.0 in
     let why = subst (λ ts. argument_steps (of ts) n ch may ≡ Err e) c.as_slice-in-OnValue.ensures.value (c.in_err-steps-in-OnValue.ensures.refused may other) in
     (argument_steps old n ch may, value_means old c.args.command.now n ch c.in-OnValue.ensures may, unmeant e why))
+
+-- ---- code is inserted
+
+-- the step that inserts it, of the trees that are read in another place
+inserted_there : (files : List File) (here there : List Parsed) → here ≡ there → (p : CodePlace) (code : List ℕ) (blank : Option ℕ) (steps : List ListStep)
+    → ArePlanned (record { files = files; parsed = here }) (code_steps (record { files = files; parsed = here }) p code blank) steps
+    → ArePlanned (record { files = files; parsed = there }) (code_steps (record { files = files; parsed = there }) p code blank) steps
+inserted_there files here there same p code blank steps are = let of : List Parsed → Loaded = λ ts. record { files = files; parsed = ts } in subst (λ ts. ArePlanned (of ts) (code_steps (of ts) p code blank) steps) same are
+
+code_means : (l : Loaded) (c : Command) (p : CodePlace) (code : List ℕ) (blank : Option ℕ) → c ≡ command.CodeInsert p code blank → Means l c (code_steps l p code blank)
+code_means l c p code blank is = subst (λ k. Means l k (code_steps l p code blank)) (sym is) refl
+
+pub done-requires-in-InsertCode-clause-planned : goal.done-requires-in-InsertCode-clause-planned
+done-requires-in-InsertCode-clause-planned c =
+    let w = c.args.work.now in
+    let i = c.in-InsertCode.insertion in
+    (code_steps (so_far w) i.place.now i.code.now i.blank, inserted_there w.files c.as_slice-in-InsertCode.result.now w.trees.items c.as_slice-in-InsertCode.ensures.value i.place.now i.code.now i.blank c.in_ok-steps-in-InsertCode.steps.items c.in_ok-steps-in-InsertCode.ensures.plan)
+
+pub returns-in_ok-steps-in-InsertCode-clause-done : goal.returns-in_ok-steps-in-InsertCode-clause-done
+returns-in_ok-steps-in-InsertCode-clause-done c =
+    let w = c.args.work.now in
+    let i = c.in-InsertCode.insertion in
+    let meant = code_steps (so_far w) i.place.now i.code.now i.blank in
+    on_ok_weaker c.done-in-InsertCode.result (λ out. (meant, code_means (so_far w) c.args.command.now i.place.now i.code.now i.blank c.in-InsertCode.ensures, out))
+    (c.done-in-InsertCode.ensures.done meant (inserted_there w.files c.as_slice-in-InsertCode.result.now w.trees.items c.as_slice-in-InsertCode.ensures.value i.place.now i.code.now i.blank c.in_ok-steps-in-InsertCode.steps.items c.in_ok-steps-in-InsertCode.ensures.plan))
+
+pub returns-in_ok-steps-in-InsertCode-clause-refused : goal.returns-in_ok-steps-in-InsertCode-clause-refused
+returns-in_ok-steps-in-InsertCode-clause-refused c =
+    let w = c.args.work.now in
+    let i = c.in-InsertCode.insertion in
+    let meant = code_steps (so_far w) i.place.now i.code.now i.blank in
+    IfErr-weaker c.done-in-InsertCode.result _ _ (λ e why other. (meant, code_means (so_far w) c.args.command.now i.place.now i.code.now i.blank c.in-InsertCode.ensures, why other))
+    (c.done-in-InsertCode.ensures.refused meant (inserted_there w.files c.as_slice-in-InsertCode.result.now w.trees.items c.as_slice-in-InsertCode.ensures.value i.place.now i.code.now i.blank c.in_ok-steps-in-InsertCode.steps.items c.in_ok-steps-in-InsertCode.ensures.plan))
+
+pub returns-in_err-steps-in-InsertCode-clause-refused : goal.returns-in_err-steps-in-InsertCode-clause-refused
+returns-in_err-steps-in-InsertCode-clause-refused c =
+    let error = err_from_is_err_and c.from_residual-in_err-steps-in-InsertCode.result c.from_residual-in_err-steps-in-InsertCode.ensures.1 in
+    rw (error.1, error.2) (λ other.
+    let old = so_far c.args.work.now in
+    let i = c.in-InsertCode.insertion in
+    let of : _ → Loaded = λ ts. record { files = c.args.work.now.files; parsed = ts } in
+    let e = c.in_err-steps-in-InsertCode.field-0.0 in
+    let why = subst (λ ts. code_steps (of ts) i.place.now i.code.now i.blank ≡ Err e) c.as_slice-in-InsertCode.ensures.value (c.in_err-steps-in-InsertCode.ensures.refused other) in
+    (code_steps old i.place.now i.code.now i.blank, code_means old c.args.command.now i.place.now i.code.now i.blank c.in-InsertCode.ensures, unmeant e why))
