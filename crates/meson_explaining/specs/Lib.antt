@@ -5,6 +5,7 @@ pub mod Stated
 pub mod ArgumentPlaces
 pub mod ArgumentValues
 pub mod Arguments
+pub mod Insertions
 pub mod Explaining
 pub mod Lines
 pub mod Keys

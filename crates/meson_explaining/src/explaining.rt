@@ -235,6 +235,7 @@ pub fn explain(
     match command {
         Command::Argument { name, .. } => explain_value(alloc, project, name, refusal),
         Command::ArgumentInfo { name } => explain_value(alloc, project, name, refusal),
+        Command::CodeInsert { place, .. } => explain_insertion(alloc, project, place, refusal),
         _ => explain_call(alloc, project, command, refusal),
     }
 }

@@ -10,6 +10,7 @@ mod distance;
 mod excerpts;
 mod explaining;
 mod explanation;
+mod insertions;
 mod keys;
 pub mod laws;
 mod lines;
