@@ -11,6 +11,7 @@ ghost use Rattle.meson_explaining.specs.NotFound.{not_found};
 use crate::arguments::explain_value;
 use crate::calls::{Telling, add_few};
 use crate::explanation::{Explanation, Note};
+use crate::insertions::explain_insertion;
 use crate::keys::{keys, nearest_key, unknown_notes, wrong_notes};
 use crate::missing_places::and_folder;
 use crate::not_found::not_found;
