@@ -50,7 +50,7 @@ use Rattle.meson_places.proofs.Refused.{ok_then}
 use Rattle.meson_code.specs.declared.insertion.FileLines.{FileLines}
 use Rattle.meson_code.specs.Anchors.{the_anchor}
 use Rattle.meson_code.specs.Insertion.{above_statement, below_statement, end_of_file, lines_at, tree_place, code_statements, has_room, side_in, side_of_lines, text_on, inserted_text, insertion_step, last_span}
-use Rattle.meson_code.proofs.AnchorsThere.{anchor_there}
+use Rattle.meson_code.proofs.AnchorsFound.{anchors_are_there}
 
 -- ---- the files of a project
 
@@ -170,11 +170,11 @@ module _ (l : Loaded) (is : IsProject l) (new : List (Statement Nowhere)) where
   pub spot_there : (p : CodePlace) (lines : FileLines) → lines_at l p ≡ Ok lines → Spot l lines new
   spot_there (code_place.Above s) lines found =
       let o = ok_then (the_anchor l s) (λ a. Ok (above_statement a)) lines found in
-      let there = anchor_there l s o.0 o.1 in
+      let there = anchors_are_there l s o.0 o.1 in
       subst (λ m. Spot l m new) (let same : above_statement o.0 ≡ lines = (let e = o.2 in cc) in same) (spot_above o.0 there.0 there.1)
   spot_there (code_place.Below s) lines found =
       let o = ok_then (the_anchor l s) (λ a. Ok (below_statement a)) lines found in
-      let there = anchor_there l s o.0 o.1 in
+      let there = anchors_are_there l s o.0 o.1 in
       subst (λ m. Spot l m new) (let same : below_statement o.0 ≡ lines = (let e = o.2 in cc) in same) (spot_below o.0 there.0 there.1)
   spot_there (code_place.End name) lines found =
       let o = ok_then (numbered_file l.files name) (λ n. Ok (end_of_file n)) lines found in

@@ -14,18 +14,40 @@ use Rattle.meson_calls.specs.Project.{BuildFile, nth_file}
 use Rattle.meson_steps.specs.declared.command.CodePlace.{CodePlace}
 use Rattle.meson_steps.specs.declared.command.CodePlace.TheVariants as code_place
 use Rattle.meson_steps.specs.Steps.{Step}
-use Rattle.meson_places.specs.Names.{numbered_file}
+use Rattle.meson_calls.specs.Finding.{only_one}
+use Rattle.meson_calls.specs.Notes.{notes}
+use Rattle.meson_calls.specs.declared.refusal.Refusal.TheVariants.{NotFound, NotStatement}
+use Rattle.meson_steps.specs.declared.argument.PlaceName.{PlaceName}
+use Rattle.meson_steps.specs.declared.argument.PlaceName.TheVariants as name
+use Rattle.meson_steps.specs.declared.argument.Search.{Search}
+use Rattle.meson_places.specs.Names.{numbered_file, places_by_id, project_there, searched, searched_file}
+use Rattle.meson_code.specs.Anchors.{anchor_within, first_among, if_searched, statement_with, the_anchor}
 use Rattle.meson_code.specs.declared.insertion.FileLines.{FileLines}
 use Rattle.meson_code.specs.Insertion.{above_statement, below_statement, end_of_file, lines_at, tree_place, code_statements, has_room, side_in, text_on, inserted_if_room, code_steps}
-use Rattle.meson_code.proofs.AnchorsThere.{anchors_same}
 
 module _ (p q : Loaded) (same_files : p.files ≡ q.files) (same_trees : trees p ≡ trees q) where
   alike : {X : Type 0} (f : List files.File → List (File Span) → X) → f p.files (trees p) ≡ f q.files (trees q)
   alike f = ap₂ f same_files same_trees
 
+  by_id : (n : PlaceName) (folder : Option (List ℕ))
+      → then_ok (searched_file p.files folder) (λ within. then_ok (then_ok (project_there n (notes (project p))) (λ _. only_one (searched within (places_by_id n (notes (project p)))))) (λ c. ok_or (statement_with (project p) c) NotStatement))
+      ≡ then_ok (searched_file q.files folder) (λ within. then_ok (then_ok (project_there n (notes (project q))) (λ _. only_one (searched within (places_by_id n (notes (project q)))))) (λ c. ok_or (statement_with (project q) c) NotStatement))
+  by_id n folder =
+      alike (λ fs ts. then_ok (searched_file fs folder) (λ within. then_ok (then_ok (project_there n (notes (named_trees fs ts))) (λ _. only_one (searched within (places_by_id n (notes (named_trees fs ts)))))) (λ c. ok_or (statement_with (named_trees fs ts) c) NotStatement)))
+
+  anchor_same : (n : PlaceName) (folder : Option (List ℕ)) → then_ok (searched_file p.files folder) (λ within. anchor_within p within n) ≡ then_ok (searched_file q.files folder) (λ within. anchor_within q within n)
+  anchor_same (name.Line file line) folder =
+      alike (λ fs ts. then_ok (searched_file fs folder) (λ within. then_ok (numbered_file fs file) (λ n. then_ok (ok_or (first_among (bytes_at n fs) n line (nth_file (named_trees fs ts) n)) NotFound) (if_searched within))))
+  anchor_same (name.Project id) folder = by_id (name.Project id) folder
+  anchor_same (name.Call f id) folder = by_id (name.Call f id) folder
+  anchor_same (name.Variable id) folder = by_id (name.Variable id) folder
+
+  anchors_same : (s : Search) → the_anchor p s ≡ the_anchor q s
+  anchors_same s = anchor_same s.name s.folder
+
   lines_same : (c : CodePlace) → lines_at p c ≡ lines_at q c
-  lines_same (code_place.Above s) = ap (λ r. then_ok r (λ a. Ok (above_statement a))) (anchors_same p q same_files same_trees s)
-  lines_same (code_place.Below s) = ap (λ r. then_ok r (λ a. Ok (below_statement a))) (anchors_same p q same_files same_trees s)
+  lines_same (code_place.Above s) = ap (λ r. then_ok r (λ a. Ok (above_statement a))) (anchors_same s)
+  lines_same (code_place.Below s) = ap (λ r. then_ok r (λ a. Ok (below_statement a))) (anchors_same s)
   lines_same (code_place.End file) = ap (λ fs. then_ok (numbered_file fs file) (λ n. Ok (end_of_file n))) same_files
 
   if_room_same : (code : List ℕ) (blank : Option ℕ) (lines : FileLines) → inserted_if_room p code blank lines ≡ inserted_if_room q code blank lines

@@ -12,11 +12,10 @@ ghost use Rattle.meson_places.specs.Names.{loaded_in, numbered_file};
 ghost use Rattle.meson_code.specs.Insertion.{above_statement, below_statement, code_statements, code_steps, end_of_file, has_room, inserted_text, last_span, lines_at, side_in, side_of_lines};
 ghost use Rattle.meson_targets.specs.inside.TargetViews.{place_view};
 
-use crate::anchor::find_anchor;
+use crate::anchors::find_anchor;
 use meson_calls::{CallRef, Refusal};
 use meson_edit::nests_within;
 use meson_places::Sources;
-use meson_places::lines::file_bytes;
 use meson_places::lookup::numbered_file;
 use meson_splice::Bytes;
 use meson_statements::{Side, StatementCode, Surroundings};
@@ -132,18 +131,6 @@ impl FileLines {
         }
     }
 
-    /// The side of a statement, or the end of the file, in its file.
-    fn side(&self, alloc: Global, sources: Sources<'_>) -> Option<Side>
-        requires { AreParsed sources.files.now sources.trees.now }
-        ensures { result ≡ side_of_lines (loaded_in sources) self.now }
-    {
-        let file = self.block.file;
-        if file >= sources.trees.len() {
-            return None;
-        }
-        self.side_in(alloc, &sources.trees[file])
-    }
-
     /// The code as it is written there.
     ///
     /// # Errors
@@ -156,20 +143,22 @@ impl FileLines {
         blank: Option<usize>,
     ) -> Result<Bytes, AllocError>
         requires { AreParsed sources.files.now sources.trees.now }
-        ensures text { IfOk result (λ b. b ≡ inserted_text (loaded_in sources.entry) self.now code.now blank) }
+        ensures { IfOk result (λ b. b ≡ inserted_text (loaded_in sources.entry) self.now code.now blank) }
     {
-        let source = file_bytes(sources.files, self.block.file);
-        match self.side(alloc, sources) {
-            Some(side) => {
-                let around = Surroundings {
-                    source,
-                    side,
-                    blank,
-                };
-                Ok(Bytes::of(code.placed(alloc, around)?))
-            }
-            None => Ok(Bytes::of(Vec::new(alloc))),
+        let file = self.block.file;
+        if file >= sources.trees.len() {
+            return Ok(Bytes::of(Vec::new(alloc)));
         }
+        let Some(side) = self.side_in(alloc, &sources.trees[file]) else {
+            return Ok(Bytes::of(Vec::new(alloc)));
+        };
+        let source = sources.files.bytes(file);
+        let around = Surroundings {
+            source,
+            side,
+            blank,
+        };
+        Ok(Bytes::of(code.placed(alloc, around)?))
     }
 }
 
