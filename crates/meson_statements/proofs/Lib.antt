@@ -8,5 +8,5 @@ mod Writing
 mod FileEnds
 pub mod CodeTexts
 mod BlankLines
-mod Placed
+pub mod Placed
 mod Counted

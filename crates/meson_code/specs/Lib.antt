@@ -1,0 +1,4 @@
+pub mod Statements
+pub mod Anchors
+pub mod AnchorLaws
+pub mod Insertion

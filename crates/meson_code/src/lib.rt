@@ -1,0 +1,9 @@
+//! Code that is inserted into a project, and the statement beside which it is.
+#![tactic(auto)]
+
+pub mod anchors;
+mod insertion;
+pub mod laws;
+mod statements;
+
+pub use insertion::{Insertion, insertion_steps};
