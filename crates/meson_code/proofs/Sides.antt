@@ -1,5 +1,5 @@
 -- The statement beside which code is inserted is a range of its file.
-use Rattle.std.proofs.Common.{◌≡◌, ℕ, ◌+◌, ◌-◌, ◌≤◌, List, ◌++◌, length, Option, Some, None, refl, sym, ap, ◌∙◌, subst, arith, length-append}
+use Rattle.std.proofs.Common.{◌≡◌, ℕ, ◌+◌, ◌-◌, ◌≤◌, List, [], ◌++◌, length, Option, Some, None, refl, sym, ap, ◌∙◌, subst, arith, length-append}
 use Rattle.std.specs.Prelude.{option_map, option_and_then}
 use Rattle.meson_lex.specs.declared.kinds.Span.{Span}
 use Rattle.meson_lex.specs.Items.{joined}
@@ -37,7 +37,7 @@ module _ (source : List ℕ) (f : File Span) (s : IsSpanned source f) where
 
   last-within : (o : Option Span) → last_span f ≡ o → IsBeside (beside.End o) (length source)
   last-within None is = tt
-  last-within (Some sp) is = span-within _ _ sp is
+  last-within (Some sp) is = span-within [] (length (file_statements f) - 1) sp is
 
   pub beside-within : (path : List ℕ) (at_ : LineSide) (x : Side) → side_in f path at_ ≡ Some x → IsBeside x (length source)
   beside-within path (side.Above n) x is =

@@ -149,16 +149,18 @@ impl FileLines {
         if file >= sources.trees.len() {
             return Ok(Bytes::of(Vec::new(alloc)));
         }
-        let Some(side) = self.side_in(alloc, &sources.trees[file]) else {
-            return Ok(Bytes::of(Vec::new(alloc)));
-        };
-        let source = sources.files.bytes(file);
-        let around = Surroundings {
-            source,
-            side,
-            blank,
-        };
-        Ok(Bytes::of(code.placed(alloc, around)?))
+        match self.side_in(alloc, &sources.trees[file]) {
+            Some(side) => {
+                let source = sources.files.bytes(file);
+                let around = Surroundings {
+                    source,
+                    side,
+                    blank,
+                };
+                Ok(Bytes::of(code.placed(alloc, around)?))
+            }
+            None => Ok(Bytes::of(Vec::new(alloc))),
+        }
     }
 }
 
@@ -183,9 +185,9 @@ pub fn insertion_steps(
 ) -> Result<Vec<ListStep>, Refusal>
     requires { IsProject (loaded_in sources) }
     ensures plan { let old = loaded_in sources.entry in
-        IfOk result (λ steps. ArePlanned old (code_steps old insertion.place.entry.now insertion.code.entry.now insertion.blank) steps.items) }
+        IfOk result (λ steps. ArePlanned old (code_steps old insertion.entry.place.now insertion.entry.code.now insertion.entry.blank) steps.items) }
     ensures refused { let old = loaded_in sources.entry in
-        RefusedAs result (code_steps old insertion.place.entry.now insertion.code.entry.now insertion.blank) }
+        RefusedAs result (code_steps old insertion.entry.place.now insertion.entry.code.now insertion.entry.blank) }
 {
     let lines = FileLines::find(alloc, sources, insertion.place)?;
     if !lines.has_room(alloc, insertion.code)? {

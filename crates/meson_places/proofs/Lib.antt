@@ -9,7 +9,7 @@ mod ArgumentsDoable
 mod Around
 mod BetweenDoable
 mod BetweenLeft
-mod AssignedDepth
+pub mod AssignedDepth
 mod AssignedDoable
 mod AssignedLeft
 mod AssignedLone
