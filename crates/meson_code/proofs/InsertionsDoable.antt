@@ -31,13 +31,19 @@ use Rattle.meson_statements.specs.CodeTexts.{lexemes_of, tree_of}
 use Rattle.meson_statements.proofs.CodeTexts.{lexemes-are-items, trees-are-read}
 use Rattle.meson_statements.specs.Places.{text_at}
 use Rattle.meson_statements.proofs.Placed.{placed-lines, placed-utf8}
+use Rattle.meson_splice.specs.Patch.{then_ok}
+use Rattle.meson_calls.specs.declared.call.CallRef.{CallRef}
+use Rattle.meson_calls.specs.Project.{place}
+use Rattle.meson_calls.specs.declared.refusal.Refusal.{Refusal}
 use Rattle.meson_calls.specs.Loading.{AreParsed, IsProject, Loaded, named_trees, project, views}
 use Rattle.meson_calls.specs.Project.{BuildFile, nth_file}
 use Rattle.meson_steps.specs.declared.command.CodePlace.{CodePlace}
 use Rattle.meson_steps.specs.declared.command.CodePlace.TheVariants as code_place
 use Rattle.meson_steps.specs.declared.step.LineSide.{LineSide}
 use Rattle.meson_steps.specs.declared.step.LineSide.TheVariants as side
-use Rattle.meson_steps.specs.ListSteps.{AreDoable, MayStandBetween, none}
+use Rattle.meson_steps.specs.declared.step.ListEdit.TheVariants as code_edit
+use Rattle.meson_steps.specs.declared.step.ListStep.{ListStep}
+use Rattle.meson_steps.specs.ListSteps.{AreDoable, MayStandBetween, none, bare, block_of_lines, side_of_lines as lines_side}
 use Rattle.meson_steps.specs.ResultLimits.{plain_trees}
 use Rattle.meson_steps.proofs.PlainTrees.{parsed_shallow, tree_there, trees_stand}
 use Rattle.meson_steps.proofs.StepsDoable.{step_doable}
@@ -46,11 +52,14 @@ use Rattle.meson_targets.specs.TargetEdits.{StatementPlace, statement_there}
 use Rattle.meson_places.specs.AssignedValues.{around}
 use Rattle.meson_places.specs.Names.{numbered_file}
 use Rattle.meson_places.proofs.AssignedDepth.{block_grows}
-use Rattle.meson_places.proofs.Refused.{ok_then}
 use Rattle.meson_code.specs.declared.insertion.FileLines.{FileLines}
 use Rattle.meson_code.specs.Anchors.{the_anchor}
 use Rattle.meson_code.specs.Insertion.{above_statement, below_statement, end_of_file, lines_at, tree_place, code_statements, has_room, side_in, side_of_lines, text_on, inserted_text, insertion_step, last_span}
 use Rattle.meson_code.proofs.AnchorsFound.{anchors_are_there}
+
+pub ok_then : {X Y : Type 0} (r : Result X Refusal) (f : X → Result Y Refusal) (y : Y) → then_ok r f ≡ Ok y → (x : X) × (r ≡ Ok x) × (f x ≡ Ok y)
+ok_then (Ok x) f y is = (x, refl, is)
+ok_then (Err e) f y is = absurd cc
 
 -- ---- the files of a project
 
@@ -87,6 +96,7 @@ pub record Spot (l : Loaded) (lines : FileLines) (new : List (Statement Nowhere)
   pub is_now : with_lines (tree_place lines.block.path.steps lines.side) new (erase build.tree) ≡ Some (place.back (exchanged_in from 0 new place.inside))
   pub at_ : Side
   pub is_side : side_in build.tree lines.block.path.steps lines.side ≡ Some at_
+  pub is_path : block_of_lines (tree_place lines.block.path.steps lines.side) ≡ lines.block.path.steps
 
 module _ (l : Loaded) (is : IsProject l) (new : List (Statement Nowhere)) where
   -- beside a statement
@@ -126,6 +136,7 @@ module _ (l : Loaded) (is : IsProject l) (new : List (Statement Nowhere)) where
         is_now = b.is_now;
         at_ = beside.Above b.span;
         is_side = ap (option_map beside.Above) b.is_span;
+        is_path = refl;
       }
 
   spot_below : (a : StatementPlace) (s : Statement Span) → statement_there (project l) a ≡ Some s → Spot l (below_statement a) new
@@ -141,6 +152,7 @@ module _ (l : Loaded) (is : IsProject l) (new : List (Statement Nowhere)) where
         is_now = b.is_now;
         at_ = beside.Below b.span;
         is_side = ap (option_map beside.Below) b.is_span;
+        is_path = refl;
       }
 
   root_there : (f : tree.File Span) → (q : BlockAt Nowhere) × (block_at (erase f) [] ≡ Some q)
@@ -160,6 +172,7 @@ module _ (l : Loaded) (is : IsProject l) (new : List (Statement Nowhere)) where
         is_now = ap (option_map (λ (b : BlockAt Nowhere). b.back (exchanged_in (length (statements_in b.inside)) 0 new b.inside))) q.1;
         at_ = beside.End (last_span f.0.tree);
         is_side = refl;
+        is_path = refl;
       }
 
   file_found : (o : Option ℕ) (n : ℕ) → Rattle.std.specs.Prelude.ok_or o Rattle.meson_calls.specs.declared.refusal.Refusal.TheVariants.NoFile ≡ Ok n → o ≡ Some n
@@ -247,3 +260,18 @@ module _ (l : Loaded) (is : IsProject l) (lines : FileLines) (code : List ℕ) (
       let deep : file_depth now ≤ 64 = rooms-suffice t path p.place p.is_place 64 low p.from 0 new alone_low in
       step_doable (insertion_step l lines code blank) [] trees t now there p.is_now written all
       (lines-keep-levels (tree_place path lines.side) (record { bytes = text; node = new }) (code_level code x) t now was.0 p.is_now, omega (arith, deep)) (none _)
+
+-- ---- as the code has it
+
+side-is : (path : List ℕ) (at_ : LineSide) → lines_side (tree_place path at_) ≡ at_
+side-is path (side.Above n) = refl
+side-is path (side.Below n) = refl
+side-is path side.End = refl
+
+pub step-bare : (l : Loaded) (lines : FileLines) (code : List ℕ) (blank : Option ℕ) → block_of_lines (tree_place lines.block.path.steps lines.side) ≡ lines.block.path.steps
+    → (text : List ℕ) → text ≡ inserted_text l lines code blank
+    → bare (insertion_step l lines code blank) ≡ Some (record { list = lines.block; edit = code_edit.Lines lines.side text })
+step-bare l lines code blank path text is =
+    ap (λ steps. Some (record { list = place lines.block.file steps; edit = code_edit.Lines (lines_side (tree_place lines.block.path.steps lines.side)) (inserted_text l lines code blank) })) path
+    ∙ ap (λ s. Some (record { list = lines.block; edit = code_edit.Lines s (inserted_text l lines code blank) })) (side-is lines.block.path.steps lines.side)
+    ∙ ap (λ t. Some (record { list = lines.block; edit = code_edit.Lines lines.side t })) (sym is)

@@ -1,9 +1,8 @@
 //! Code that is inserted beside a statement or at the end of a file.
 
 ghost use Rattle.std.specs.Prelude.{◌≡◌, ◌∷◌, [], IfErr, IfOk, Ok};
-ghost use Rattle.std.specs.Str.{IsUtf8};
-ghost use Rattle.meson_edit.specs.Places.{IsWrittenLines};
 ghost use Rattle.meson_syntax.specs.View.{view};
+ghost use Rattle.meson_statements.specs.Code.{IsStatements};
 ghost use Rattle.meson_calls.specs.ChosenNotes.{Source};
 ghost use Rattle.meson_calls.specs.Loading.{AreParsed, IsProject};
 ghost use Rattle.meson_calls.specs.Refusals.{RefusedAs};
@@ -104,7 +103,8 @@ impl FileLines {
     /// # Errors
     /// Out of memory.
     fn has_room(&self, alloc: Global, code: &StatementCode) -> Result<bool, AllocError>
-        ensures { IfOk result (λ b. b ≡ has_room self.now (code_statements code.now)) }
+        ensures room { IfOk result (λ b. b ≡ has_room self.now (code_statements code.now)) }
+        ensures code { IsStatements code.now }
     {
         let around = self.block.path.steps.get().len() / 2;
         match parse(alloc, code.get().as_bytes()) {
@@ -142,7 +142,8 @@ impl FileLines {
         code: &StatementCode,
         blank: Option<usize>,
     ) -> Result<Bytes, AllocError>
-        requires { AreParsed sources.files.now sources.trees.now }
+        requires parsed { AreParsed sources.files.now sources.trees.now }
+        requires code { IsStatements code.now }
         ensures { IfOk result (λ b. b ≡ inserted_text (loaded_in sources.entry) self.now code.now blank) }
     {
         let file = self.block.file;

@@ -7,8 +7,8 @@ use Rattle.meson_syntax.proofs.parsing.FileErased.{file-depth-erased}
 use Rattle.meson_code.proofs.Rooms.{around-half, code-deep}
 use Rattle.meson_code.proofs.insertion.FileLines.has_room.Goals as goal
 
-pub returns-in-Ok : goal.returns-in-Ok
-returns-in-Ok c =
+pub returns-in-Ok-clause-room : goal.returns-in-Ok-clause-room
+returns-in-Ok-clause-room c =
     let code = c.args.code.now in
     let source = c.as_bytes.result.now in
     let f = view source c.in-Ok.tree in
