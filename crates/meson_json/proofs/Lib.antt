@@ -1,5 +1,6 @@
 pub mod EachFacts
 mod Counting
+mod BlankCounts
 mod Dots
 pub mod LogFacts
 pub mod LogLines

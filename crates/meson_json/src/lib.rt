@@ -3,6 +3,7 @@
 
 pub mod argument;
 mod choices;
+pub mod code;
 pub mod count;
 mod entry;
 mod fault;

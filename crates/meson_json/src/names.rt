@@ -1,7 +1,7 @@
 //! The words for operations and functions. The command line has the same ones for keyword arguments, and others for targets and options.
 
 ghost use Rattle.std.specs.Prelude.{◌≡◌};
-ghost use Rattle.meson_json.specs.Operations.{argument_operation, entry_type, kwargs_operation, options_operation, role_of, target_operation};
+ghost use Rattle.meson_json.specs.Operations.{argument_operation, code_operation, entry_type, kwargs_operation, options_operation, role_of, target_operation};
 
 use crate::target::TargetOperation;
 use meson_calls::Role;
@@ -43,6 +43,14 @@ pub enum ArgumentOperation {
     Replace,
     Delete,
     Info,
+}
+
+/// Where code is inserted: below a statement, above one, or at the end of a file.
+#[derive(Clone, Copy)]
+pub enum CodeOperation {
+    After,
+    Before,
+    Append,
 }
 
 pub(crate) fn find_type(name: &str) -> Option<EntryType>
@@ -134,6 +142,21 @@ pub fn find_argument_operation(name: &str) -> Option<ArgumentOperation>
         Some(ArgumentOperation::Delete)
     } else if name == "info" {
         Some(ArgumentOperation::Info)
+    } else {
+        None
+    }
+}
+
+/// The operation on code that a word names, if it names one.
+pub fn find_code_operation(name: &str) -> Option<CodeOperation>
+    ensures { result ≡ code_operation name.now }
+{
+    if name == "after" {
+        Some(CodeOperation::After)
+    } else if name == "before" {
+        Some(CodeOperation::Before)
+    } else if name == "append" {
+        Some(CodeOperation::Append)
     } else {
         None
     }
