@@ -14,11 +14,11 @@ unfolding count_of
 plus [] e = cc
 plus (c ∷ cs) e = let is : c ≡ 43 = grind (arith, e) in rw is refl
 
-by_bool : (b : Bool) (v : ℕ) → (b ≡ true → ⊥) → None ≡ (if b then Some v else None)
+pub by_bool : (b : Bool) (v : ℕ) → (b ≡ true → ⊥) → None ≡ (if b then Some v else None)
 by_bool true v n = absurd (n refl)
 by_bool false v n = refl
 
-split : (a b : Bool) → (a && b) ≡ true → (a ≡ true) × (b ≡ true)
+pub split : (a b : Bool) → (a && b) ≡ true → (a ≡ true) × (b ≡ true)
 split true b e = (refl, e)
 split false b e = cc
 
@@ -37,15 +37,15 @@ counts word e =
     let bounds = split (nat_lt 0 (digits_value 10 word)) (nat_lt (digits_value 10 word) (2 ^ 64)) both.1 in
     record { digits = both.0; some = ltb-true _ _ bounds.0; fits = ltb-true _ _ bounds.1 }
 
-abbrev Read : List ℕ → Type 0
+abbrev pub Read : List ℕ → Type 0
 Read word = (all_ascii_digits word ≡ true) × (0 < length word) × (digits_value 10 word < 2 ^ 64)
 
 -- what it reads does not depend on how it says that it reads nothing
-abbrev Parses : List ℕ → Result ℕ (Unit {0}) → Type 0
+abbrev pub Parses : List ℕ → Result ℕ (Unit {0}) → Type 0
 Parses word r = ParsesUnsigned 64 10 word r
 
 module _ (word : List ℕ) (plain : (slice_index word 0 == 43) ≡ false) where
-  told : (r : Result ℕ (Unit {0})) → Parses word r → OkIff r (Read word) (digits_value 10 word)
+  pub told : (r : Result ℕ (Unit {0})) → Parses word r → OkIff r (Read word) (digits_value 10 word)
   told r parsed = parse_plain (numerals_by_value _ tells_all_ascii_digits) 64 word r parsed (λ is. let no : ⊥ = grind (arith, plain, is) in no)
 
   pub none : (n : ℕ) → n ≡ 0 → Parses word (Ok n) → None ≡ count_of word

@@ -1,5 +1,6 @@
 pub mod Members
 pub mod Counts
+pub mod Codes
 pub mod Arguments
 pub mod Each
 pub mod Log

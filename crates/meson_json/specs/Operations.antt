@@ -4,6 +4,8 @@ use Rattle.meson_calls.specs.declared.call.Role.{Role}
 use Rattle.meson_calls.specs.declared.call.Role.TheVariants as role
 use Rattle.meson_json.specs.declared.names.ArgumentOperation.{ArgumentOperation}
 use Rattle.meson_json.specs.declared.names.ArgumentOperation.TheVariants as argument
+use Rattle.meson_json.specs.declared.names.CodeOperation.{CodeOperation}
+use Rattle.meson_json.specs.declared.names.CodeOperation.TheVariants as code
 use Rattle.meson_json.specs.declared.names.EntryType.{EntryType}
 use Rattle.meson_json.specs.declared.names.EntryType.TheVariants as entry
 use Rattle.meson_json.specs.declared.names.KwargsOperation.{KwargsOperation}
@@ -20,7 +22,8 @@ among (row ∷ rows) s = if bytes_eq s row.0 then Some row.1 else among rows s
 
 abbrev pub entry_type : List ℕ → Option EntryType
 entry_type s =
-    among ((codes "target", entry.Target) ∷ (codes "kwargs", entry.Kwargs) ∷ (codes "default_options", entry.DefaultOptions) ∷ (codes "arg", entry.Argument) ∷ []) s
+    among ((codes "target", entry.Target) ∷ (codes "kwargs", entry.Kwargs) ∷ (codes "default_options", entry.DefaultOptions) ∷ (codes "arg", entry.Argument)
+    ∷ (codes "code", entry.Code) ∷ []) s
 
 abbrev pub target_operation : List ℕ → Option TargetOperation
 target_operation s =
@@ -41,6 +44,9 @@ abbrev pub argument_operation : List ℕ → Option ArgumentOperation
 argument_operation s =
     among ((codes "set", argument.Set) ∷ (codes "add", argument.Add) ∷ (codes "remove", argument.Remove) ∷ (codes "replace", argument.Replace)
     ∷ (codes "delete", argument.Delete) ∷ (codes "info", argument.Info) ∷ []) s
+
+abbrev pub code_operation : List ℕ → Option CodeOperation
+code_operation s = among ((codes "after", code.After) ∷ (codes "before", code.Before) ∷ (codes "append", code.Append) ∷ []) s
 
 abbrev pub role_of : List ℕ → Option Role
 role_of s = among ((codes "dependency", role.Dependency) ∷ (codes "target", role.Target) ∷ (codes "project", role.Project) ∷ []) s

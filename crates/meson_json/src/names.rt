@@ -1,7 +1,7 @@
 //! The words for operations and functions. The command line has the same ones for keyword arguments, and others for targets and options.
 
 ghost use Rattle.std.specs.Prelude.{◌≡◌};
-ghost use Rattle.meson_json.specs.Operations.{argument_operation, entry_type, kwargs_operation, options_operation, role_of, target_operation};
+ghost use Rattle.meson_json.specs.Operations.{argument_operation, code_operation, entry_type, kwargs_operation, options_operation, role_of, target_operation};
 
 use crate::target::TargetOperation;
 use meson_calls::Role;
@@ -13,6 +13,7 @@ pub(crate) enum EntryType {
     Kwargs,
     DefaultOptions,
     Argument,
+    Code,
 }
 
 /// What is done to the keyword arguments of a call.
@@ -45,6 +46,14 @@ pub enum ArgumentOperation {
     Info,
 }
 
+/// Where code is inserted: below a statement, above one, or at the end of a file.
+#[derive(Clone, Copy)]
+pub enum CodeOperation {
+    After,
+    Before,
+    Append,
+}
+
 pub(crate) fn find_type(name: &str) -> Option<EntryType>
     ensures { result ≡ entry_type name.now }
 {
@@ -56,6 +65,8 @@ pub(crate) fn find_type(name: &str) -> Option<EntryType>
         Some(EntryType::DefaultOptions)
     } else if name == "arg" {
         Some(EntryType::Argument)
+    } else if name == "code" {
+        Some(EntryType::Code)
     } else {
         None
     }
@@ -134,6 +145,21 @@ pub fn find_argument_operation(name: &str) -> Option<ArgumentOperation>
         Some(ArgumentOperation::Delete)
     } else if name == "info" {
         Some(ArgumentOperation::Info)
+    } else {
+        None
+    }
+}
+
+/// The operation on code that a word names, if it names one.
+pub fn find_code_operation(name: &str) -> Option<CodeOperation>
+    ensures { result ≡ code_operation name.now }
+{
+    if name == "after" {
+        Some(CodeOperation::After)
+    } else if name == "before" {
+        Some(CodeOperation::Before)
+    } else if name == "append" {
+        Some(CodeOperation::Append)
     } else {
         None
     }
