@@ -1,6 +1,6 @@
 -- What a command that is performed leaves of the call that it changes.
-use Rattle.std.proofs.Common.{◌≡◌, ℕ, List, map, Some, sym, ap, ◌∙◌, subst}
-use Rattle.std.specs.Prelude.{unwrap_or, Result, Ok}
+use Rattle.std.proofs.Common.{◌≡◌, ℕ, Bool, true, false, List, [], ◌∷◌, map, Some, None, refl, sym, ap, ◌∙◌, subst}
+use Rattle.std.specs.Prelude.{Option, option_and_then, unwrap_or, Result, Ok}
 use Rattle.std.specs.Str.{IsUtf8}
 use Rattle.meson_lex.specs.declared.kinds.Span.{Span}
 use Rattle.meson_splice.specs.Patch.{then_ok}
@@ -23,6 +23,8 @@ use Rattle.meson_steps.specs.declared.argument.ValueName.{ValueName}
 use Rattle.meson_steps.specs.declared.command.Done.{Done}
 use Rattle.meson_steps.specs.ResultLimits.{plain_trees}
 use Rattle.meson_steps.specs.Steps.{Step, all_stepped}
+use Rattle.meson_steps.specs.Steps.{stepped as step_made}
+use Rattle.meson_syntax.specs.Tree.{Plain}
 use Rattle.meson_sources.specs.SourceEdits.{extra_added, extra_removed, sources_added, sources_removed, sources_renamed}
 use Rattle.meson_sources.proofs.AllExtras.{all-extras-grow}
 use Rattle.meson_sources.proofs.AllSources.{all-sources-grow}
@@ -40,8 +42,6 @@ use Rattle.meson_targets.proofs.AddedTargets.{added-targets-are-named}
 use Rattle.meson_targets.proofs.RemovedTargets.{removed-targets-are-gone}
 use Rattle.meson_plan.specs.Effects.{CodeComes, CommandsLeave, ExtrasCome, ExtrasGo, LeavesOf, SourcesCome, SourcesComeAmong, SourcesGo, SourcesRenamed, TargetComes, TargetGoes}
 use Rattle.meson_places.specs.Effects.{ValueLeft}
-use Rattle.meson_places.proofs.Refused.{ok_then}
-use Rattle.meson_places.proofs.SetValues.{one_step}
 use Rattle.meson_code.specs.declared.insertion.FileLines.{FileLines}
 use Rattle.meson_code.specs.Insertion.{code_statements, code_steps, has_room, inserted_if_room, insertion_step, lines_at}
 use Rattle.meson_steps.specs.declared.command.CodePlace.{CodePlace}
@@ -51,6 +51,14 @@ use Rattle.meson_plan.specs.Planning.{Means}
 use Rattle.meson_plan.proofs.NamesKept.{names_kept}
 use Rattle.meson_calls.specs.declared.call.CallName.{CallName}
 use Rattle.meson_calls.specs.Searching.{anywhere}
+
+-- the one step that is done
+one_step : (s : Step) (before after : List Plain) → all_stepped (s ∷ []) before ≡ Some after → step_made s before ≡ Some after
+one_step s before after is = go (step_made s before) is
+  where
+    go : (o : Option (List Plain)) → option_and_then (all_stepped []) o ≡ Some after → o ≡ Some after
+    go None made = absurd (let no : ⊥ = cc in no)
+    go (Some ts) made = made
 
 module _ (old new : Loaded) (c : Command) (done : Done) (is : IsProject old) (p : Performs old c done new) where
   leaves : (r : Role) (id : CallName) (asked : Asked) → request_steps (project old) (r, id, asked) ≡ Ok p.made.steps → LeavesOf old r id asked new
@@ -139,7 +147,7 @@ module _ (old new : Loaded) (c : Command) (done : Done) (is : IsProject old) (p 
 
   code_comes : (place : CodePlace) (code : List ℕ) (blank : Option ℕ) → code_steps old place code blank ≡ Ok p.made.steps → CodeComes old place code new
   code_comes place code blank made =
-      let o = ok_then (lines_at old place) (inserted_if_room old code blank) p.made.steps made in
+      let o = then_was (lines_at old place) (inserted_if_room old code blank) p.made.steps made in
       record {
         lines = o.0;
         are_lines = o.1;
