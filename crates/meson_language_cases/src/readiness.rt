@@ -5,7 +5,7 @@ ghost use Rattle.meson_lex.specs.Items.{IsItemList, Lexeme};
 ghost use Rattle.meson_layout.specs.Layout.{IsBracketOf, IsReady, IsSpanOf};
 ghost use Rattle.meson_language_cases.specs.inside.Opening.{is_open};
 
-use meson_layout::Primitive;
+use meson_layout::{LineSpot, Primitive};
 use meson_lex::{Kind, Span, items};
 
 /// Whether a source has no fault, and items begin and end where the span does.
@@ -73,5 +73,11 @@ pub(crate) fn is_ready(source: &[u8], primitive: &Primitive) -> bool
         Primitive::Replace { value, .. } | Primitive::Wrap { value } => has_span(source, *value),
         Primitive::RemoveStatement { statement } => has_span(source, *statement),
         Primitive::Append { .. } => is_whole(source),
+        Primitive::Lines { spot, .. } => match spot {
+            LineSpot::Above(statement) | LineSpot::Below(statement) => {
+                has_span(source, *statement)
+            }
+            LineSpot::End => is_whole(source),
+        },
     }
 }
