@@ -107,7 +107,7 @@ fn if_searched(within: Option<usize>, found: StatementPlace) -> Result<Statement
 /// The statement that begins on a line of the file of this number, if the file is searched.
 ///
 /// # Errors
-/// There is none, or out of memory.
+/// No statement begins there, or out of memory.
 fn anchor_on(
     alloc: Global,
     sources: Sources<'_>,

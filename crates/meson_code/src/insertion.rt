@@ -14,6 +14,7 @@ ghost use Rattle.meson_targets.specs.inside.TargetViews.{place_view};
 use crate::anchors::find_anchor;
 use meson_calls::{CallRef, Refusal};
 use meson_edit::nests_within;
+use meson_lex::Span;
 use meson_places::Sources;
 use meson_places::lookup::numbered_file;
 use meson_splice::Bytes;
@@ -22,7 +23,6 @@ use meson_steps::command::CodePlace;
 use meson_steps::statements::statement_span;
 use meson_steps::step::{LineSide, ListEdit, ListStep, push_step};
 use meson_syntax::{MAX_DEPTH, Many, ParseFault, Parsed, Path, parse};
-use meson_lex::Span;
 use meson_targets::StatementPlace;
 use std::alloc::{AllocError, Global};
 

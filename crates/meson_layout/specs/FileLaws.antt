@@ -138,8 +138,8 @@ abbrev pub items_of_lines : List (List Lexeme) → List Lexeme
 items_of_lines [] = []
 items_of_lines (line ∷ lines) = line ++ items_of_lines lines
 
--- Above a statement: `left` are the items before it, of which `head` are on its own line. The lines between are comment lines, and the last line of
--- `front` is none: so the comment lines directly above a statement stay with it.
+-- Above a statement: `left` are the items before it, of which `head` are on its own line. The lines between are comment lines, and the
+-- last line of `front` is not: so the comment lines directly above a statement stay with it.
 pub record IsAbove (front left : List Lexeme) : Type 0 where
   pub notes : List Lexeme
   pub head : List Lexeme
@@ -153,7 +153,7 @@ pub record IsAbove (front left : List Lexeme) : Type 0 where
   pub no_more : (more line : List Lexeme) → front ≡ more ++ line → ends_line more ≡ true → IsCommentLine line → ⊥
   pub in_line : is_in_line head ≡ true
 
--- Below a statement: `right` are the items after it. Those of `row` are on the line on which it ends, and `end` is the line end of that, unless there is none.
+-- Below a statement: `right` are the items after it. Those of `row` are on the line on which it ends, and `end` is the line end of that, if it has one.
 pub record IsBelow (left own right front : List Lexeme) : Type 0 where
   pub row : List Lexeme
   pub end : List Lexeme

@@ -18,7 +18,7 @@ id_in (name.Call callee id) = Some id
 id_in (name.Variable id) = Some id
 id_in (name.Line file line) = None
 
--- that of the statement beside which code is inserted; at the end of a file there is none
+-- that of the statement beside which code is inserted; the end of a file has no id
 abbrev pub anchor_id : CodePlace → Option (List ℕ)
 anchor_id (place.Above s) = id_in s.name
 anchor_id (place.Below s) = id_in s.name

@@ -21,7 +21,7 @@ fn id_in(name: &PlaceName) -> Option<&Text>
     }
 }
 
-/// The id of the statement beside which code is inserted; at the end of a file there is none.
+/// The id of the statement beside which code is inserted; the end of a file has no id.
 fn anchor_id(place: &CodePlace) -> Option<&Text>
     ensures { option_map (λ id. id.now) result ≡ anchor_id place.now }
 {

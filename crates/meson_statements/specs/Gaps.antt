@@ -37,7 +37,7 @@ abbrev pub requested : Option ℕ → ℕ
 requested (Some n) = n
 requested None = 0
 
--- so many line ends
+-- this number of line ends
 abbrev pub line_ends : ℕ → List ℕ → List ℕ
 line_ends n end = repeat n end
 

@@ -13,9 +13,9 @@ use meson_lex::{Kind, items, text};
 enum Ending {
     /// In a line with text.
     Text,
-    /// In no line, after so many blank lines.
+    /// In no line, after this number of blank lines.
     Lines(usize),
-    /// In a line of blanks, which is the last of so many blank lines.
+    /// In a line of blanks, which is the last of this number of blank lines.
     Blanks(usize),
 }
 
@@ -60,7 +60,7 @@ pub(crate) fn blank_lines_at_end(source: &[u8]) -> usize
     ending.blank_lines()
 }
 
-/// Whether it is a line end. A continuation is none.
+/// Whether it is a line end. A continuation is not.
 fn is_line_end(kind: Kind) -> bool
     ensures { result ≡ is_line_end kind }
 {

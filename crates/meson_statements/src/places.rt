@@ -84,7 +84,7 @@ fn gap_between(blank: Option<usize>, statement: &[u8], code: &[u8]) -> usize
     }
 }
 
-/// So many line ends.
+/// This number of line ends.
 fn line_ends(alloc: Global, n: usize, end: &[u8]) -> Result<Vec<u8>, AllocError>
     ensures { IfOk result (λ v. v.items ≡ line_ends n end.now) }
 {
