@@ -1,6 +1,6 @@
 -- Scripts whose members are all known, and the search for one that is not.
-use Rattle.std.proofs.Common.{◌≡◌, ◌∙◌, ◌∷◌, ◌+◌, ℕ, Bool, true, false, not, List, [], Option, Some, None, Result, Ok, Err, if◌then◌else◌, refl, ap, string_bytes}
-use Rattle.std.specs.Prelude.{find, nat_lt, ok_or, option_and_then}
+use Rattle.std.proofs.Common.{◌≡◌, ◌∙◌, ◌∷◌, ◌+◌, ℕ, Bool, true, false, List, [], Option, Some, None, Result, Ok, Err, if◌then◌else◌, refl, ap, string_bytes}
+use Rattle.std.specs.Prelude.{nat_lt, ok_or, option_and_then}
 use Rattle.serde_json.specs.Data.{Data, Items, no_items, item}
 use Rattle.serde_json.specs.Events.{items_len}
 use Rattle.serde_json.specs.Find.{as_array, as_object}

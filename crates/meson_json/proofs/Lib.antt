@@ -7,3 +7,4 @@ pub mod LogLines
 pub mod ScriptFacts
 pub mod KnownFacts
 pub mod TextsFacts
+pub mod OnCode

@@ -5,6 +5,8 @@ use Rattle.serde_json.specs.Data.{Members}
 use Rattle.meson_json.specs.Each.{names_of_members}
 use Rattle.meson_steps.specs.declared.argument.ValueChange.{ValueChange}
 use Rattle.meson_steps.specs.declared.argument.ValueChange.TheVariants as change
+use Rattle.meson_steps.specs.declared.command.CodePlace.{CodePlace}
+use Rattle.meson_steps.specs.declared.command.CodePlace.TheVariants as place
 use Rattle.meson_steps.specs.declared.command.Command.{Command}
 use Rattle.meson_steps.specs.declared.command.Command.TheVariants as command
 
@@ -21,6 +23,12 @@ value_members (change.AddSorted gs) =
 value_members (change.Remove gs) = codes "function" ∷ codes "id" ∷ codes "key" ∷ codes "in" ∷ codes "values" ∷ []
 value_members (change.Replace old new) = codes "function" ∷ codes "id" ∷ codes "key" ∷ codes "in" ∷ codes "values" ∷ []
 value_members change.Delete = codes "function" ∷ codes "id" ∷ codes "key" ∷ codes "in" ∷ []
+
+-- those that an insertion uses
+abbrev pub code_members : CodePlace → List (List ℕ)
+code_members (place.Above search) = codes "code" ∷ codes "blank" ∷ codes "function" ∷ codes "id" ∷ codes "in" ∷ []
+code_members (place.Below search) = codes "code" ∷ codes "blank" ∷ codes "function" ∷ codes "id" ∷ codes "in" ∷ []
+code_members (place.End file) = codes "code" ∷ codes "blank" ∷ codes "file" ∷ []
 
 -- those that the operation of a command uses
 abbrev pub used_members : Command → List (List ℕ)
@@ -41,7 +49,7 @@ used_members (command.KwargsInfo role name) = codes "function" ∷ codes "id" �
 used_members (command.OptionsSet pairs) = codes "options" ∷ []
 used_members (command.OptionsDelete names) = codes "options" ∷ []
 used_members (command.Argument name c) = value_members c
-used_members (command.CodeInsert place code blank) = codes "function" ∷ codes "id" ∷ codes "file" ∷ codes "code" ∷ codes "blank" ∷ codes "in" ∷ []
+used_members (command.CodeInsert p code blank) = code_members p
 used_members (command.ArgumentInfo name) = codes "function" ∷ codes "id" ∷ codes "key" ∷ codes "in" ∷ []
 
 -- one of these, or one that says which command it is

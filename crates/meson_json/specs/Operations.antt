@@ -22,7 +22,8 @@ among (row ∷ rows) s = if bytes_eq s row.0 then Some row.1 else among rows s
 
 abbrev pub entry_type : List ℕ → Option EntryType
 entry_type s =
-    among ((codes "target", entry.Target) ∷ (codes "kwargs", entry.Kwargs) ∷ (codes "default_options", entry.DefaultOptions) ∷ (codes "arg", entry.Argument) ∷ []) s
+    among ((codes "target", entry.Target) ∷ (codes "kwargs", entry.Kwargs) ∷ (codes "default_options", entry.DefaultOptions) ∷ (codes "arg", entry.Argument)
+    ∷ (codes "code", entry.Code) ∷ []) s
 
 abbrev pub target_operation : List ℕ → Option TargetOperation
 target_operation s =

@@ -11,7 +11,9 @@ use Rattle.meson_steps.specs.declared.argument.Callee.TheVariants as callee
 use Rattle.meson_steps.specs.declared.argument.PlaceName.{PlaceName}
 use Rattle.meson_steps.specs.declared.argument.PlaceName.TheVariants as name
 use Rattle.meson_steps.specs.declared.argument.ValueChange.TheVariants as change
+use Rattle.meson_steps.specs.declared.argument.Search.{Search}
 use Rattle.meson_steps.specs.declared.argument.ValueName.{ValueName}
+use Rattle.meson_steps.specs.declared.command.CodePlace.TheVariants as place
 use Rattle.meson_steps.specs.declared.given.Given.TheVariants as given
 use Rattle.meson_steps.specs.declared.command.Command.{Command}
 use Rattle.meson_steps.specs.declared.command.Command.TheVariants as command
@@ -171,6 +173,34 @@ InfoEntries =
     × gives (codes "[{'type':'arg','operation':'info','function':'target','id':'e','key':1}]") (Err (BadField 0 (codes "key")))
     × gives (codes "[{'type':'arg','operation':'delete','function':'target','id':'e'}]") (Err (BadField 0 (codes "key")))
     × gives_known (codes "[{'type':'arg','operation':'info','function':'target','id':'e','values':[]}]") (Err (UnknownMember 0 (codes "values")))
+
+-- a statement that is searched for in all files
+abbrev anywhere_named : PlaceName → Search
+anywhere_named n = record { name = n; folder = None }
+
+-- code below a statement, above one, and at the end of a file, which reads no folder; the number of blank lines may be 0, and is at most 100
+abbrev pub CodeEntries : Type 0
+CodeEntries =
+    stands_for (codes "[{'type':'code','operation':'after','function':'target','id':'e','code':'y = 1'}]")
+    (command.CodeInsert (place.Below (anywhere_named (called callee.Target (codes "e")))) (codes "y = 1") None)
+    × stands_for (codes "[{'type':'code','operation':'before','function':'variable','id':'x','in':'s','code':' y = 1 ','blank':0}]")
+    (command.CodeInsert (place.Above (record { name = name.Variable (codes "x"); folder = Some (codes "s") })) (codes "y = 1") (Some 0))
+    × stands_for (codes "[{'type':'code','operation':'append','file':'meson.build','in':1,'code':'y = 1','blank':100}]")
+    (command.CodeInsert (place.End (codes "meson.build")) (codes "y = 1") (Some 100))
+    × gives (codes "[{'type':'code','operation':'set'}]") (Err (UnknownOperation 0))
+    × gives (codes "[{'type':'code','operation':'after','function':'target','code':1}]") (Err (BadField 0 (codes "id")))
+    × gives (codes "[{'type':'code','operation':'after','function':'at','id':'meson.build','in':1}]") (Err (BadField 0 (codes "id")))
+    × gives (codes "[{'type':'code','operation':'before','function':'target','id':'e','in':1,'code':1}]") (Err (BadField 0 (codes "in")))
+    × gives (codes "[{'type':'code','operation':'append','function':'target','id':'e','code':'y = 1'}]") (Err (BadField 0 (codes "file")))
+    × gives (codes "[{'type':'code','operation':'append','file':'meson.build','blank':-1}]") (Err (BadField 0 (codes "code")))
+    × gives (codes "[{'type':'code','operation':'append','file':'meson.build','code':'y ='}]") (Err (BadField 0 (codes "code")))
+    × gives (codes "[{'type':'code','operation':'append','file':'meson.build','code':'# y'}]") (Err (BadField 0 (codes "code")))
+    × gives (codes "[{'type':'code','operation':'append','file':'meson.build','code':'y','blank':101}]") (Err (BadField 0 (codes "blank")))
+    × gives (codes "[{'type':'code','operation':'append','file':'meson.build','code':'y','blank':-1}]") (Err (BadField 0 (codes "blank")))
+    × gives (codes "[{'type':'code','operation':'append','file':'meson.build','code':'y','blank':1.5}]") (Err (BadField 0 (codes "blank")))
+    × gives (codes "[{'type':'code','operation':'append','file':'meson.build','code':'y','blank':'1'}]") (Err (BadField 0 (codes "blank")))
+    × gives_known (codes "[{'type':'code','operation':'append','file':'meson.build','code':'y','in':'s'}]") (Err (UnknownMember 0 (codes "in")))
+    × gives_known (codes "[{'type':'code','operation':'after','function':'target','id':'e','code':'y','file':'meson.build'}]") (Err (UnknownMember 0 (codes "file")))
 
 -- entry by entry, and each in a fixed order
 abbrev pub Faults : Type 0

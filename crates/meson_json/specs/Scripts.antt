@@ -2,16 +2,21 @@
 use Rattle.std.specs.Prelude.{ℕ, ◌+◌, Bool, false, ◌&&◌, List, [], ◌∷◌, bytes_eq, codes, is_some, nat_lt, if◌then◌else◌, Option, Some, None, ok_or, option_and_then, option_map, Result, Ok, Err}
 use Rattle.serde_json.specs.Data.{Data, array, string, Items, no_items, item, Members, no_members}
 use Rattle.serde_json.specs.Events.{items_len}
-use Rattle.serde_json.specs.Find.{get, as_array, as_bool, as_object, as_str}
+use Rattle.serde_json.specs.Find.{get, as_array, as_bool, as_number, as_object, as_str, as_u64}
 use Rattle.meson_splice.specs.Patch.{then_ok}
+use Rattle.meson_statements.specs.CodeTexts.{statement_code}
 use Rattle.meson_json.specs.Arguments.{command_to, keys_in, keys_left_out, place_named}
+use Rattle.meson_json.specs.Codes.{blank_within}
 use Rattle.meson_json.specs.Each.{each_of, each_member, names_of_members}
 use Rattle.meson_json.specs.Known.{unknown_in}
 use Rattle.meson_json.specs.Members.{member_text}
-use Rattle.meson_json.specs.Operations.{argument_operation, entry_type, target_operation, kwargs_operation, options_operation, role_of}
+use Rattle.meson_json.specs.Operations.{argument_operation, code_operation, entry_type, target_operation, kwargs_operation, options_operation, role_of}
 use Rattle.meson_json.specs.Settings.{given_value, setting_of, option_value}
 use Rattle.meson_json.specs.Targets.{renaming_of, target_command}
+use Rattle.meson_steps.specs.declared.argument.Search.{Search}
 use Rattle.meson_steps.specs.declared.argument.ValueName.{ValueName}
+use Rattle.meson_steps.specs.declared.command.CodePlace.{CodePlace}
+use Rattle.meson_steps.specs.declared.command.CodePlace.TheVariants as place
 use Rattle.meson_steps.specs.declared.command.Command.{Command}
 use Rattle.meson_steps.specs.declared.command.Command.TheVariants as command
 use Rattle.meson_steps.specs.declared.given.Given.{Given}
@@ -26,6 +31,8 @@ use Rattle.meson_json.specs.declared.member_check.UnknownMembers.{UnknownMembers
 use Rattle.meson_json.specs.declared.member_check.UnknownMembers.TheVariants.{Ignored, Refused}
 use Rattle.meson_json.specs.declared.names.ArgumentOperation.{ArgumentOperation}
 use Rattle.meson_json.specs.declared.names.ArgumentOperation.TheVariants as argument
+use Rattle.meson_json.specs.declared.names.CodeOperation.{CodeOperation}
+use Rattle.meson_json.specs.declared.names.CodeOperation.TheVariants as code
 use Rattle.meson_json.specs.declared.names.EntryType.{EntryType}
 use Rattle.meson_json.specs.declared.names.EntryType.TheVariants as entry
 use Rattle.meson_json.specs.declared.names.KwargsOperation.{KwargsOperation}
@@ -197,6 +204,42 @@ argument_entry i d =
     then_ok (ok_or (argument_operation word) (UnknownOperation i)) (λ operation.
     then_ok (value_name i operation d) (λ name. value_command i operation name d)))
 
+-- ---- entries of type `code`
+
+-- the statement that is searched for
+unfoldable pub search_at : ℕ → Data → Result Search ScriptFault
+search_at i d =
+    then_ok (required_text i (codes "function") d) (λ function.
+    then_ok (required_text i (codes "id") d) (λ id.
+    then_ok (ok_or (place_named function id) (BadField i (codes "id"))) (λ name.
+    then_ok (folder_at i d) (λ folder. Ok (record { name = name; folder = folder })))))
+
+-- beside that statement, or at the end of a file
+abbrev pub code_place : ℕ → CodeOperation → Data → Result CodePlace ScriptFault
+code_place i code.After d = then_ok (search_at i d) (λ search. Ok (place.Below search))
+code_place i code.Before d = then_ok (search_at i d) (λ search. Ok (place.Above search))
+code_place i code.Append d = then_ok (required_text i (codes "file") d) (λ file. Ok (place.End file))
+
+-- one statement of the grammar or more
+abbrev pub code_at : ℕ → Data → Result (List ℕ) ScriptFault
+code_at i d = then_ok (required_text i (codes "code") d) (λ text. ok_or (statement_code text) (BadField i (codes "code")))
+
+-- the number of blank lines, if one is given
+abbrev pub blank_lines : Data → Option ℕ
+blank_lines d = option_and_then blank_within (option_and_then as_u64 (as_number d))
+
+abbrev pub blank_at : ℕ → Data → Result (Option ℕ) ScriptFault
+blank_at i d = given (λ v. option_map Some (blank_lines v)) i (codes "blank") None (get (codes "blank") d)
+
+unfoldable pub code_entry : ℕ → Data → Result Command ScriptFault
+code_entry i d =
+    then_ok (required_text i (codes "operation") d) (λ word.
+    then_ok (ok_or (code_operation word) (UnknownOperation i)) (λ operation.
+    then_ok (code_place i operation d) (λ place.
+    then_ok (code_at i d) (λ text.
+    then_ok (blank_at i d) (λ blank.
+    Ok (command.CodeInsert place text blank))))))
+
 -- ---- entries and scripts
 
 abbrev pub entry_command : ℕ → Data → EntryType → Result Command ScriptFault
@@ -204,6 +247,7 @@ entry_command i d entry.Target = target_entry i d
 entry_command i d entry.Kwargs = kwargs_entry i d
 entry_command i d entry.DefaultOptions = options_entry i d
 entry_command i d entry.Argument = argument_entry i d
+entry_command i d entry.Code = code_entry i d
 
 -- the command of entry i
 unfoldable pub entry_of : ℕ → Data → Result Command ScriptFault

@@ -6,6 +6,7 @@ ghost use Rattle.meson_json.specs.Operations.{kwargs_operation};
 ghost use Rattle.meson_json.specs.Scripts.{entry_of, kwargs_asked, kwargs_command, kwargs_entry, options_command, options_entry, rename_entry, role_at, target_entry, target_folder, target_members, target_sorted};
 ghost use Rattle.meson_json.specs.declared.fault.ScriptFault.TheVariants.{OutOfMemory};
 
+use crate::code_entry::code_entry;
 use crate::fault::ScriptFault;
 use crate::members::{
     bad_field, flag_at, folder_at, members_or, names, option_texts, required_text, settings,
@@ -243,6 +244,7 @@ pub(crate) fn entry_command(
         Some(EntryType::Kwargs) => kwargs_entry(alloc, index, entry),
         Some(EntryType::DefaultOptions) => options_entry(alloc, index, entry),
         Some(EntryType::Argument) => argument_entry(alloc, index, entry),
+        Some(EntryType::Code) => code_entry(alloc, index, entry),
         None => Err(ScriptFault::UnknownType(index)),
     }
 }

@@ -4,6 +4,7 @@
 pub mod argument;
 mod choices;
 pub mod code;
+mod code_entry;
 pub mod count;
 mod entry;
 mod fault;

@@ -4,7 +4,7 @@ ghost use Rattle.std.specs.Prelude.{◌≡◌, ◌≢◌, Err, IfErr, IfOk, Ok, 
 ghost use Rattle.std.specs.List.{list_any};
 ghost use Rattle.serde_json.specs.Find.{as_object};
 ghost use Rattle.serde_json.specs.View.{view};
-ghost use Rattle.meson_json.specs.Known.{is_known, unknown_in, value_members};
+ghost use Rattle.meson_json.specs.Known.{code_members, is_known, unknown_in, value_members};
 ghost use Rattle.meson_json.specs.Scripts.{entry_by};
 ghost use Rattle.meson_json.specs.declared.fault.ScriptFault.TheVariants.{OutOfMemory};
 
@@ -12,7 +12,7 @@ use crate::entry::entry_command;
 use crate::fault::ScriptFault;
 use crate::members::owned;
 use meson_steps::argument::ValueChange;
-use meson_steps::command::Command;
+use meson_steps::command::{CodePlace, Command};
 use serde_json::Value;
 use std::alloc::Global;
 
@@ -40,6 +40,21 @@ fn is_known_of_value(change: &ValueChange, name: &str) -> bool
         ValueChange::Add(_) | ValueChange::AddSorted(_) => name == "values" || name == "sorted",
         ValueChange::AddAfter { .. } => name == "values" || name == "after" || name == "sorted",
         ValueChange::Delete => false,
+    }
+}
+
+/// Whether a member has an effect on an insertion of code.
+fn is_known_of_code(place: &CodePlace, name: &str) -> bool
+    ensures { result ≡ list_any (bytes_eq name.now) (code_members place.now) }
+{
+    if name == "code" || name == "blank" {
+        return true;
+    }
+    match place {
+        CodePlace::Above(_) | CodePlace::Below(_) => {
+            name == "function" || name == "id" || name == "in"
+        }
+        CodePlace::End(_) => name == "file",
     }
 }
 
@@ -73,14 +88,7 @@ fn is_known(command: &Command, name: &str) -> bool
         Command::KwargsInfo { .. } => name == "function" || name == "id" || name == "in",
         Command::OptionsSet { .. } | Command::OptionsDelete { .. } => name == "options",
         Command::Argument { change, .. } => is_known_of_value(change, name),
-        Command::CodeInsert { .. } => {
-            name == "function"
-                || name == "id"
-                || name == "file"
-                || name == "code"
-                || name == "blank"
-                || name == "in"
-        }
+        Command::CodeInsert { place, .. } => is_known_of_code(place, name),
         Command::ArgumentInfo { .. } => {
             name == "function" || name == "id" || name == "key" || name == "in"
         }

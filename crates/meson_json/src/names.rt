@@ -13,6 +13,7 @@ pub(crate) enum EntryType {
     Kwargs,
     DefaultOptions,
     Argument,
+    Code,
 }
 
 /// What is done to the keyword arguments of a call.
@@ -64,6 +65,8 @@ pub(crate) fn find_type(name: &str) -> Option<EntryType>
         Some(EntryType::DefaultOptions)
     } else if name == "arg" {
         Some(EntryType::Argument)
+    } else if name == "code" {
+        Some(EntryType::Code)
     } else {
         None
     }

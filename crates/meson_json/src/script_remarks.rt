@@ -15,7 +15,7 @@ const MOST_SHOWN: usize = 60;
 const TYPES: Choice = Choice {
     of: "a script",
     what: "types",
-    words: &["target", "kwargs", "default_options", "arg"],
+    words: &["target", "kwargs", "default_options", "arg", "code"],
 };
 
 const TARGET_OPERATIONS: Choice = Choice {
@@ -51,6 +51,12 @@ const VALUE_OPERATIONS: Choice = Choice {
     words: &["set", "add", "remove", "replace", "delete"],
 };
 
+const CODE_OPERATIONS: Choice = Choice {
+    of: "code",
+    what: "operations",
+    words: &["after", "before", "append"],
+};
+
 /// The members that an operation uses, by the names of its type and of itself.
 fn members_of(entry_type: &str, operation: &str) -> Choice {
     let words: &'static [&'static str] = match (entry_type, operation) {
@@ -84,6 +90,8 @@ fn members_of(entry_type: &str, operation: &str) -> Choice {
             ]
         }
         ("arg", _) => { &["type", "operation", "function", "id", "key", "values", "in"] }
+        ("code", "append") => &["type", "operation", "file", "code", "blank"],
+        ("code", _) => { &["type", "operation", "function", "id", "code", "blank", "in"] }
         _ => &["type", "operation", "options"],
     };
     Choice {
@@ -119,10 +127,23 @@ fn argument_of(operation: &str, member: &str) -> &'static str {
     }
 }
 
+/// What a member of an insertion of code takes.
+fn insertion_of(member: &str) -> &'static str {
+    match member {
+        "id" => "a text; of at it is the name of a file, a colon and a line",
+        "code" => "a text of one statement or more",
+        "blank" => "a whole number from 0 to 100",
+        _ => "a text",
+    }
+}
+
 /// What a member takes.
 fn value_of(entry: &Value, member: &str) -> &'static str {
     if text_at(entry, "type").unwrap_or("") == "arg" {
         return argument_of(text_at(entry, "operation").unwrap_or(""), member);
+    }
+    if text_at(entry, "type").unwrap_or("") == "code" {
+        return insertion_of(member);
     }
     match member {
         "sources" if text_at(entry, "operation") == Some("rename") => {
@@ -177,6 +198,7 @@ fn explain_operation(
         }
         "kwargs" => KWARGS_OPERATIONS.refuse(alloc, remarks, operation, None),
         "arg" => VALUE_OPERATIONS.refuse(alloc, remarks, operation, None),
+        "code" => CODE_OPERATIONS.refuse(alloc, remarks, operation, None),
         _ => {
             let meant = if operation == "unset" {
                 Some("delete")

@@ -32,7 +32,12 @@ fn keys_of(alloc: Global, value: &Value) -> Result<Option<Many<Text>>, AllocErro
 }
 
 /// The place of an entry.
-fn place_at(alloc: Global, index: usize, function: &str, id: &str) -> Result<PlaceName, ScriptFault>
+pub(crate) fn place_at(
+    alloc: Global,
+    index: usize,
+    function: &str,
+    id: &str,
+) -> Result<PlaceName, ScriptFault>
     ensures ok { IfOk result (λ p. ok_or (place_named function.now id.now) (BadField index (codes "id")) ≡ Ok p) }
     ensures refused { IfErr result (λ e. e ≢ OutOfMemory → ok_or (place_named function.now id.now) (BadField index (codes "id")) ≡ Err e) }
 {
