@@ -1,5 +1,5 @@
 -- Words of `arg` mean the command of an entry.
-use Rattle.std.proofs.Common.{◌≡◌, ◌∙◌, ◌∷◌, ◌&&◌, ℕ, Bool, true, false, List, [], Option, Some, None, Result, Ok, Err, bytes_eq, codes, refl, sym, ap, ap₂, subst}
+use Rattle.std.proofs.Common.{◌≡◌, ◌∙◌, ◌∷◌, ◌&&◌, ℕ, Bool, true, false, List, [], Option, Some, None, Result, Ok, Err, bytes_eq, codes, refl, ap, ap₂, subst}
 use Rattle.std.specs.Prelude.{if◌then◌else◌, is_some, ok_or, option_and_then, option_map, unwrap_or}
 use Rattle.clap.specs.Words.{Row, Text, first_of}
 use Rattle.serde_json.specs.Data.{Data, array}

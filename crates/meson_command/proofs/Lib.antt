@@ -5,6 +5,9 @@ pub mod HelpAlone
 pub mod Taken
 pub mod ValuesMeant
 pub mod WordsInPairs
+pub mod CodeRequests
+pub mod CodeRows
+pub mod CodeUsages
 pub mod Usages
 pub mod FitTexts
 pub mod LaterWords

@@ -6,17 +6,19 @@ use Rattle.meson_calls.specs.declared.call.Role.{Role}
 use Rattle.meson_splice.specs.Patch.{then_ok}
 use Rattle.meson_command.specs.Actions.{action_of, count_in, kwargs_action, history_by, kwargs_by, has_flag, list_by, list_with, misplaces_sorted, options_action, options_by, is_json, other_action, rename_action, script_action, target_action, target_by, target_words, undo_of, unknown_members, word_at, words_at}
 use Rattle.meson_command.specs.Arguments.{action_within, argument_action, command_meant, requested, value_named}
+use Rattle.meson_statements.specs.CodeTexts.{statement_code}
+use Rattle.meson_command.specs.Codes.{blank_in, code_action, code_word, place_meant}
 use Rattle.meson_command.specs.Asking.{asked_from, is_dry, names_no_folder, texts_fit, title_in, with_texts, with_title, without_help_text, without_text}
 use Rattle.meson_command.specs.declared.asked.Action.{Action}
 use Rattle.meson_command.specs.declared.asked.Action.TheVariants as action
 use Rattle.meson_command.specs.declared.asked.Action.TheVariants.{Run, Info, ScriptText, ScriptFile, Undo, UndoTo, UndoChecked, Redo, History, ForgetOldest, ForgetAll, Sums, Help, Version}
 use Rattle.meson_command.specs.declared.asked.Asked.{Asked}
 use Rattle.meson_json.specs.Titles.{is_title}
-use Rattle.meson_json.specs.Operations.{argument_operation, kwargs_operation, role_of}
+use Rattle.meson_json.specs.Operations.{argument_operation, code_operation, kwargs_operation, role_of}
 use Rattle.meson_json.specs.Counts.{count_of}
 use Rattle.meson_command.specs.Operations.{options_word}
 use Rattle.meson_command.specs.Pairs.{lone_names, pairs_of}
-use Rattle.meson_command.specs.declared.fault.UsageFault.TheVariants.{Usage, BadTitle}
+use Rattle.meson_command.specs.declared.fault.UsageFault.TheVariants.{Usage, BadTitle, NotCode}
 use Rattle.meson_json.specs.declared.member_check.UnknownMembers.{UnknownMembers}
 use Rattle.meson_steps.specs.declared.command.Command.{Command}
 use Rattle.meson_json.specs.declared.names.ArgumentOperation.{ArgumentOperation}
@@ -166,10 +168,21 @@ argument-plain folder rows =
     after (ok_or (value_named folder operation rows) Usage) _ (λ name.
     after (command_meant operation name (first_of (codes "ELEMENT") rows) (has_flag (codes "sorted") rows) (words_at (codes "VALUE") rows)) _ (λ c. ok _ (requested-plain operation c))))
 
+code-plain : (folder : Option Text) (rows : List Row) → Answers IsPlain (code_action folder rows)
+unfolding code_action
+code-plain folder rows =
+    after (ok_or (code_operation (word_at (codes "OPERATION") rows)) Usage) _ (λ operation.
+    after (ok_or (code_word operation rows) Usage) _ (λ word.
+    after (ok_or (place_meant folder operation rows) Usage) _ (λ place.
+    after (blank_in (first_of (codes "N") rows)) _ (λ blank.
+    after (ok_or (statement_code word) NotCode) _ (λ code. ok _ tt)))))
+
 within-plain : (folder : Option Text) (name : Text) (rows : List Row) → Answers IsPlain (action_within folder name rows)
 unfolding action_within
 within-plain folder name rows =
-    either (bytes_eq name (codes "arg")) _ _ (argument-plain folder rows) (either (is_some folder && not (takes_folder name rows)) _ _ (err Usage) (action-plain folder name rows))
+    either (bytes_eq name (codes "arg")) _ _ (argument-plain folder rows)
+    (either (is_some folder && not (takes_folder name rows)) _ _ (err Usage)
+    (either (bytes_eq name (codes "code")) _ _ (code-plain folder rows) (action-plain folder name rows)))
 
 titled : (rows : List Row) (a : Action) → IsPlain a → Answers (λ x. IsPlain x.action) (with_title rows a)
 titled rows a plain = either (is_title (title_in rows)) _ _ (ok _ plain) (err BadTitle)

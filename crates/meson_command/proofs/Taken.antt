@@ -14,7 +14,7 @@ use Rattle.clap.specs.declared.error.kind.ErrorKind.TheVariants as kind
 use Rattle.clap.specs.declared.error.kind.ErrorKind.TheVariants.{DisplayHelp, DisplayVersion, OutOfMemory}
 use Rattle.meson_json.specs.Titles.{is_title}
 use Rattle.meson_command.specs.Asking.{answer, answer_by, asked_from, asked_of, flags_in, help, is_dry, names_no_folder, texts_fit, title_in, version}
-use Rattle.meson_command.specs.Program.{argument, command, default_options, history, kwargs, list, program, redo, target, undo}
+use Rattle.meson_command.specs.Program.{argument, code, command, default_options, history, kwargs, list, program, redo, target, undo}
 use Rattle.meson_command.proofs.HelpAlone.{Clean, clean}
 use Rattle.meson_command.specs.declared.asked.Action.{Action}
 use Rattle.meson_command.specs.declared.asked.Action.TheVariants.{Help, Version}
@@ -24,11 +24,11 @@ use Rattle.meson_command.specs.declared.fault.UsageFault.{UsageFault}
 use Rattle.meson_command.specs.declared.fault.UsageFault.TheVariants.{Usage, BadTitle}
 
 program_is_simple : is_simple program ≡ true
-unfolding program target kwargs argument default_options command undo redo history list
+unfolding program target kwargs argument code default_options command undo redo history list
 program_is_simple = refl
 
 pub program_is_free : is_simple_and_free program ≡ true
-unfolding program target kwargs argument default_options command undo redo history list
+unfolding program target kwargs argument code default_options command undo redo history list
 program_is_free = refl
 
 pub rows-of : (a : App) (ws : List Text) (m : ArgMatches) → a ≡ program → HasMatchesOf a ws m → rows_of (found_of m) ≡ matches_of program ws
@@ -84,7 +84,7 @@ within f g name inner r is e = sym (ap (λ (folder : Option Text). action_within
 -- ---- the kinds of fault of the program's words
 
 pub help_alone : (ws : List Text) → Clean (fault_of program ws)
-unfolding program target kwargs argument default_options command undo redo history list
+unfolding program target kwargs argument code default_options command undo redo history list
 help_alone ws = clean (built program) refl refl nothing_held (argument_words program ws)
 
 pub kinds_at : (a : App) (ws : List Text) (P : Kinds → Type 0) → a ≡ program → (is_simple_and_free a ≡ true → P (fault_of a ws)) → P (fault_of program ws)

@@ -16,6 +16,8 @@ use Rattle.meson_calls.specs.declared.call.Role.{Role}
 use Rattle.meson_splice.specs.Patch.{then_ok}
 use Rattle.meson_command.specs.Actions.{action_of, count_in, has_flag, history_by, kwargs_action, kwargs_by, list_by, list_with, listing_of, misplaces_sorted, options_action, options_by, other_action, target_action, undo_of, word_at, words_at, rename_action, target_by, target_words}
 use Rattle.meson_command.specs.Arguments.{after_meant, action_within, argument_action, command_meant, keys_meant, requested, value_named, values_meant}
+use Rattle.meson_command.specs.Codes.{code_action}
+use Rattle.meson_command.proofs.CodeUsages.{code-unknown}
 use Rattle.meson_command.specs.Asking.{answer, asked_from, asked_of, help, is_dry, names_no_folder, texts_fit, title_in, version, with_texts, with_title}
 use Rattle.meson_json.specs.Counts.{count_of}
 use Rattle.meson_command.specs.Laws.{FolderIsMisused, HelpWhereAsked, IsNoArgument, IsNoCount, IsNoTarget, IsUnknown, TextsAreMisused, UsageMeansUnknown, VersionWhereAsked}
@@ -33,7 +35,7 @@ use Rattle.meson_steps.specs.declared.command.Command.TheVariants as commands
 use Rattle.meson_steps.specs.declared.given.Given.{Given}
 use Rattle.meson_command.specs.Operations.{operation_of_word, options_word}
 use Rattle.meson_command.specs.Pairs.{in_pairs, lone_names, pair_names, pairs_of, repeats}
-use Rattle.meson_command.specs.Program.{argument, command, default_options, history, kwargs, list, program, redo, target, undo}
+use Rattle.meson_command.specs.Program.{argument, code, command, default_options, history, kwargs, list, program, redo, target, undo}
 use Rattle.meson_command.specs.declared.asked.Action.{Action}
 use Rattle.meson_command.specs.declared.asked.Asked.{Asked}
 use Rattle.meson_command.specs.declared.fault.UsageFault.{UsageFault}
@@ -94,12 +96,12 @@ level-some s pair_names h words has below needs e =
 
 -- where clap takes the words, there is a subcommand
 entered_one : (words : List Text) → fault_of program words ≡ [] → is_some (subcommand_of program words) ≡ true
-unfolding program target kwargs argument default_options command undo redo history list
+unfolding program target kwargs argument code default_options command undo redo history list
 entered_one words e =
     let stop = (walk (built program).top.rules (names_of (built program)) nothing_held (argument_words program words)).stopped in
     level-some (built program).top (names_of (built program)) nothing_held (argument_words program words) (is_some (entered (built program) stop)) (entered_fault (built program) stop) refl e
 
--- ---- it is one of the nine
+-- ---- it is one of the ten
 
 or_true : (b : Bool) → (b || true) ≡ true
 or_true true = refl
@@ -126,10 +128,10 @@ is_other name = bytes_eq name (codes "default-options") || (bytes_eq name (codes
     || (bytes_eq name (codes "redo") || (bytes_eq name (codes "history") || (bytes_eq name (codes "list") || false)))))
 
 abbrev is_known : Text → Bool
-is_known name = bytes_eq name (codes "target") || (bytes_eq name (codes "kwargs") || (bytes_eq name (codes "arg") || is_other name))
+is_known name = bytes_eq name (codes "target") || (bytes_eq name (codes "kwargs") || (bytes_eq name (codes "arg") || (bytes_eq name (codes "code") || is_other name)))
 
 known : (words : List Text) (name : Text) (rows : List Row) → subcommand_of program words ≡ Some (name, rows) → is_known name ≡ true
-unfolding program target kwargs argument default_options command undo redo history list
+unfolding program target kwargs argument code default_options command undo redo history list
 known words name rows e =
     entered-name (built program) (walk (built program).top.rules (names_of (built program)) nothing_held (argument_words program words)).stopped name rows e
 
@@ -291,7 +293,7 @@ target-unknown folder rows e = by_sorted (misplaces_sorted rows) refl e
         inr (inr (both.0, another (word_at (codes "OPERATION") rows) (codes "add") both.1))
     by_sorted false is e = by_word (bytes_eq (word_at (codes "OPERATION") rows) (codes "rename")) refl e
 
--- of another subcommand than `arg`
+-- of another subcommand than `arg` and `code`
 unknown : (folder : Option Text) (name : Text) (rows : List Row) → (bytes_eq name (codes "target") || (bytes_eq name (codes "kwargs") || is_other name)) ≡ true
     → action_of folder name rows ≡ Err Usage → IsUnknown name rows
 unfolding action_of other_action
@@ -379,17 +381,29 @@ without false false false rest is h = h
 abbrev WrongWithin : Option Text → Text → List Row → Type 0
 WrongWithin folder name rows = IsUnknown name rows ⊎ ((is_some folder ≡ true) × (takes_folder name rows ≡ false) × (name ≢ codes "arg"))
 
+by_code : (folder : Option Text) (name : Text) (rows : List Row)
+    → (bytes_eq name (codes "target") || (bytes_eq name (codes "kwargs") || (bytes_eq name (codes "code") || is_other name))) ≡ true
+    → (b : Bool) → bytes_eq name (codes "code") ≡ b → (if b then code_action folder rows else action_of folder name rows) ≡ Err Usage → IsUnknown name rows
+by_code folder name rows k true is e = inr (inr (inr (inr (inr (inr (inr (named _ _ is, code-unknown folder rows e)))))))
+by_code folder name rows k false is e =
+    unknown folder name rows (without (bytes_eq name (codes "target")) (bytes_eq name (codes "kwargs")) (bytes_eq name (codes "code")) (is_other name) is k) e
+
+not-argument : (name : Text) → bytes_eq name (codes "arg") ≡ false → is_known name ≡ true
+    → (bytes_eq name (codes "target") || (bytes_eq name (codes "kwargs") || (bytes_eq name (codes "code") || is_other name))) ≡ true
+not-argument name other k =
+    without (bytes_eq name (codes "target")) (bytes_eq name (codes "kwargs")) (bytes_eq name (codes "arg")) (bytes_eq name (codes "code") || is_other name) other k
+
 by_place : (folder : Option Text) (name : Text) (rows : List Row) → bytes_eq name (codes "arg") ≡ false → is_known name ≡ true → (b t : Bool) → is_some folder ≡ b → takes_folder name rows ≡ t
-    → (if b && not t then Err Usage else action_of folder name rows) ≡ Err Usage → WrongWithin folder name rows
+    → (if b && not t then Err Usage else (if bytes_eq name (codes "code") then code_action folder rows else action_of folder name rows)) ≡ Err Usage
+    → WrongWithin folder name rows
 by_place folder name rows other k true false is takes e = inr (is, takes, another name (codes "arg") other)
-by_place folder name rows other k true true is takes e =
-    inl (unknown folder name rows (without (bytes_eq name (codes "target")) (bytes_eq name (codes "kwargs")) (bytes_eq name (codes "arg")) (is_other name) other k) e)
-by_place folder name rows other k false t is takes e =
-    inl (unknown folder name rows (without (bytes_eq name (codes "target")) (bytes_eq name (codes "kwargs")) (bytes_eq name (codes "arg")) (is_other name) other k) e)
+by_place folder name rows other k true true is takes e = inl (by_code folder name rows (not-argument name other k) (bytes_eq name (codes "code")) refl e)
+by_place folder name rows other k false t is takes e = inl (by_code folder name rows (not-argument name other k) (bytes_eq name (codes "code")) refl e)
 
 by_subcommand : (folder : Option Text) (name : Text) (rows : List Row) → is_known name ≡ true → (b : Bool) → bytes_eq name (codes "arg") ≡ b
-    → (if b then argument_action folder rows else (if is_some folder && not (takes_folder name rows) then Err Usage else action_of folder name rows)) ≡ Err Usage → WrongWithin folder name rows
-by_subcommand folder name rows k true is e = inl (inr (inr (inr (inr (inr (inr (named _ _ is, argument-unknown folder rows e)))))))
+    → (if b then argument_action folder rows else (if is_some folder && not (takes_folder name rows) then Err Usage
+    else (if bytes_eq name (codes "code") then code_action folder rows else action_of folder name rows))) ≡ Err Usage → WrongWithin folder name rows
+by_subcommand folder name rows k true is e = inl (inr (inr (inr (inr (inr (inr (inl (named _ _ is, argument-unknown folder rows e))))))))
 by_subcommand folder name rows k false is e = by_place folder name rows is k (is_some folder) (takes_folder name rows) refl refl e
 
 within : (folder : Option Text) (name : Text) (rows : List Row) → is_known name ≡ true → action_within folder name rows ≡ Err Usage → WrongWithin folder name rows

@@ -7,12 +7,15 @@ use Rattle.meson_steps.specs.declared.argument.ValueName.{ValueName}
 use Rattle.meson_steps.specs.declared.command.Command.{Command}
 use Rattle.meson_steps.specs.declared.given.Given.{Given}
 use Rattle.meson_json.specs.Arguments.{command_to, keys_in, keys_left_out, place_named}
-use Rattle.meson_json.specs.Operations.{argument_operation}
+use Rattle.meson_json.specs.Operations.{argument_operation, code_operation}
 use Rattle.meson_json.specs.declared.names.ArgumentOperation.{ArgumentOperation}
 use Rattle.meson_json.specs.declared.names.ArgumentOperation.TheVariants as operation
+use Rattle.meson_json.specs.declared.names.CodeOperation.{CodeOperation}
+use Rattle.meson_json.specs.declared.names.CodeOperation.TheVariants as insertion
 use Rattle.meson_command.specs.Actions.{action_of, has_flag, run, word_at, words_at}
 use Rattle.meson_json.specs.declared.target.TargetOperation.{TargetOperation}
 use Rattle.meson_json.specs.declared.target.TargetOperation.TheVariants as target
+use Rattle.meson_command.specs.Codes.{code_action}
 use Rattle.meson_command.specs.Operations.{operation_of_word}
 use Rattle.meson_command.specs.declared.asked.Action.{Action}
 use Rattle.meson_command.specs.declared.asked.Action.TheVariants.{Info}
@@ -68,13 +71,21 @@ abbrev pub is_addition : Option TargetOperation → Bool
 is_addition (Some target.TargetAdd) = true
 is_addition _ = false
 
--- `kwargs` takes a folder, and so do the operations on a target that is there
+abbrev pub is_append : Option CodeOperation → Bool
+is_append (Some insertion.Append) = true
+is_append _ = false
+
+-- `kwargs` takes a folder, and so do the operations on a target that is there and the insertions beside a statement
 abbrev pub takes_folder : Text → List Row → Bool
 takes_folder subcommand rows =
-    bytes_eq subcommand (codes "kwargs") || (bytes_eq subcommand (codes "target") && not (is_addition (operation_of_word (word_at (codes "OPERATION") rows))))
+    bytes_eq subcommand (codes "kwargs")
+    || ((bytes_eq subcommand (codes "target") && not (is_addition (operation_of_word (word_at (codes "OPERATION") rows))))
+    || (bytes_eq subcommand (codes "code") && not (is_append (code_operation (word_at (codes "OPERATION") rows)))))
 
 -- a folder is named only for these and for `arg`
 unfoldable pub action_within : Option Text → Text → List Row → Result Action UsageFault
 action_within folder subcommand rows =
     if bytes_eq subcommand (codes "arg") then argument_action folder rows
-    else (if is_some folder && not (takes_folder subcommand rows) then Err Usage else action_of folder subcommand rows)
+    else (if is_some folder && not (takes_folder subcommand rows) then Err Usage
+    else (if bytes_eq subcommand (codes "code") then code_action folder rows
+    else action_of folder subcommand rows))

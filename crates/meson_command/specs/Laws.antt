@@ -5,10 +5,14 @@ use Rattle.clap.specs.Words.{Row, Text, fault_of, first_of, matches_of, subcomma
 use Rattle.clap.specs.declared.error.kind.ErrorKind.TheVariants.{DisplayHelp, DisplayVersion}
 use Rattle.meson_command.specs.Actions.{has_flag, options_by, word_at, words_at}
 use Rattle.meson_command.specs.Arguments.{action_within, after_meant, takes_folder, values_meant}
+use Rattle.meson_command.specs.Codes.{code_word}
 use Rattle.meson_command.specs.Asking.{asked_by, help, is_dry, names_no_folder, only_asks, only_shows, texts_fit, version, wants_json}
 use Rattle.meson_json.specs.Arguments.{change_to, keys_left_out, place_named}
-use Rattle.meson_json.specs.Operations.{argument_operation, kwargs_operation, role_of}
+use Rattle.meson_json.specs.Codes.{blank_of}
+use Rattle.meson_json.specs.Operations.{argument_operation, code_operation, kwargs_operation, role_of}
 use Rattle.meson_json.specs.declared.names.ArgumentOperation.{ArgumentOperation}
+use Rattle.meson_json.specs.declared.names.CodeOperation.{CodeOperation}
+use Rattle.meson_json.specs.declared.names.CodeOperation.TheVariants as insertion
 use Rattle.meson_steps.specs.declared.given.Given.{Given}
 use Rattle.meson_json.specs.Counts.{count_of}
 use Rattle.meson_command.specs.Operations.{operation_of_word, options_word}
@@ -98,7 +102,18 @@ IsNoTarget rows =
     ((word_at (codes "OPERATION") rows ≢ codes "rename") × (operation_of_word (word_at (codes "OPERATION") rows) ≡ None))
     ⊎ (((word_at (codes "OPERATION") rows ≡ codes "rename") × (length (words_at (codes "SOURCE") rows) ≢ 2)) ⊎ MisplacesSorted rows)
 
--- the subcommand's operation, function, id or number is not valid, `rename` has not two names, `--sorted` is given with another one than `add`, the key of `arg` is missing, its values are not as many as it takes, or two listings are requested or one of a function without a name
+-- the operation of `code` is unknown, its words are too few or too many, its function and id name no place, or the word of `--blank` is not a number that it
+-- takes
+abbrev pub IsNoInsertion : List Row → Type 0
+IsNoInsertion rows =
+    (code_operation (word_at (codes "OPERATION") rows) ≡ None)
+    ⊎ (((operation : CodeOperation) × (code_operation (word_at (codes "OPERATION") rows) ≡ Some operation) × (code_word operation rows ≡ None))
+    ⊎ (((code_operation (word_at (codes "OPERATION") rows) ≢ Some insertion.Append)
+    × (place_named (word_at (codes "FUNCTION|FILE") rows) (word_at (codes "ID|CODE") rows) ≡ None))
+    ⊎ ((word : Text) × (first_of (codes "N") rows ≡ Some word) × (blank_of word ≡ None))))
+
+-- the subcommand's operation, function, id or number is not valid, `rename` has not two names, `--sorted` is given with another one than `add`, the key of `arg`
+-- is missing, its values or the words of `code` are not as many as it takes, or two listings are requested or one of a function without a name
 abbrev pub IsUnknown : Text → List Row → Type 0
 IsUnknown subcommand rows =
     ((subcommand ≡ codes "target") × IsNoTarget rows)
@@ -107,7 +122,8 @@ IsUnknown subcommand rows =
     ⊎ (((subcommand ≡ codes "undo") × ((word : Text) × IsNoCount (first_of (codes "N") rows) word))
     ⊎ (((subcommand ≡ codes "history") × ((word : Text) × (word ≢ codes "all") × IsNoCount (first_of (codes "N") rows) word))
     ⊎ (((subcommand ≡ codes "list") × (AsksForTwo rows ⊎ NamesNoFunction rows))
-    ⊎ ((subcommand ≡ codes "arg") × IsNoArgument rows))))))
+    ⊎ (((subcommand ≡ codes "arg") × IsNoArgument rows)
+    ⊎ ((subcommand ≡ codes "code") × IsNoInsertion rows)))))))
 
 -- a folder is named for words that take none
 abbrev pub FolderIsMisused : List Row → Text → List Row → Type 0

@@ -2,10 +2,12 @@ pub mod Program
 pub mod Operations
 pub mod Pairs
 pub mod Actions
+pub mod Codes
 pub mod Arguments
 pub mod Asking
 pub mod Entries
 pub mod Rows
 pub mod RowsOfArguments
+pub mod RowsOfCode
 pub mod Messages
 pub mod Laws

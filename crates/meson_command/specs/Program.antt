@@ -68,6 +68,11 @@ unfoldable pub argument : App
 argument = of_words (new_app (codes "arg")) (required_word (codes "OPERATION") ∷ ending_word (codes "FUNCTION") ∷ required_word (codes "ID")
     ∷ word (codes "KEY") ∷ many (codes "VALUE") ∷ option (codes "ELEMENT") (codes "after") ∷ flag (codes "sorted") (codes "sorted") ∷ help ∷ [])
 
+-- code OPERATION [--blank N] FUNCTION|FILE ID|CODE [CODE]
+unfoldable pub code : App
+code = of_words (new_app (codes "code")) (required_word (codes "OPERATION") ∷ ending_word (codes "FUNCTION|FILE") ∷ required_word (codes "ID|CODE")
+    ∷ word (codes "CODE") ∷ option (codes "N") (codes "blank") ∷ help ∷ [])
+
 -- default-options OPERATION [OPTION VALUE]...
 unfoldable pub default_options : App
 default_options =
@@ -110,7 +115,7 @@ own_words =
 
 -- meson_rewrite [OPTION]... SUBCOMMAND
 unfoldable pub program : App
-program = fold (λ a s. with_subcommand a s.top) own_words (target ∷ kwargs ∷ argument ∷ default_options ∷ command ∷ undo ∷ redo ∷ history ∷ list ∷ [])
+program = fold (λ a s. with_subcommand a s.top) own_words (target ∷ kwargs ∷ argument ∷ code ∷ default_options ∷ command ∷ undo ∷ redo ∷ history ∷ list ∷ [])
 
 -- this is declared to clap, and no word counts for all subcommands at once
 abbrev pub IsToldToClap : App → Command → Type 0

@@ -144,7 +144,11 @@ fn explain_no_key(alloc: Global, remarks: &mut Remarks) -> Result<(), AllocError
 }
 
 /// Explains that the function and the id name no place.
-fn explain_place(alloc: Global, remarks: &mut Remarks, id: &str) -> Result<(), AllocError> {
+pub(crate) fn explain_place(
+    alloc: Global,
+    remarks: &mut Remarks,
+    id: &str,
+) -> Result<(), AllocError> {
     remarks.note(format!(in alloc; "{id} is not FILE:LINE")?)?;
     remarks.help_words(
         alloc,

@@ -10,6 +10,7 @@ ghost use Rattle.meson_command.specs.Program.{program};
 ghost use Rattle.meson_command.specs.declared.fault.UsageFault.TheVariants.{BadTitle, OutOfMemory, Usage};
 
 use crate::argument::argument_action;
+use crate::code::code_action;
 use crate::fault::UsageFault;
 use crate::history::{history_action, list_action, undo_action};
 use crate::kwargs::kwargs_action;
@@ -21,6 +22,7 @@ use crate::target::target_action;
 use crate::words::{is_set, word_or};
 use clap::ArgMatches;
 use clap::error::ErrorKind;
+use meson_json::names::{CodeOperation, find_code_operation};
 use meson_json::target::TargetOperation;
 use meson_json::{Script, UnknownMembers, is_title, owned};
 use meson_splice::Text;
@@ -143,18 +145,21 @@ fn action_of(
     }
 }
 
-/// Whether a folder may be named before `kwargs` and `target`: `kwargs` takes one, and so do the operations on a target that is there.
+/// Whether a folder may be named before another subcommand than `arg`: `kwargs` takes one, and so do the operations on a target that is there and the
+/// insertions beside a statement.
 fn takes_folder(subcommand: &str, matches: &ArgMatches<'_>) -> bool
     ensures { result ≡ takes_folder subcommand.now (rows_of (found_of matches.now)) }
 {
     if subcommand == "kwargs" {
         return true;
     }
-    if subcommand != "target" {
-        return false;
+    let word = word_or(matches, "OPERATION", "");
+    if subcommand == "target" {
+        let operation = find_target_operation(word);
+        return !matches!(operation, Some(TargetOperation::TargetAdd));
     }
-    let operation = find_target_operation(word_or(matches, "OPERATION", ""));
-    !matches!(operation, Some(TargetOperation::TargetAdd))
+    let operation = find_code_operation(word);
+    subcommand == "code" && !matches!(operation, Some(CodeOperation::Append))
 }
 
 /// The request of a subcommand's words, in the folder that is named before it, if it takes one.
@@ -173,6 +178,8 @@ fn action_within(
         argument_action(alloc, folder, matches)
     } else if folder.is_some() && !takes_folder(subcommand, matches) {
         Err(UsageFault::Usage)
+    } else if subcommand == "code" {
+        code_action(alloc, folder, matches)
     } else {
         action_of(alloc, folder, subcommand, matches)
     }
@@ -312,13 +319,13 @@ fn shown(alloc: Global, action: Action) -> Asked
 
 /// The request of the words of a command line, of which the first is the program's name. They are those of the Rewriter page of the Meson manual; `undo`,
 /// `redo`, `history`, `list`, `unset`, `--title`, `--dry-run`, `--json`, `--explain`, `--exit-code`, `--no-log`, `--texts`, `--strict`, `--subdir`,
-/// `--type`, `--sorted`, `arg` and `--in` are this program's own. Values, ids and names are passed on as given.
+/// `--type`, `--sorted`, `arg`, `code` and `--in` are this program's own. Values, ids and names are passed on as given.
 ///
 /// # Errors
 /// The first of these faults, in this order. A word is missing, unknown or one too many, a number or a place is not valid, two listings are requested or one of
 /// a function without a name, the folder is empty, or `--in` goes with words that take no folder. In words that are names with values, the last name has no
 /// value. A name is repeated. The operation is not done here. A value of `arg` is not code. Its values are more or fewer than its operation takes, or
-/// it does not take `--after` or `--sorted`.
+/// it does not take `--after` or `--sorted`. The code of `code` is not statements.
 /// Texts are named for what writes, or standard input would be read twice. The title is not valid. And out of memory, at any time.
 pub fn command_of(alloc: Global, words: &[String]) -> Result<Asked, UsageFault>
     ensures ok { IfOk result (λ a. asked_by (map string_bytes words.now) ≡ Ok (without_text a)) }

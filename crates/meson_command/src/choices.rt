@@ -39,6 +39,13 @@ pub(crate) const ARGUMENT_OPERATIONS: Choice = Choice {
     words: &["set", "add", "remove", "replace", "delete", "info"],
 };
 
+/// The operations of `code`.
+pub(crate) const CODE_OPERATIONS: Choice = Choice {
+    of: "code",
+    what: "operations",
+    words: &["after", "before", "append"],
+};
+
 /// The operations of `default-options`.
 pub(crate) const OPTIONS_OPERATIONS: Choice = Choice {
     of: "default-options",

@@ -2,8 +2,10 @@
 
 use crate::argument_faults::KEY_HELP;
 use crate::choices::{
-    ARGUMENT_OPERATIONS, FUNCTIONS, KWARGS_OPERATIONS, OPTIONS_OPERATIONS, TARGET_OPERATIONS,
+    ARGUMENT_OPERATIONS, CODE_OPERATIONS, FUNCTIONS, KWARGS_OPERATIONS, OPTIONS_OPERATIONS,
+    TARGET_OPERATIONS,
 };
+use crate::code_faults::WORDS_HELP;
 use crate::subcommands::{SUBCOMMANDS, Subcommand};
 use clap::Error;
 use clap::error::ErrorKind;
@@ -48,7 +50,7 @@ fn subcommand_in(words: &[String]) -> Option<Subcommand> {
 /// Whether an option has a value.
 fn takes_value(option: &str) -> bool {
     match option {
-        "--subdir" | "--type" | "--to" | "--check" | "--forget" | "--of" => true,
+        "--subdir" | "--type" | "--to" | "--check" | "--forget" | "--of" | "--blank" => true,
         _ => value_of(option).is_some_and(|value| !value.is_empty()),
     }
 }
@@ -171,6 +173,9 @@ fn help_subcommand(alloc: Global, remarks: &mut Remarks, word: &str) -> Result<(
             "for any value: meson_rewrite arg {word} FUNCTION ID KEY .."
         )?)?;
     }
+    if CODE_OPERATIONS.has(word) {
+        remarks.help(format!(in alloc; "for statements: meson_rewrite code {word} ..")?)?;
+    }
     if OPTIONS_OPERATIONS.has(word) {
         remarks.help(format!(in alloc;
             "for default options: meson_rewrite default-options {word} .."
@@ -200,6 +205,10 @@ fn help_missing(
         Some(Subcommand::Argument) => {
             ARGUMENT_OPERATIONS.list(alloc, remarks)?;
             remarks.help_words(alloc, KEY_HELP)
+        }
+        Some(Subcommand::Code) => {
+            CODE_OPERATIONS.list(alloc, remarks)?;
+            remarks.help_words(alloc, WORDS_HELP)
         }
         Some(Subcommand::DefaultOptions) => OPTIONS_OPERATIONS.list(alloc, remarks),
         _ => Ok(()),

@@ -20,7 +20,7 @@ pub enum UsageFault {
     Unsupported,
     /// The text is not a valid title.
     BadTitle,
-    /// The text after a colon is not one expression.
+    /// The text after a colon is not one expression, or the code of `code` is not statements.
     NotCode,
     /// An allocation failed.
     OutOfMemory,

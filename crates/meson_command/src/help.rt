@@ -27,8 +27,8 @@ Examples:
 pub(crate) const DIR: &str = "Folder of the root file [default: the working folder]";
 
 pub(crate) const IN: &str = "\
-With target, kwargs or arg: search the build file
-of this folder alone";
+With target, kwargs, arg or code: search the build
+file of this folder alone";
 
 pub(crate) const DRY_RUN: &str = "Show the changes as a unified diff, and write nothing";
 
@@ -242,7 +242,8 @@ operation; man meson_rewrite lists their other members:
                    extra_files_rm, target_add, target_rm, info
   kwargs           set, add, remove, delete, info
   default_options  set, delete
-  arg              set, add, delete, info
+  arg              set, add, remove, replace, delete, info
+  code             after, before, append
 
 All commands are done, or none.
 The script is kept as a run even if it only lists (info). --dry-run leaves the

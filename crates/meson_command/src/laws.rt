@@ -5,6 +5,7 @@ ghost use Rattle.meson_command.specs.Laws.{HelpWhereAsked, JsonWhereWanted, OddW
 ghost use Rattle.meson_command.specs.Laws.{TextsWriteNothing};
 ghost use Rattle.meson_command.specs.Rows.{Done, Flagged, Json, Listed, Other, Refused, Shown, Texts, Titled};
 ghost use Rattle.meson_command.specs.RowsOfArguments.{CodeIsExpressionOrRefused, Infos, LaterWordsArePlain, Sorted, Values};
+ghost use Rattle.meson_command.specs.RowsOfCode.{Inserted, InsertedNowhere};
 
 /// The requests of some command lines.
 pub fn rows()
@@ -12,6 +13,8 @@ pub fn rows()
     ensures values { Values }
     ensures sorted { Sorted }
     ensures infos { Infos }
+    ensures inserted { Inserted }
+    ensures nowhere { InsertedNowhere }
     ensures titled { Titled }
     ensures shown { Shown }
     ensures json { Json }
@@ -58,8 +61,8 @@ pub fn texts_write_nothing()
 
 /// Words that clap takes are wrong usage only in these cases: the folder is empty, an operation or a function is unknown, `rename` has not two names,
 /// `--sorted` or `--after` goes with an operation that does not take it, or both are given, a number is not valid, two listings are requested or one of a
-/// function without a name, the function and the id of `arg` name no place, its key is missing, its values are not as many as its operation takes, a folder is
-/// named for another subcommand, or texts are named for what writes or would read standard input, too.
+/// function without a name, the function and the id of `arg` or `code` name no place, a key is missing, the values of `arg` or the words of `code` are not as
+/// many as the operation takes, a folder is named for words that take none, or texts are named for what writes or would read standard input, too.
 pub fn usage_means_unknown()
     ensures { UsageMeansUnknown }
 {}

@@ -2,9 +2,9 @@
 
 ghost use Rattle.std.specs.Prelude.{◌≡◌, IfOk, false};
 ghost use Rattle.clap.specs.Words.{App, app_of, new_app, rule_of, with_rule, with_subcommand};
-ghost use Rattle.meson_command.specs.Program.{IsToldToClap, argument, command, default_options, ending_word, flag, help, history, kwargs, list, many, required_word, option, own_words, program, redo, short_flag, short_option, target, undo, version, with_alias, word};
+ghost use Rattle.meson_command.specs.Program.{IsToldToClap, argument, code, command, default_options, ending_word, flag, help, history, kwargs, list, many, required_word, option, own_words, program, redo, short_flag, short_option, target, undo, version, with_alias, word};
 
-use crate::help;
+use crate::{code_help, help};
 use clap::{Arg, ArgAction, Command};
 use std::alloc::{AllocError, Global};
 
@@ -220,6 +220,19 @@ fn argument<'h>(alloc: Global) -> Result<Command<'h>, AllocError>
     with_help(alloc, command)
 }
 
+#[tactic(auto, unfolding(crate::specs::Program::code))]
+fn code<'h>(alloc: Global) -> Result<Command<'h>, AllocError>
+    ensures { IfOk result (IsToldToClap code) }
+{
+    let command = Ok(described(alloc, "code", code_help::ABOUT, code_help::BELOW));
+    let command = with_one(alloc, command, "OPERATION", "What to do, see Operations");
+    let command = with_ending(alloc, command, "FUNCTION|FILE", code_help::PLACE);
+    let command = with_one(alloc, command, "ID|CODE", code_help::ID);
+    let command = with_optional(alloc, command, "CODE", code_help::CODE);
+    let command = with_option(alloc, command, "N", "blank", code_help::BLANK);
+    with_help(alloc, command)
+}
+
 #[tactic(auto, unfolding(crate::specs::Program::default_options))]
 fn default_options<'h>(alloc: Global) -> Result<Command<'h>, AllocError>
     ensures { IfOk result (IsToldToClap default_options) }
@@ -336,6 +349,7 @@ fn program<'h>(alloc: Global) -> Result<Command<'h>, AllocError>
     let program = with_subcommand(own_words(alloc), target(alloc));
     let program = with_subcommand(program, kwargs(alloc));
     let program = with_subcommand(program, argument(alloc));
+    let program = with_subcommand(program, code(alloc));
     let program = with_subcommand(program, default_options(alloc));
     let program = with_subcommand(program, command(alloc));
     let program = with_subcommand(program, undo(alloc));

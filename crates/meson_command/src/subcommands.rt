@@ -1,6 +1,6 @@
 //! The subcommands, for what explains words that are not a request.
 
-use crate::help;
+use crate::{code_help, help};
 
 /// A subcommand.
 #[derive(Clone, Copy)]
@@ -8,6 +8,7 @@ pub(crate) enum Subcommand {
     Target,
     Kwargs,
     Argument,
+    Code,
     DefaultOptions,
     Command,
     Undo,
@@ -17,10 +18,11 @@ pub(crate) enum Subcommand {
 }
 
 /// All of them, in the order of help.
-pub(crate) const SUBCOMMANDS: [Subcommand; 9] = [
+pub(crate) const SUBCOMMANDS: [Subcommand; 10] = [
     Subcommand::Target,
     Subcommand::Kwargs,
     Subcommand::Argument,
+    Subcommand::Code,
     Subcommand::DefaultOptions,
     Subcommand::Command,
     Subcommand::Undo,
@@ -36,6 +38,7 @@ impl Subcommand {
             "target" | "tgt" => Some(Subcommand::Target),
             "kwargs" => Some(Subcommand::Kwargs),
             "arg" => Some(Subcommand::Argument),
+            "code" => Some(Subcommand::Code),
             "default-options" | "def" => Some(Subcommand::DefaultOptions),
             "command" | "cmd" => Some(Subcommand::Command),
             "undo" => Some(Subcommand::Undo),
@@ -51,6 +54,7 @@ impl Subcommand {
             Subcommand::Target => "target",
             Subcommand::Kwargs => "kwargs",
             Subcommand::Argument => "arg",
+            Subcommand::Code => "code",
             Subcommand::DefaultOptions => "default-options",
             Subcommand::Command => "command",
             Subcommand::Undo => "undo",
@@ -66,6 +70,7 @@ impl Subcommand {
             Subcommand::Target => help::TARGET,
             Subcommand::Kwargs => help::KWARGS,
             Subcommand::Argument => help::ARGUMENT,
+            Subcommand::Code => code_help::ABOUT,
             Subcommand::DefaultOptions => help::DEFAULT_OPTIONS,
             Subcommand::Command => help::COMMAND,
             Subcommand::Undo => help::UNDO,
@@ -83,6 +88,7 @@ impl Subcommand {
             }
             Subcommand::Kwargs => "kwargs OPERATION FUNCTION ID [KEY VALUE]...",
             Subcommand::Argument => "arg OPERATION FUNCTION ID KEY [VALUE]...",
+            Subcommand::Code => "code OPERATION [--blank N] FUNCTION|FILE ID|CODE [CODE]",
             Subcommand::DefaultOptions => "default-options OPERATION [OPTION VALUE]...",
             Subcommand::Command => "command [--strict] JSON",
             Subcommand::Undo => "undo [--to N] [--check FILE]",

@@ -3,6 +3,7 @@
 use crate::argument_faults::{explain_argument, explain_code, explain_sorted};
 use crate::choices::{FUNCTIONS, KWARGS_OPERATIONS, OPTIONS_OPERATIONS, TARGET_OPERATIONS};
 use crate::clap_faults::add_usage;
+use crate::code_faults::{explain_insertion, explain_statements};
 use crate::fault::UsageFault;
 use crate::keys::{explain_odd, explain_repeated};
 use crate::shell::quoted;
@@ -195,6 +196,7 @@ fn explain_texts(
 fn takes_folder(subcommand: Option<Subcommand>, words: &ArgMatches<'_>) -> bool {
     match subcommand {
         Some(Subcommand::Argument | Subcommand::Kwargs) => true,
+        Some(Subcommand::Code) => word_or(words, "OPERATION", "") != "append",
         Some(Subcommand::Target) => word_or(words, "OPERATION", "") != "add_target",
         _ => false,
     }
@@ -216,13 +218,14 @@ fn explain_usage(
         remarks.note_words(alloc, "--in is given with words that take no folder")?;
         return remarks.help_words(
             alloc,
-            "--in FOLDER goes with arg, kwargs, and target but add_target, which takes --subdir",
+            "--in FOLDER goes with arg, kwargs, code but append, and target but add_target, which takes --subdir",
         );
     }
     match subcommand {
         Some(Subcommand::Target) => explain_target(alloc, remarks, words)?,
         Some(Subcommand::Kwargs) => explain_kwargs(alloc, remarks, words)?,
         Some(Subcommand::Argument) => explain_argument(alloc, remarks, words)?,
+        Some(Subcommand::Code) => explain_insertion(alloc, remarks, words)?,
         Some(Subcommand::DefaultOptions) => explain_options(alloc, remarks, words)?,
         Some(Subcommand::Undo) => explain_undo(alloc, remarks, words)?,
         Some(Subcommand::History) => explain_history(alloc, remarks, words)?,
@@ -280,7 +283,10 @@ pub(crate) fn explain_taken(
         UsageFault::RepeatedKey => explain_repeated(alloc, remarks, subcommand, words)?,
         UsageFault::Unsupported => explain_unsupported(alloc, remarks)?,
         UsageFault::BadTitle => explain_title(alloc, remarks, word_or(matches, "TEXT", ""))?,
-        UsageFault::NotCode => explain_code(alloc, remarks, words)?,
+        UsageFault::NotCode => match subcommand {
+            Some(Subcommand::Code) => explain_statements(alloc, remarks, words)?,
+            _ => explain_code(alloc, remarks, words)?,
+        },
         UsageFault::OutOfMemory => {}
     }
     add_usage(alloc, remarks, subcommand)

@@ -1,7 +1,7 @@
-use Rattle.std.proofs.Common.{◌≡◌, ◌∙◌, Bool, List, Option, Some, None, Result, Err, codes, sym, ap, ap₂}
-use Rattle.std.specs.Prelude.{ok_or, option_map}
+use Rattle.std.proofs.Common.{◌≡◌, ◌∙◌, Bool, List, Option, Result, Err, codes, sym, ap, ap₂}
+use Rattle.std.specs.Prelude.{ok_or}
 use Rattle.std.proofs.lemmas.Result.{err_from_is_err_and}
-use Rattle.clap.specs.Words.{Text, first_of, found_of, rows_of}
+use Rattle.clap.specs.Words.{found_of, rows_of}
 use Rattle.clap.proofs.WalkLemmas.{first_value-rows}
 use Rattle.meson_splice.specs.Patch.{then_ok}
 use Rattle.meson_steps.specs.declared.argument.ValueName.{ValueName}
@@ -9,7 +9,7 @@ use Rattle.meson_steps.specs.declared.command.Command.{Command}
 use Rattle.meson_steps.specs.declared.given.Given.{Given}
 use Rattle.meson_json.specs.Arguments.{command_to}
 use Rattle.meson_json.specs.declared.names.ArgumentOperation.{ArgumentOperation}
-use Rattle.meson_command.specs.Actions.{has_flag, words_at}
+use Rattle.meson_command.specs.Actions.{has_flag}
 use Rattle.meson_command.specs.Arguments.{after_meant, values_meant}
 use Rattle.meson_command.specs.declared.fault.UsageFault.{UsageFault}
 use Rattle.meson_command.specs.declared.fault.UsageFault.TheVariants.{NotCode, Usage}
