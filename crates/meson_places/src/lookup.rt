@@ -77,7 +77,7 @@ fn lists_on(
     opened_on(alloc, Line::find(source, line), lists)
 }
 
-/// Whether a place is in the files that are searched: the one file of this number, if there is a number, and all files if there is none.
+/// Whether a place is in the files that are searched: the one file of this number, or all files without a number.
 pub fn is_searched(within: Option<usize>, place: &CallRef) -> bool
     ensures { result ≡ is_searched within place.now }
 {
