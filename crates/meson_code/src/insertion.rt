@@ -36,11 +36,12 @@ pub struct Insertion<'c> {
     pub blank: Option<usize>,
 }
 
-/// Lines beside a statement of a block, or at the end of a file, whose block it then is.
+/// Lines beside a statement of a block, or at the end of a file.
 #[derive(Drop)]
-pub(crate) struct FileLines {
-    block: CallRef,
-    side: LineSide,
+pub struct FileLines {
+    /// The block of the statement, or of the file.
+    pub block: CallRef,
+    pub side: LineSide,
 }
 
 impl FileLines {

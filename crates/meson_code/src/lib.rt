@@ -6,4 +6,4 @@ mod insertion;
 pub mod laws;
 mod statements;
 
-pub use insertion::{Insertion, insertion_steps};
+pub use insertion::{FileLines, Insertion, insertion_steps};
