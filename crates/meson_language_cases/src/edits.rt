@@ -1,5 +1,6 @@
 //! Single edits of a text, laid out.
 
+use crate::code_places::{placed, side_of, spot_of};
 use crate::readiness::is_ready;
 use crate::tree::put_tree;
 use meson_case_files::{Transcript, bytes_of};
@@ -18,6 +19,9 @@ pub enum Edit {
     Wrap,
     RemoveStatement,
     Append,
+    CodeAbove,
+    CodeBelow,
+    CodeAtEnd,
 }
 
 /// The edit of this name.
@@ -30,6 +34,9 @@ pub fn edit_of(word: &str) -> Option<Edit> {
         "wrap" => Some(Edit::Wrap),
         "remove-statement" => Some(Edit::RemoveStatement),
         "append" => Some(Edit::Append),
+        "code-above" => Some(Edit::CodeAbove),
+        "code-below" => Some(Edit::CodeBelow),
+        "code-at-end" => Some(Edit::CodeAtEnd),
         _ => None,
     }
 }
@@ -47,6 +54,10 @@ fn primitive_at(edit: Edit, span: Span, new: Bytes) -> Primitive {
         Edit::Wrap => Primitive::Wrap { value: span },
         Edit::RemoveStatement => Primitive::RemoveStatement { statement: span },
         Edit::Append => Primitive::Append { new },
+        Edit::CodeAbove | Edit::CodeBelow | Edit::CodeAtEnd => Primitive::Lines {
+            spot: spot_of(edit, span),
+            new,
+        },
     }
 }
 
@@ -145,12 +156,22 @@ impl Asked {
         })
     }
 
+    /// What is written for the new text at the part at a span.
+    fn written(&self, alloc: Global, span: Span) -> Result<Option<Vec<u8>>, AllocError> {
+        match side_of(self.edit, span) {
+            Some(side) => placed(alloc, self.text.as_slice(), side, self.new.as_slice()),
+            None => Ok(Some(Vec::from_slice(alloc, self.new.as_slice())?)),
+        }
+    }
+
     fn primitive(&self, alloc: Global) -> Result<Option<Primitive>, AllocError> {
         let Some(span) = place_of(self.text.as_slice(), self.part.as_slice()) else {
             return Ok(None);
         };
-        let new = Bytes::of(Vec::from_slice(alloc, self.new.as_slice())?);
-        Ok(Some(primitive_at(self.edit, span, new)))
+        let Some(new) = self.written(alloc, span)? else {
+            return Ok(None);
+        };
+        Ok(Some(primitive_at(self.edit, span, Bytes::of(new))))
     }
 
     fn splices(&self, alloc: Global) -> Result<Option<Vec<Splice>>, AllocError> {

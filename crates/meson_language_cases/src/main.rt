@@ -2,6 +2,7 @@
 #![tactic(auto)]
 
 mod case;
+mod code_places;
 mod edits;
 mod moved;
 mod nodes;
