@@ -15,7 +15,7 @@ edits-keep (Wrap path n) limits bytes f s items are name writes t is = λ primit
   list-edit-keeps (Wrap path n) limits bytes f s items are name writes t is path refl is primitive is_primitive text patches,
   wraps-value path n limits bytes f s items are name t is primitive is_primitive text patches,
 )
-edits-keep (RemoveStatement path n) limits bytes f s items are name writes t is = statement-removals-keep path n limits bytes f s items are name t is
+edits-keep (RemoveStatement blank path n) limits bytes f s items are name writes t is = statement-removals-keep blank path n limits bytes f s items are name t is
 edits-keep (Append new) limits bytes f s items are name writes t is = appended-keep new limits bytes f s items are name writes
 edits-keep (Assign path new) limits bytes f s items are name writes t is = assignments-keep path new limits bytes f s items are name writes t is
 edits-keep (Lines place new) limits bytes f s items are name writes t is = lines-keep place new limits bytes f s items are name t is

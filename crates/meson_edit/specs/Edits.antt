@@ -1,5 +1,6 @@
 -- Edits of the tree of a build file: of the elements of a list, of whole statements, and of assigned values.
 use Rattle.std.specs.Prelude.{ℕ, suc, Bool, true, false, List, [], ◌∷◌, ◌++◌, length, take, drop, if◌then◌else◌, Option, Some, None, option_map, option_and_then}
+use Rattle.meson_layout.specs.declared.primitive.BlankLines.{BlankLines}
 use Rattle.meson_syntax.specs.Tree.{Nowhere, Plain, Expression, array, Listing, listing, Argument, plain, named, pair, argument_list, arguments_of, Statement}
 use Rattle.meson_syntax.specs.Paths.{nth, list_at, value_of}
 use Rattle.meson_edit.specs.Assigned.{assigned_at}
@@ -29,8 +30,8 @@ pub data Edit : Type 0 where
   Replace : (list : List ℕ) → (n : ℕ) → Written (Expression Nowhere) → Edit
   -- or by the array of it
   Wrap : (list : List ℕ) → (n : ℕ) → Edit
-  -- the n-th statement is removed
-  RemoveStatement : (block : List ℕ) → (n : ℕ) → Edit
+  -- the n-th statement is removed, with these blank lines beside it
+  RemoveStatement : BlankLines → (block : List ℕ) → (n : ℕ) → Edit
   -- a statement after all others of the file
   Append : Written (Statement Nowhere) → Edit
   -- the assignment assigns another value
@@ -83,7 +84,7 @@ edited_elements (After path n new) list = option_map (element_added n new.node l
 edited_elements (Remove path n) list = option_map (element_removed n list) (nth list n)
 edited_elements (Replace path n new) list = option_and_then (exchanged n (λ v. new.node) list) (nth list n)
 edited_elements (Wrap path n) list = option_and_then (exchanged n array_of list) (nth list n)
-edited_elements (RemoveStatement path n) list = None
+edited_elements (RemoveStatement blank path n) list = None
 edited_elements (Append new) list = None
 edited_elements (Assign path new) list = None
 edited_elements (Lines place new) list = None
@@ -113,7 +114,7 @@ edited (After path n new) f = edited_list (After path n new) path f
 edited (Remove path n) f = edited_list (Remove path n) path f
 edited (Replace path n new) f = edited_list (Replace path n new) path f
 edited (Wrap path n) f = edited_list (Wrap path n) path f
-edited (RemoveStatement path n) f = without_statement path n f
+edited (RemoveStatement blank path n) f = without_statement path n f
 edited (Append new) f = Some (file_and_last f new.node)
 edited (Assign path new) f = option_map (λ p. p.back new.node) (assigned_at f path)
 edited (Lines place new) f = with_lines place new.node f

@@ -1,16 +1,16 @@
 -- What an edit keeps. In a list: what is left and right of the touched part, but for commas, blanks and line ends. So every comment and every other element
 -- stays. Of statements: all but the statement's own items and the blanks and the line end that are removed with it. Of an
 -- assignment: all but the value. Around new lines: all.
-use Rattle.std.specs.Prelude.{◌≡◌, ℕ, ◌<◌, ◌≤◌, true, List, [], ◌∷◌, ◌++◌, ◌⊎◌, codes, length, Some, Ok}
+use Rattle.std.specs.Prelude.{◌≡◌, ℕ, ◌<◌, ◌≤◌, List, [], ◌∷◌, ◌++◌, ◌⊎◌, codes, length, Some, Ok}
 use Rattle.meson_lex.specs.declared.kinds.Span.{Span}
 use Rattle.meson_lex.specs.Kinds.{IsLineEnd}
 use Rattle.meson_lex.specs.Items.{Lexeme, joined, IsItemList}
+use Rattle.meson_layout.specs.declared.primitive.BlankLines.{BlankLines}
 use Rattle.meson_layout.specs.declared.primitive.Primitive.{Primitive}
 use Rattle.meson_layout.specs.Layout.{layout_of}
 use Rattle.meson_layout.specs.Words.{remarks}
-use Rattle.meson_layout.specs.Looks.{at_most_blank}
 use Rattle.meson_layout.specs.Edited.{Keeps, patched_by}
-use Rattle.meson_layout.specs.FileLaws.{IsItsLineEnd}
+use Rattle.meson_layout.specs.FileLaws.{IsCut}
 use Rattle.meson_syntax.specs.declared.source.Limits.{Limits}
 use Rattle.meson_syntax.specs.Tree.{Plain, Expression, File, erase}
 use Rattle.meson_syntax.specs.Paths.{ListAt, list_at, ElementAt, element_at, value_of}
@@ -37,7 +37,7 @@ Touches items p l (Replace path n new) left right notes =
 Touches items p l (Wrap path n) left right notes =
     (x : ElementAt Span) × (element_at p.list n ≡ Some x) × (v : Expression Span) × (value_of x.element ≡ Some v)
     × (part : ValueStands items p l x v) × (left ≡ part.left) × (right ≡ part.right) × (notes ≡ remarks l.inner)
-Touches items p l (RemoveStatement path n) left right notes = ⊥
+Touches items p l (RemoveStatement blank path n) left right notes = ⊥
 Touches items p l (Append new) left right notes = ⊥
 Touches items p l (Assign path new) left right notes = ⊥
 Touches items p l (Lines place new) left right notes = ⊥
@@ -64,7 +64,7 @@ IsBefore (After path n new) m = m ≤ n
 IsBefore (Remove path n) m = m < n
 IsBefore (Replace path n new) m = m < n
 IsBefore (Wrap path n) m = m < n
-IsBefore (RemoveStatement path n) m = ⊥
+IsBefore (RemoveStatement blank path n) m = ⊥
 IsBefore (Append new) m = ⊥
 IsBefore (Assign path new) m = ⊥
 IsBefore (Lines place new) m = ⊥
@@ -75,7 +75,7 @@ IsBehind (After path n new) m = n < m
 IsBehind (Remove path n) m = n < m
 IsBehind (Replace path n new) m = n < m
 IsBehind (Wrap path n) m = n < m
-IsBehind (RemoveStatement path n) m = ⊥
+IsBehind (RemoveStatement blank path n) m = ⊥
 IsBehind (Append new) m = ⊥
 IsBehind (Assign path new) m = ⊥
 IsBehind (Lines place new) m = ⊥
@@ -106,22 +106,19 @@ OthersStay bytes text e p =
 
 -- ---- statements
 
--- Of the items around the statement these are removed: the blank directly before it, the one directly after it, and then the line end, if the statement began
--- its line. All else stays.
-pub record KeepsAround (bytes text : List ℕ) (items : List Lexeme) (s : Span) : Type 0 where
+-- Of the items around the statement those go that this is said of: with blank lines that stay, the blank directly before it, the one directly after it, and then
+-- the line end, if the statement began its line; else blanks and line ends. All else stays.
+pub record KeepsAround (blank : BlankLines) (bytes text : List ℕ) (items : List Lexeme) (s : Span) : Type 0 where
   pub front : List Lexeme
   pub before : List Lexeme
   pub own : List Lexeme
-  pub blank : List Lexeme
-  pub line : List Lexeme
+  pub behind : List Lexeme
   pub back : List Lexeme
-  pub old : items ≡ front ++ (before ++ (own ++ (blank ++ (line ++ back))))
+  pub old : items ≡ front ++ (before ++ (own ++ (behind ++ back)))
   pub new : text ≡ joined front ++ joined back
   pub from : s.from ≡ length (joined (front ++ before))
   pub to : s.to ≡ length (joined (front ++ (before ++ own)))
-  pub before_is : at_most_blank before ≡ true
-  pub blank_is : at_most_blank blank ≡ true
-  pub line_is : IsItsLineEnd front line
+  pub is_cut : IsCut blank front before behind back
 
 -- ---- every edit
 
@@ -172,7 +169,7 @@ EditKeeps bytes text f items (After path n new) = KeepsIn bytes text f items (Af
 EditKeeps bytes text f items (Remove path n) = KeepsIn bytes text f items (Remove path n) path
 EditKeeps bytes text f items (Replace path n new) = KeepsIn bytes text f items (Replace path n new) path
 EditKeeps bytes text f items (Wrap path n) = KeepsIn bytes text f items (Wrap path n) path × WrapsValue bytes text f path n
-EditKeeps bytes text f items (RemoveStatement path n) = (s : Span) × (span_of_statement f path n ≡ Some s) × KeepsAround bytes text items s
+EditKeeps bytes text f items (RemoveStatement blank path n) = (s : Span) × (span_of_statement f path n ≡ Some s) × KeepsAround blank bytes text items s
 EditKeeps bytes text f items (Append new) = (come : List ℕ) × (text ≡ bytes ++ come)
 EditKeeps bytes text f items (Assign path new) = ReplacesAssigned bytes text f path new.bytes
 EditKeeps bytes text f items (Lines place new) = InsertsLines bytes text new.bytes

@@ -3,6 +3,7 @@ use Rattle.std.specs.Str.{IsUtf8}
 use Rattle.std.specs.Prelude.{◌≡◌, ◌≤◌, ℕ, List, ◌++◌, length, Some, Ok}
 use Rattle.meson_lex.specs.declared.kinds.Span.{Span}
 use Rattle.meson_lex.specs.Items.{Lexeme, IsItemList}
+use Rattle.meson_layout.specs.declared.primitive.BlankLines.{BlankLines}
 use Rattle.meson_layout.specs.declared.primitive.Primitive.{Primitive}
 use Rattle.meson_layout.specs.Layout.{layout_of, IsPlaced}
 use Rattle.meson_layout.specs.Edited.{patched_by}
@@ -50,7 +51,7 @@ abbrev pub WrapsSpell : Type 0
 WrapsSpell = (path : List ℕ) (n : ℕ) → Spelled (Wrap path n)
 
 abbrev pub StatementRemovalsSpell : Type 0
-StatementRemovalsSpell = (path : List ℕ) (n : ℕ) → Spelled (RemoveStatement path n)
+StatementRemovalsSpell = (blank : BlankLines) (path : List ℕ) (n : ℕ) → Spelled (RemoveStatement blank path n)
 
 abbrev pub AppendedSpell : Type 0
 AppendedSpell = (new : Written (Statement Nowhere)) → Spelled (Append new)
@@ -90,7 +91,7 @@ IsEditOf path (After list n new) = path ≡ list
 IsEditOf path (Remove list n) = path ≡ list
 IsEditOf path (Replace list n new) = path ≡ list
 IsEditOf path (Wrap list n) = path ≡ list
-IsEditOf path (RemoveStatement block n) = ⊥
+IsEditOf path (RemoveStatement blank block n) = ⊥
 IsEditOf path (Append new) = ⊥
 IsEditOf path (Assign assignment new) = ⊥
 IsEditOf path (Lines place new) = ⊥

@@ -1,21 +1,23 @@
 -- Of items in UTF-8 the splices of a layout make a text in UTF-8: they cut between items, and what they put there is UTF-8.
 use Rattle.std.specs.Str.{IsUtf8, IsAscii}
-use Rattle.std.proofs.Common.{arith, ◌<◌, ◌≡◌, ℕ, zero, suc, ◌&&◌, List, [], ◌∷◌, ◌++◌, Option, Some, None, Ok, take, drop, reverse, sym, ap, ◌∙◌, subst, append_assoc}
+use Rattle.std.proofs.Common.{arith, ◌<◌, ◌≡◌, ℕ, zero, suc, List, [], ◌∷◌, ◌++◌, Option, Some, None, Ok, take, drop, reverse, sym, ap, ◌∙◌, subst, append_assoc}
 use Rattle.std.specs.Prelude.{length, ◌-◌, ◌+◌}
 use Rattle.std.proofs.lemmas.Bool.{cond_both}
 use Rattle.std.proofs.lemmas.List.{append-nil, take-append-drop}
 use Rattle.std.proofs.lemmas.Str.{IsUtf8-nil, IsUtf8-append, IsUtf8-from_ascii}
 use Rattle.meson_lex.specs.declared.kinds.Span.{Span}
 use Rattle.meson_lex.specs.Items.{Lexeme, joined}
+use Rattle.meson_layout.specs.declared.primitive.BlankLines.{BlankLines}
 use Rattle.meson_layout.specs.declared.primitive.Primitive.{Primitive}
 use Rattle.meson_layout.specs.declared.primitive.Primitive.TheVariants.{First, After, Remove, Replace, Wrap, RemoveStatement, Append, Lines}
 use Rattle.meson_layout.specs.declared.removal.Growth.{Growth}
-use Rattle.meson_layout.specs.Looks.{is_blank_kind, is_comma, is_line_end, first_is, one_if, but_last, last_few, line_before, gap_len, all_white, at_most_blank, note_len, comma_note_len, closing_follows}
+use Rattle.meson_layout.specs.Looks.{is_comma, is_line_end, first_is, but_last, last_few, line_before, gap_len, all_white, at_most_blank, note_len, comma_note_len, closing_follows}
 use Rattle.meson_layout.specs.Pieces.{Piece, Keep, Change, as_one, comma, space, line_feed, open_square, close_square, splices}
 use Rattle.meson_layout.specs.inside.Pieces.{old_items, new_items}
 use Rattle.meson_layout.specs.Insertion.{plain_insertion, with_comma, without_comma, before_bracket, no_comma_on_line, stacked, inserted_by, inserted}
 use Rattle.meson_layout.specs.Removal.{grown, one_gone, two_gone, two_ranges, comma_len, comma_behind, comma_before, no_comma_behind, removed}
-use Rattle.meson_layout.specs.Statements.{at_line_start, statement_gone, statement_removed, line_end_of, appended}
+use Rattle.meson_layout.specs.StatementRemoval.{statement_gone, statement_growth, statement_removed}
+use Rattle.meson_layout.specs.Statements.{at_line_start, line_end_of, appended}
 use Rattle.meson_layout.specs.LineSpots.{lines_after}
 use Rattle.meson_layout.specs.Layout.{before_len, spot_len, split_at_span, replaced, wrapped, first_in, pieces}
 use Rattle.meson_layout.specs.Laws.{AreTexts, AreUtf8, WritesUtf8, CodingLaw, TextsLaw}
@@ -226,7 +228,7 @@ module _ (left own right : List Lexeme) where
 
   -- ---- statements
 
-  gone-fine : (n m : ℕ) → Fine (left ++ (own ++ right)) (statement_gone n m left own right)
+  gone-fine : (n m : ℕ) → Fine (left ++ (own ++ right)) (statement_gone (record { before = n; behind = m }) left own right)
   gone-fine n m = record { old = joins; news = (tt, tt) }
     where
       joins : but_last n left ++ ((last_few n left ++ (own ++ take m right)) ++ (drop m right ++ [])) ≡ left ++ (own ++ right)
@@ -235,12 +237,9 @@ module _ (left own right : List Lexeme) where
           ∙ ap (λ l. l ++ (own ++ (take m right ++ drop m right))) (whole n left)
           ∙ ap (λ r. left ++ (own ++ r)) (take-append-drop m right)
 
-  statement-fine : Fine (left ++ (own ++ right)) (statement_removed left own right)
+  statement-fine : (blank : BlankLines) → Fine (left ++ (own ++ right)) (statement_removed blank left own right)
   unfolding statement_removed
-  statement-fine =
-      let n = one_if is_blank_kind (reverse left) in
-      let m = one_if is_blank_kind right in
-      cond_both (at_line_start (reverse (but_last n left)) && first_is is_line_end (drop m right)) _ _ (Fine (left ++ (own ++ right))) (λ h. gone-fine n (m + 1)) (λ h. gone-fine n m)
+  statement-fine blank = let g = statement_growth blank left right in gone-fine g.before g.behind
 
 line-coded : (items : List Lexeme) → AreUtf8 items → IsCoded (line_end_of items)
 line-coded [] a = line-feed-coded
@@ -283,7 +282,7 @@ module _ (items : List Lexeme) (coded : AreUtf8 items) where
   pieces-fine (Replace value new) u = at-span value (λ l o r. replaced l o r (as_one new)) (λ l o r a b. replaced-fine l o r a (as_one new) (one-item new u))
   pieces-fine (Wrap value) u =
       at-span value wrapped (λ l o r a b. replaced-fine l o r a (open_square ∷ (o ++ close_square ∷ [])) (open-coded, coded-append o (close_square ∷ []) b (close-coded, tt)))
-  pieces-fine (RemoveStatement statement) u = at-span statement statement_removed (λ l o r a b. statement-fine l o r)
+  pieces-fine (RemoveStatement statement blank) u = at-span statement (statement_removed blank) (λ l o r a b. statement-fine l o r blank)
   pieces-fine (Append new) u = appended-fine items (as_one new) coded (one-item new u)
   pieces-fine (Lines spot new) u = lines-fine (spot_len spot items) items (as_one new) coded (one-item new u)
 

@@ -79,7 +79,7 @@ laid-by-front file items (After element new) at g small = ap (λ xs. layout_of f
 laid-by-front file items (Remove element) at g small = ap (λ xs. layout_of file xs (Remove element)) (up_to-all (2 ^ 64 - 1) items (omega arith))
 laid-by-front file items (Replace value new) at g small = parts-front items value (λ left own. splices file 0 (replaced left own [] (as_one new))) at g
 laid-by-front file items (Wrap value) at g small = parts-front items value (λ left own. splices file 0 (wrapped left own [])) at g
-laid-by-front file items (RemoveStatement statement) at g small = ap (λ xs. layout_of file xs (RemoveStatement statement)) (up_to-all (2 ^ 64 - 1) items (omega arith))
+laid-by-front file items (RemoveStatement statement blank) at g small = ap (λ xs. layout_of file xs (RemoveStatement statement blank)) (up_to-all (2 ^ 64 - 1) items (omega arith))
 laid-by-front file items (Append new) at g small = ap (λ xs. layout_of file xs (Append new)) (up_to-all (2 ^ 64 - 1) items (omega arith))
 laid-by-front file items (Lines spot new) at g small = ap (λ xs. layout_of file xs (Lines spot new)) (up_to-all (2 ^ 64 - 1) items (omega arith))
 

@@ -25,9 +25,10 @@ pub mod Gaps
 pub mod Cuts
 pub mod Removed
 pub mod RemovalLaws
+pub mod LineSpots
+pub mod Trims
 pub mod StatementLaws
 pub mod AppendLaws
-pub mod LineSpots
 pub mod LineLaws
 pub mod AssignmentLaws
 pub mod FileSets

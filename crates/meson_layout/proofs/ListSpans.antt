@@ -74,7 +74,7 @@ module _ (source : List ℕ) (list : Span) (primitive : Primitive) (r : IsReadyI
       fits (Remove s) is = tt
       fits (Replace s new) is = tt
       fits (Wrap s) is = tt
-      fits (RemoveStatement s) is = tt
+      fits (RemoveStatement s blank) is = tt
       fits (Append new) is = tt
       fits (Lines spot new) is = tt
 

@@ -130,7 +130,7 @@ module _ (file source : List ℕ) (items : List Lexeme) (list : IsItemList sourc
   local (Remove s) p = part-near s p removed (removed-anywhere s p)
   local (Replace s new) p = part-near s p (λ left own right. replaced left own right (as_one new)) (replaced-anywhere s p (as_one new))
   local (Wrap s) p = part-near s p wrapped (replaced-anywhere s p (open_square ∷ (p.own ++ close_square ∷ [])))
-  local (RemoveStatement s) is = absurd is
+  local (RemoveStatement s blank) is = absurd is
   local (Append new) is = absurd is
   local (Lines spot new) is = absurd is
 
@@ -141,7 +141,7 @@ module _ (file source : List ℕ) (items : List Lexeme) (list : IsItemList sourc
   laid-behind w text (Remove s) p = part-behind s p removed (removed-anywhere s p) w text
   laid-behind w text (Replace s new) p = part-behind s p (λ left own right. replaced left own right (as_one new)) (replaced-anywhere s p (as_one new)) w text
   laid-behind w text (Wrap s) p = part-behind s p wrapped (replaced-anywhere s p (open_square ∷ (p.own ++ close_square ∷ []))) w text
-  laid-behind w text (RemoveStatement s) is = absurd is
+  laid-behind w text (RemoveStatement s blank) is = absurd is
   laid-behind w text (Append new) is = absurd is
   laid-behind w text (Lines spot new) is = absurd is
 

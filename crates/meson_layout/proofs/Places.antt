@@ -19,6 +19,6 @@ first_fits (After s new) items placed fits = tt
 first_fits (Remove s) items placed fits = tt
 first_fits (Replace s new) items placed fits = tt
 first_fits (Wrap s) items placed fits = tt
-first_fits (RemoveStatement s) items placed fits = tt
+first_fits (RemoveStatement s blank) items placed fits = tt
 first_fits (Append new) items placed fits = tt
 first_fits (Lines spot new) items placed fits = tt

@@ -7,13 +7,15 @@ use Rattle.meson_lex.specs.Bytes.{is_equals, begins}
 use Rattle.meson_lex.specs.Items.{Lexeme, joined, IsItemList}
 use Rattle.meson_lex.specs.Significant.{Word, State, start, after, emitted, closing, new_line, significant}
 use Rattle.meson_splice.specs.declared.splice.Splice.{Splice}
+use Rattle.meson_layout.specs.declared.primitive.BlankLines.{BlankLines}
+use Rattle.meson_layout.specs.declared.primitive.BlankLines.TheVariants as blank
 use Rattle.meson_layout.specs.declared.primitive.Primitive.TheVariants.{Replace, RemoveStatement, Append, Lines}
 use Rattle.meson_layout.specs.declared.primitive.LineSpot.{LineSpot}
 use Rattle.meson_layout.specs.declared.primitive.LineSpot.TheVariants as spot
 use Rattle.std.specs.List.{list_all, AllByRecursion}
 use Rattle.meson_lex.specs.Kinds.{IsLineEnd}
 use Rattle.meson_lex.specs.Words.{spoken}
-use Rattle.meson_layout.specs.Looks.{is_comment, is_line_end, at_most_blank}
+use Rattle.meson_layout.specs.Looks.{all_white, is_comment, is_line_end, at_most_blank}
 use Rattle.meson_layout.specs.Statements.{at_line_start}
 use Rattle.meson_layout.specs.Layout.{layout_of, IsSpotOf}
 use Rattle.meson_lex.specs.Words.{IsTight}
@@ -39,6 +41,10 @@ pub record StatementIn (items : List Lexeme) (s : Span) (more : List Word) : Typ
   pub ends : after start (left ++ own) ≡ behind_token
   pub is_right : emitted (after start (left ++ own)) right ++ closing (after start items).fresh ≡ new_line ∷ more
 
+-- all items end their line
+abbrev pub ends_line : List Lexeme → Bool
+ends_line xs = at_line_start (reverse xs)
+
 -- the splices give the text, which has these significant tokens
 pub record EditedFile (source : List ℕ) (ss : List Splice) (text : List ℕ) (tokens : List Word) : Type 0 where
   pub patches : patched_by source ss ≡ Ok text
@@ -50,24 +56,39 @@ pub record EditedFile (source : List ℕ) (ss : List Splice) (text : List ℕ) (
 abbrev pub IsItsLineEnd : (front line : List Lexeme) → Type 0
 IsItsLineEnd front line = (line ≡ []) ⊎ ((at_line_start (reverse front) ≡ true) × (x : Lexeme) × (is_line_end x.kind ≡ true) × (line ≡ x ∷ []))
 
--- A removed statement: its tokens and those of its line end are removed. All before it and all after it stays, with these exceptions: the blank directly before
--- it, the one directly after it, and then the line end, if the statement began its line.
-pub record StatementCut (source : List ℕ) (left right : List Lexeme) (ss : List Splice) (tokens : List Word) : Type 0 where
-  pub front : List Lexeme
-  pub gone : List Lexeme
+-- What goes with a statement is the blank directly before it, the one directly after it, and then the line end, if the statement began its line.
+pub record IsLineCut (front gone lost : List Lexeme) : Type 0 where
   pub blank : List Lexeme
   pub line : List Lexeme
-  pub rest : List Lexeme
-  pub left_is : left ≡ front ++ gone
-  pub right_is : right ≡ blank ++ (line ++ rest)
+  pub lost_is : lost ≡ blank ++ line
   pub gone_is : at_most_blank gone ≡ true
   pub blank_is : at_most_blank blank ≡ true
   pub line_is : IsItsLineEnd front line
+
+-- What goes with it are blanks and line ends. More than a blank goes only if the statement is alone on its lines: then what stays before it ends its line.
+pub record IsWhiteCut (front gone lost rest : List Lexeme) : Type 0 where
+  pub gone_is : all_white gone ≡ true
+  pub lost_is : all_white lost ≡ true
+  pub alone : ((at_most_blank gone ≡ true) × (at_most_blank lost ≡ true)) ⊎ (ends_line front ≡ true)
+
+abbrev pub IsCut : BlankLines → (front gone lost rest : List Lexeme) → Type 0
+IsCut blank.Stay front gone lost rest = IsLineCut front gone lost
+IsCut (blank.Trim first last) front gone lost rest = IsWhiteCut front gone lost rest
+
+-- A removed statement: its tokens and those of its line end are removed. All before it and all after it stays, but for `gone` and `lost`.
+pub record StatementCut (blank : BlankLines) (source : List ℕ) (left right : List Lexeme) (ss : List Splice) (tokens : List Word) : Type 0 where
+  pub front : List Lexeme
+  pub gone : List Lexeme
+  pub lost : List Lexeme
+  pub rest : List Lexeme
+  pub left_is : left ≡ front ++ gone
+  pub right_is : right ≡ lost ++ rest
+  pub is_cut : IsCut blank front gone lost rest
   pub edited : EditedFile source ss (joined front ++ joined rest) tokens
 
 abbrev pub StatementRemovalLaw : Type 0
-StatementRemovalLaw = (file source : List ℕ) (items : List Lexeme) → IsItemList source items → (s : Span) (more : List Word) (p : StatementIn items s more)
-    → StatementCut source p.left p.right (layout_of file items (RemoveStatement s)) (emitted start p.left ++ more)
+StatementRemovalLaw = (file source : List ℕ) (items : List Lexeme) → IsItemList source items → (blank : BlankLines) (s : Span) (more : List Word)
+    (p : StatementIn items s more) → StatementCut blank source p.left p.right (layout_of file items (RemoveStatement s blank)) (emitted start p.left ++ more)
 
 -- a statement as it is written, by itself
 pub record IsStatement (bytes : List ℕ) (fresh : List Lexeme) (words : List Word) : Type 0 where
@@ -118,10 +139,6 @@ AssignmentLaw = (file source : List ℕ) (items : List Lexeme) → IsItemList so
 -- no item is a line end
 abbrev pub is_in_line : List Lexeme → Bool
 is_in_line xs = list_all (λ (x : Lexeme). not (is_line_end x.kind)) xs
-
--- all items end their line
-abbrev pub ends_line : List Lexeme → Bool
-ends_line xs = at_line_start (reverse xs)
 
 -- a line of a comment, with at most a blank before it, and its line end
 pub record IsCommentLine (xs : List Lexeme) : Type 0 where

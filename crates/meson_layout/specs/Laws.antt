@@ -75,7 +75,7 @@ WritesUtf8 (After element new) = IsUtf8 new
 WritesUtf8 (Remove element) = Unit {0}
 WritesUtf8 (Replace value new) = IsUtf8 new
 WritesUtf8 (Wrap value) = Unit {0}
-WritesUtf8 (RemoveStatement statement) = Unit {0}
+WritesUtf8 (RemoveStatement statement blank) = Unit {0}
 WritesUtf8 (Append new) = IsUtf8 new
 WritesUtf8 (Lines spot new) = IsUtf8 new
 

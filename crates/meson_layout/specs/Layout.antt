@@ -11,7 +11,8 @@ use Rattle.meson_layout.specs.declared.primitive.LineSpot.TheVariants as spot
 use Rattle.meson_layout.specs.Pieces.{Piece, Keep, Change, as_one, open_square, close_square, splices}
 use Rattle.meson_layout.specs.Insertion.{first, inserted}
 use Rattle.meson_layout.specs.Removal.{removed}
-use Rattle.meson_layout.specs.Statements.{statement_removed, appended}
+use Rattle.meson_layout.specs.Statements.{appended}
+use Rattle.meson_layout.specs.StatementRemoval.{statement_removed}
 use Rattle.meson_layout.specs.LineSpots.{above_len, below_len, lines_after}
 
 -- ---- places
@@ -60,7 +61,7 @@ pieces (After element new) items = let p = split_at_span element items in insert
 pieces (Remove element) items = let p = split_at_span element items in removed p.left p.own p.right
 pieces (Replace value new) items = let p = split_at_span value items in replaced p.left p.own p.right (as_one new)
 pieces (Wrap value) items = let p = split_at_span value items in wrapped p.left p.own p.right
-pieces (RemoveStatement statement) items = let p = split_at_span statement items in statement_removed p.left p.own p.right
+pieces (RemoveStatement statement blank) items = let p = split_at_span statement items in statement_removed blank p.left p.own p.right
 pieces (Append new) items = appended items (as_one new)
 pieces (Lines spot new) items = lines_after (spot_len spot items) items (as_one new)
 
@@ -100,7 +101,7 @@ IsPlaced (After element new) items = IsSpanOf items element
 IsPlaced (Remove element) items = IsSpanOf items element
 IsPlaced (Replace value new) items = IsSpanOf items value
 IsPlaced (Wrap value) items = IsSpanOf items value
-IsPlaced (RemoveStatement statement) items = IsSpanOf items statement
+IsPlaced (RemoveStatement statement blank) items = IsSpanOf items statement
 IsPlaced (Append new) items = Unit {0}
 IsPlaced (Lines spot new) items = IsSpotOf items spot
 

@@ -6,6 +6,8 @@ pub mod Insertion
 pub mod Removal
 pub mod Statements
 pub mod LineSpots
+pub mod BlankLines
+pub mod StatementRemoval
 pub mod Layout
 pub mod Words
 pub mod Edited

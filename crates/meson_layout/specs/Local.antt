@@ -27,7 +27,7 @@ nearer n (After element new) = After (nearer_span n element) new
 nearer n (Remove element) = Remove (nearer_span n element)
 nearer n (Replace value new) = Replace (nearer_span n value) new
 nearer n (Wrap value) = Wrap (nearer_span n value)
-nearer n (RemoveStatement statement) = RemoveStatement (nearer_span n statement)
+nearer n (RemoveStatement statement blank) = RemoveStatement (nearer_span n statement) blank
 nearer n (Append new) = Append new
 nearer n (Lines spot new) = Lines (nearer_spot n spot) new
 
@@ -47,7 +47,7 @@ IsOfList items l (After element new) = PartIn items l element
 IsOfList items l (Remove element) = PartIn items l element
 IsOfList items l (Replace value new) = PartIn items l value
 IsOfList items l (Wrap value) = PartIn items l value
-IsOfList items l (RemoveStatement statement) = ⊥
+IsOfList items l (RemoveStatement statement blank) = ⊥
 IsOfList items l (Append new) = ⊥
 IsOfList items l (Lines spot new) = ⊥
 

@@ -162,8 +162,8 @@ pub(crate) fn layout_items(
             place_of(alloc, file, items, *value).replaced(new.get())
         }
         Primitive::Wrap { value } => place_of(alloc, file, items, *value).wrapped(),
-        Primitive::RemoveStatement { statement } => {
-            place_of(alloc, file, items, *statement).statement_removed()
+        Primitive::RemoveStatement { statement, blank } => {
+            place_of(alloc, file, items, *statement).statement_removed(*blank)
         }
         Primitive::Append { new } => appended(alloc, file, items, new.get()),
         Primitive::Lines { spot, new } => {

@@ -1,6 +1,7 @@
 //! The splices of one edit of a build file.
 #![tactic(auto)]
 
+mod blank_lines;
 mod edits;
 mod insertion;
 pub mod laws;
@@ -15,4 +16,4 @@ mod statements;
 
 pub use edits::layout;
 pub use lists::list_layout;
-pub use primitive::{LineSpot, Primitive};
+pub use primitive::{BlankLines, LineSpot, Primitive};

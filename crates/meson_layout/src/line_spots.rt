@@ -26,7 +26,7 @@ fn last_in_line_len(items: &[Lexeme<'_>]) -> usize
 }
 
 /// The number of items before the next line end.
-fn in_line_len(items: &[Lexeme<'_>]) -> usize
+pub(crate) fn in_line_len(items: &[Lexeme<'_>]) -> usize
     ensures value { result ≡ in_line_len items.now }
     ensures within { result ≤ length items.now }
 {
@@ -47,7 +47,7 @@ pub(crate) fn rest_of_line_len(items: &[Lexeme<'_>]) -> usize
 }
 
 /// The number of items of the comment line at the end: 0 if there is no such line.
-fn comment_line_len(items: &[Lexeme<'_>]) -> usize
+pub(crate) fn comment_line_len(items: &[Lexeme<'_>]) -> usize
     ensures value { result ≡ comment_line_len (reverse items.now) }
     ensures within { result ≤ length items.now }
 {

@@ -1,7 +1,7 @@
 //! Looks at the items beside an element or a statement.
 
 ghost use Rattle.std.specs.Prelude.{◌≡◌, ◌≤◌, ◌+◌, IfSome, length, reverse};
-ghost use Rattle.meson_layout.specs.Looks.{all_white, at_most_blank, first_is, closing_follows, comma_note_len, gap_len, is_blank_kind, is_closing, is_comma, is_comment, is_gap, is_line_end, line_before, line_behind, line_near, note_len, one_if};
+ghost use Rattle.meson_layout.specs.Looks.{all_white, at_most_blank, first_is, closing_follows, comma_note_len, gap_len, is_blank_kind, is_closing, is_comma, is_comment, is_gap, is_line_end, is_white, line_before, line_behind, line_near, note_len, one_if};
 ghost use Rattle.meson_layout.specs.Statements.{at_line_start};
 
 use crate::lexemes::Lexeme;
@@ -24,6 +24,13 @@ pub(crate) fn is_comment(kind: Kind) -> bool
     ensures { result ≡ is_comment kind }
 {
     matches!(kind, Kind::Comment)
+}
+
+/// Whether it is a blank or a line end.
+pub(crate) fn is_white(kind: Kind) -> bool
+    ensures { result ≡ is_white kind }
+{
+    matches!(kind, Kind::Blank | Kind::LineEnd)
 }
 
 fn is_closing(kind: Kind) -> bool
@@ -59,6 +66,15 @@ pub(crate) fn begins_comma(items: &[Lexeme<'_>]) -> bool
 {
     match items {
         [x, ..] => matches!(x.kind, Kind::Comma),
+        [] => false,
+    }
+}
+
+pub(crate) fn begins_comment(items: &[Lexeme<'_>]) -> bool
+    ensures { result ≡ first_is is_comment items.now }
+{
+    match items {
+        [x, ..] => is_comment(x.kind),
         [] => false,
     }
 }
@@ -208,9 +224,7 @@ pub(crate) fn last_gap_len(items: &[Lexeme<'_>]) -> usize
 pub(crate) fn all_white(items: &[Lexeme<'_>]) -> bool
     ensures { result ≡ all_white items.now }
 {
-    items
-        .iter()
-        .all(|x| matches!(x.kind, Kind::Blank | Kind::LineEnd))
+    items.iter().all(|x| is_white(x.kind))
 }
 
 /// Whether there are no items, or one blank.

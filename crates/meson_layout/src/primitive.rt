@@ -14,6 +14,15 @@ pub enum LineSpot {
     End,
 }
 
+/// Which blank lines beside a statement are removed along with it.
+#[derive(Clone, Copy, Debug)]
+pub enum BlankLines {
+    /// None.
+    Stay,
+    /// Those that would be too many then. The flags say whether the statement is the first and the last one of its block.
+    Trim { first: bool, last: bool },
+}
+
 /// One edit of a build file. Spans and offsets are in bytes of the file.
 #[derive(Drop)]
 pub enum Primitive {
@@ -27,8 +36,8 @@ pub enum Primitive {
     Replace { value: Span, new: Bytes },
     /// The value at this span is wrapped into an array.
     Wrap { value: Span },
-    /// The statement at this span is removed.
-    RemoveStatement { statement: Span },
+    /// The statement at this span is removed, with these blank lines beside it.
+    RemoveStatement { statement: Span, blank: BlankLines },
     /// A statement at the end of the file.
     Append { new: Bytes },
     /// Whole lines. If what is before them does not end its line, a line end is inserted first.

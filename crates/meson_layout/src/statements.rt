@@ -4,50 +4,42 @@ ghost use Rattle.std.specs.Prelude.{◌≡◌, ◌+◌, ◌<◌, ◌≤◌, ◌^
 ghost use Rattle.meson_lex.specs.Items.{joined};
 ghost use Rattle.meson_layout.specs.Pieces.{as_one, splices};
 ghost use Rattle.meson_layout.specs.inside.Places.{PlaceFits, at_place};
-ghost use Rattle.meson_layout.specs.Statements.{appended, line_end_of, statement_gone, statement_removed};
+ghost use Rattle.meson_layout.specs.StatementRemoval.{statement_gone, statement_removed};
+ghost use Rattle.meson_layout.specs.Statements.{appended, line_end_of};
 ghost use Rattle.meson_splice.specs.declared.fault.SpliceFault.TheVariants.{OutOfMemory};
 
+use crate::blank_lines::statement_growth;
 use crate::lexemes::Lexeme;
-use crate::looks::{at_line_start, begins_line_end, blanks, is_line_end, last_blanks};
+use crate::looks::{at_line_start, is_line_end};
 use crate::place::{Place, addition, one_splice, text_len};
+use crate::primitive::BlankLines;
 use crate::removal::Growth;
 use meson_splice::{Splice, SpliceFault};
 use std::alloc::Global;
 
 impl<'i, 'a> Place<'i, 'a> {
-    /// This is removed with n items before it and m items after it.
+    /// This is removed with these numbers of items before it and after it.
     #[tactic(auto, using(crate::proofs::Texts::joined_take, crate::proofs::Texts::joined_three))]
-    fn statement_gone(self, n: usize, m: usize) -> Result<Vec<Splice>, SpliceFault>
+    fn statement_gone(self, growth: Growth) -> Result<Vec<Splice>, SpliceFault>
         requires fits { PlaceFits self }
-        requires before { n ≤ length self.left.now }
-        requires behind { m ≤ length self.right.now }
-        ensures done { IfOk result (λ v. v.items ≡ splices self.entry.file.now 0 (at_place (statement_gone n m) self.entry)) }
+        requires before { growth.before ≤ length self.left.now }
+        requires behind { growth.behind ≤ length self.right.now }
+        ensures done { IfOk result (λ v. v.items ≡ splices self.entry.file.now 0 (at_place (statement_gone growth) self.entry)) }
         ensures refused { IfErr result (λ e. e ≡ OutOfMemory) }
     {
-        let at = text_len(&self.left[..self.left.len() - n]);
-        let growth = Growth {
-            before: n,
-            behind: m,
-        };
+        let at = text_len(&self.left[..self.left.len() - growth.before]);
         one_splice(self.alloc, self.gone(at, growth)?)
     }
 
-    /// This statement is removed.
-    #[tactic(auto, unfolding(crate::specs::Statements::statement_removed))]
-    pub(crate) fn statement_removed(self) -> Result<Vec<Splice>, SpliceFault>
+    /// This statement is removed, with these blank lines beside it.
+    #[tactic(auto, unfolding(crate::specs::StatementRemoval::statement_removed))]
+    pub(crate) fn statement_removed(self, blank: BlankLines) -> Result<Vec<Splice>, SpliceFault>
         requires { PlaceFits self }
-        ensures done { IfOk result (λ v. v.items ≡ splices self.entry.file.now 0 (at_place statement_removed self.entry)) }
+        ensures done { IfOk result (λ v. v.items ≡ splices self.entry.file.now 0 (at_place (statement_removed blank) self.entry)) }
         ensures refused { IfErr result (λ e. e ≡ OutOfMemory) }
     {
-        let n = last_blanks(self.left);
-        let m = blanks(self.right);
-        let begun = at_line_start(&self.left[..self.left.len() - n]);
-        let ended = begins_line_end(&self.right[m..]);
-        if begun && ended {
-            self.statement_gone(n, m + 1)
-        } else {
-            self.statement_gone(n, m)
-        }
+        let growth = statement_growth(blank, self.left, self.right);
+        self.statement_gone(growth)
     }
 }
 

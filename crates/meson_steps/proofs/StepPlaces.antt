@@ -29,7 +29,7 @@ edit_code f file (After path n new) code is = code_is f file (After path n new) 
 edit_code f file (Remove path n) code is = code_is f file (Remove path n) _ code refl is
 edit_code f file (Replace path n new) code is = code_is f file (Replace path n new) _ code refl is
 edit_code f file (Wrap path n) code is = code_is f file (Wrap path n) _ code refl is
-edit_code f file (RemoveStatement path n) code is = code_is f file (RemoveStatement path n) _ code refl is
+edit_code f file (RemoveStatement blank path n) code is = code_is f file (RemoveStatement blank path n) _ code refl is
 edit_code f file (Append new) code is = code_is f file (Append new) _ code refl is
 edit_code f file (Assign path new) code is = code_is f file (Assign path new) _ code refl is
 edit_code f file (Lines (above path n) new) code is = code_is f file (Lines (above path n) new) _ code refl is
@@ -47,7 +47,7 @@ every_edit (After path n new) = lists.insertions-spell path n new
 every_edit (Remove path n) = lists.removals-spell path n
 every_edit (Replace path n new) = lists.replacements-spell path n new
 every_edit (Wrap path n) = lists.wraps-spell path n
-every_edit (RemoveStatement path n) = removed.removals-spell path n
+every_edit (RemoveStatement blank path n) = removed.removals-spell blank path n
 every_edit (Append new) = appended.appended-spell new
 every_edit (Assign path new) = assigned.assignments-spell path new
 every_edit (Lines place new) = lines.lines-spell place new
@@ -73,7 +73,7 @@ list_there (After list n new) f path t of is = let same = some-injective list pa
 list_there (Remove list n) f path t of is = let same = some-injective list path of in (sym same, subst (λ l. edited_list (Remove list n) l (erase f) ≡ Some t) same is)
 list_there (Replace list n new) f path t of is = let same = some-injective list path of in (sym same, subst (λ l. edited_list (Replace list n new) l (erase f) ≡ Some t) same is)
 list_there (Wrap list n) f path t of is = let same = some-injective list path of in (sym same, subst (λ l. edited_list (Wrap list n) l (erase f) ≡ Some t) same is)
-list_there (RemoveStatement block n) f path t of is = absurd cc
+list_there (RemoveStatement blank block n) f path t of is = absurd cc
 list_there (Append new) f path t of is = absurd cc
 list_there (Assign assignment new) f path t of is = absurd cc
 list_there (Lines place new) f path t of is = absurd cc
@@ -100,7 +100,7 @@ by_code (After path n new) file code is = list_code (After path n new) _ file co
 by_code (Remove path n) file code is = list_code (Remove path n) _ file code (λ l same. ap Some (sym same)) is
 by_code (Replace path n new) file code is = list_code (Replace path n new) _ file code (λ l same. ap Some (sym same)) is
 by_code (Wrap path n) file code is = list_code (Wrap path n) _ file code (λ l same. ap Some (sym same)) is
-by_code (RemoveStatement path n) file code is = list_code (RemoveStatement path n) _ file code (λ l same. refl) is
+by_code (RemoveStatement blank path n) file code is = list_code (RemoveStatement blank path n) _ file code (λ l same. refl) is
 by_code (Append new) file code is = list_code (Append new) _ file code (λ l same. refl) is
 by_code (Assign path new) file code is = list_code (Assign path new) _ file code (λ l same. refl) is
 by_code (Lines place new) file code is = list_code (Lines place new) _ file code (λ l same. refl) is

@@ -108,6 +108,11 @@ pub enum Command {
         code: StatementCode,
         blank: Option<usize>,
     },
+    /// A statement is removed, with the blank lines beside it that would be too many then. With `unused` each assignment goes too that nothing reads after that.
+    CodeRemove {
+        statement: Search,
+        unused: bool,
+    },
     /// What a value is, or what is in it, is reported.
     ArgumentInfo {
         name: ValueName,
@@ -189,6 +194,10 @@ impl Drop for Command {
                 code: _,
                 blank: _,
             } => {}
+            Command::CodeRemove {
+                statement: _,
+                unused: _,
+            } => {}
             Command::ArgumentInfo { name: _ } => {}
         }
     }
@@ -238,6 +247,7 @@ impl Command {
             Command::OptionsDelete { .. } => "OptionsDelete",
             Command::Argument { .. } => "Argument",
             Command::CodeInsert { .. } => "CodeInsert",
+            Command::CodeRemove { .. } => "CodeRemove",
             Command::ArgumentInfo { .. } => "ArgumentInfo",
         }
     }
@@ -283,6 +293,7 @@ impl fmt::Debug for Command {
             Command::CodeInsert { place, code, blank } => {
                 shown.field(place).field(code).field(blank)
             }
+            Command::CodeRemove { statement, unused } => shown.field(statement).field(unused),
             Command::ArgumentInfo { name } => shown.field(name),
         };
         shown.finish()

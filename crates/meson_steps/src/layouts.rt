@@ -44,7 +44,7 @@ pub(crate) fn list_primitive(list: &meson_syntax::List, edit: ListEdit) -> Optio
             Some(value) => Some(Primitive::Wrap { value }),
             None => None,
         },
-        ListEdit::RemoveStatement(_) => None,
+        ListEdit::RemoveStatement(_, _) => None,
         ListEdit::Append(_) => None,
         ListEdit::Assign(_) => None,
         ListEdit::Lines(_, _) => None,
@@ -73,8 +73,8 @@ fn block_primitive(tree: &Parsed, path: &Path, edit: ListEdit) -> Option<Primiti
     ensures { (source : Source) → edits_list edit ≡ false → result ≡ placed_edit (view source tree.now) path.now.steps edit }
 {
     match edit {
-        ListEdit::RemoveStatement(n) => match statement_span(tree, path, n) {
-            Some(statement) => Some(Primitive::RemoveStatement { statement }),
+        ListEdit::RemoveStatement(n, blank) => match statement_span(tree, path, n) {
+            Some(statement) => Some(Primitive::RemoveStatement { statement, blank }),
             None => None,
         },
         ListEdit::Append(new) => Some(Primitive::Append { new }),

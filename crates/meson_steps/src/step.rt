@@ -4,6 +4,7 @@ ghost use Rattle.std.specs.Prelude.{◌≡◌, ◌++◌, ◌∷◌, [], OnErr, O
 ghost use Rattle.meson_steps.specs.inside.ListSteps.{edits_list};
 
 use meson_calls::CallRef;
+use meson_layout::BlankLines;
 use meson_splice::Bytes;
 use std::alloc::AllocError;
 
@@ -31,8 +32,8 @@ pub enum ListEdit {
     Replace(usize, Bytes),
     /// Its value is replaced by the array of it.
     Wrap(usize),
-    /// The statement of this number is removed.
-    RemoveStatement(usize),
+    /// The statement of this number is removed, with these blank lines beside it.
+    RemoveStatement(usize, BlankLines),
     /// A statement after all others of the file.
     Append(Bytes),
     /// The assignment assigns another value.
@@ -48,7 +49,7 @@ impl ListEdit {
     {
         !matches!(
             self,
-            ListEdit::RemoveStatement(_)
+            ListEdit::RemoveStatement(_, _)
                 | ListEdit::Append(_)
                 | ListEdit::Assign(_)
                 | ListEdit::Lines(_, _)

@@ -1,4 +1,5 @@
 -- A statement that is removed is gone from its block, and all else stays.
+use Rattle.meson_targets.proofs.Words.{Stay}
 use Rattle.meson_targets.proofs.Words.{◌≡◌, ℕ, zero, suc, List, [], ◌∷◌, ◌++◌, length, Option, Some, None, refl, sym, ap, ◌∙◌, subst, option_and_then}
 use Rattle.meson_targets.proofs.Words.{option_map, Word, Sort, of_expression, of_statement, of_block, Node, nth, reach, Nowhere, Plain, Statement, Statements}
 use Rattle.meson_targets.proofs.Words.{no_statements, statement, statement_list, Block, block, file, some-injective, and-then-some, map-some, BlockAt, all_but}
@@ -61,8 +62,8 @@ module _ (line : StatementPlace) (trees after : List Plain) (done : all_stepped 
   abbrev path : List ℕ
   path = line.block.path.steps
 
-  pub made : ChangeMade line.block.file (edited (RemoveStatement path line.number)) trees after
-  made = change_made line.block.file (edited (RemoveStatement path line.number)) trees after (only_step (record { file = line.block.file; edit = RemoveStatement path line.number }) trees after done)
+  pub made : ChangeMade line.block.file (edited (RemoveStatement Stay path line.number)) trees after
+  made = change_made line.block.file (edited (RemoveStatement Stay path line.number)) trees after (only_step (record { file = line.block.file; edit = RemoveStatement Stay path line.number }) trees after done)
 
   pub record Removed : Type 0 where
     pub block : BlockAt Nowhere

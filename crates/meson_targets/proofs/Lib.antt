@@ -10,7 +10,7 @@ mod NewTargets
 mod SetNames
 mod Holders
 pub mod VariableStatements
-mod StatementsDoable
+pub mod StatementsDoable
 mod StatementsRemoved
 mod TargetText
 mod Throughs

@@ -1,11 +1,12 @@
 -- A target that is removed is gone with its statement: no target has its name, and the other targets stay.
+use Rattle.meson_targets.proofs.Words.{Stay}
 use Rattle.meson_targets.proofs.Words.{◌≡◌, ℕ, zero, suc, true, false, List, [], ◌∷◌, ◌++◌, map, Option, Some, None, refl, sym, ap, ◌∙◌, subst, inl, inr, Bool}
 use Rattle.meson_targets.proofs.Words.{◌⊎◌, if◌then◌else◌, ok_or, option_and_then, option_map, Ok, cons_option, then_ok, File, Span, Nowhere, Plain, Expression}
 use Rattle.meson_targets.proofs.Words.{call, Statement, selection, iteration, Branches, Otherwise, Block, erase, erase_block, erase_expression, erase_listing}
 use Rattle.meson_targets.proofs.Words.{erase_statement, some-injective, Every, and-then-some, map-some, BlockAt, block_at, statement_in, RemoveStatement}
 use Rattle.meson_targets.proofs.Words.{blocks-erase, Call, all_chosen, call_of, first_literal, part_call, only_one, Loaded, named_trees, project, views}
 use Rattle.meson_targets.proofs.Words.{or_else, with_name, Part, parts_of_expression, parts_of_listing, parts, parts_of_statement, BuildFile, Placed, Project}
-use Rattle.meson_targets.proofs.Words.{nth_file, place, placed, role_calls, with_role, CallRef, NotStatement, every_chosen, plain_trees, all_stepped, bare_call}
+use Rattle.meson_targets.proofs.Words.{nth_file, place, placed, with_role, CallRef, NotStatement, every_chosen, plain_trees, all_stepped, bare_call}
 use Rattle.meson_targets.proofs.Words.{name_alike, named_alike, named_among, parts_erased, role_alike, tree_there, then_was, CallsGone, RemovedTargetsAreGone}
 use Rattle.meson_targets.proofs.Words.{StatementGone, Held, Holder, StatementPlace, held_by, holder, not_in_use, statement_of, statement_removal}
 use Rattle.meson_targets.proofs.Words.{statement_there, targets_among, role_calls_among, bare_placed, InProject, every_part, parts_of_file, append-nil, nth, ap₂, changed_at, edited}
@@ -180,7 +181,7 @@ module _ (old : Loaded) (w : Option ℕ) (name : CallName) (is_searched : search
   cut tell no_selection no_iteration =
       project_cut tell no_selection no_iteration line it old.files (plain_trees old) after 0 line.block.file (record { name = in_file.0.name; tree = erase in_file.0.tree })
       (plain_file old.files (views old.files old.parsed) line.block.file in_file.0 in_file.1) (plain_statement line in_file.0.tree s in_file.2)
-      (only_step (record { file = line.block.file; edit = RemoveStatement line.block.path.steps line.number }) (plain_trees old) after done)
+      (only_step (record { file = line.block.file; edit = RemoveStatement Stay line.block.path.steps line.number }) (plain_trees old) after done)
 
   -- of the file of this number alone
   file_cut : {Y : Type 0} (tell : Part Nowhere → Option Y) → ((t : Nowhere) (bs : Branches Nowhere) (o : Otherwise Nowhere) → tell (a_statement (selection t bs o)) ≡ None)
@@ -267,8 +268,8 @@ module _ (old : Loaded) (w : Option ℕ) (name : CallName) (is_searched : search
 
   same_names : project_names now ≡ project_names p
   same_names =
-      names_now (edited (RemoveStatement line.block.path.steps line.number)) old.files line.block.file (plain_trees old) after
-      (only_step (record { file = line.block.file; edit = RemoveStatement line.block.path.steps line.number }) (plain_trees old) after done)
+      names_now (edited (RemoveStatement Stay line.block.path.steps line.number)) old.files line.block.file (plain_trees old) after
+      (only_step (record { file = line.block.file; edit = RemoveStatement Stay line.block.path.steps line.number }) (plain_trees old) after done)
       ∙ plain_names old.files (views old.files old.parsed)
 
   calls_gone : CallsGone it name w before now

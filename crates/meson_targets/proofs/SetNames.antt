@@ -1,7 +1,7 @@
 -- The variable that a statement of a file sets is an identifier.
 use Rattle.meson_targets.proofs.Words.{◌≡◌, ℕ, zero, suc, List, [], ◌∷◌, ◌++◌, Some, sym, ap, ◌∙◌, subst, option_and_then, option_map, File, IsIdentifier}
 use Rattle.meson_targets.proofs.Words.{new_line, Span, statement_words, statements_words, block_words, file_words, Sort, of_expression, of_statement, of_block}
-use Rattle.meson_targets.proofs.Words.{Node, node_words, reach, nth, Statement, evaluate, assign, selection, iteration, breaks, continues, Statements}
+use Rattle.meson_targets.proofs.Words.{Node, node_words, reach, nth, Statement, assign, Statements}
 use Rattle.meson_targets.proofs.Words.{no_statements, statement, statement_list, Block, block, file, erase, view, Parsed, some-injective, and-then-some}
 use Rattle.meson_targets.proofs.Words.{map-some, reach-fits, BlockAt, block_of_node, block_at, statement_in, AreParsed, named_trees, views, Project, BuildFile}
 use Rattle.meson_targets.proofs.Words.{nth_file, AreGood, CallRef, StatementPlace, Held, Holder, set_to, held_by, holder, statement_of, statement_there}

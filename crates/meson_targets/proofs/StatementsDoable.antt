@@ -5,6 +5,7 @@ use Rattle.meson_targets.proofs.Words.{of_block, Node, reach, nth, Nowhere, Plai
 use Rattle.meson_targets.proofs.Words.{some-injective, Reaches, and-then-some, map-some, reach-fits, BlockAt, block_of_node, block_at, statement_in, all_but}
 use Rattle.meson_targets.proofs.Words.{block_without, and_last, file_and_last, Written, Edit, RemoveStatement, Append, edited, Writes, AreDoable}
 use Rattle.meson_targets.proofs.Words.{MayStandBetween, one, none, change_there, all_nth}
+use Rattle.meson_layout.specs.declared.primitive.BlankLines.{BlankLines}
 use Rattle.meson_edit.proofs.exchange.AmongStatements.{without-level}
 use Rattle.meson_edit.proofs.exchange.Appended.{file-last-level}
 use Rattle.meson_edit.proofs.paths.Depths.{node_depth, Grows}
@@ -44,12 +45,12 @@ all_but_depth (statement s more) (suc n) = let m = all_but_depth more n in omega
 without_depth : (b : Block Nowhere) (n : ℕ) → block_depth (block_without b n) ≤ block_depth b + 0
 without_depth (block s list) n = let m = all_but_depth list n in omega (arith, m)
 
-record Gone (f now : Plain) : Type 0 where
-  level : LevelFile f → LevelFile now
-  depth : file_depth now ≤ file_depth f
+pub record Gone (f now : Plain) : Type 0 where
+  pub level : LevelFile f → LevelFile now
+  pub depth : file_depth now ≤ file_depth f
 
-gone : (f now : Plain) (path : List ℕ) (n : ℕ) → edited (RemoveStatement path n) f ≡ Some now → Gone f now
-gone f now path n is =
+pub gone : (f now : Plain) (blank : BlankLines) (path : List ℕ) (n : ℕ) → edited (RemoveStatement blank path n) f ≡ Some now → Gone f now
+gone f now blank path n is =
     let o = and-then-some (λ (b : BlockAt Nowhere). option_map (λ s. b.back (block_without b.inside n)) (statement_in b.inside n)) (block_at f path) now is in
     let b = o.0 in
     let m = map-some (λ (s : Statement Nowhere). b.back (block_without b.inside n)) (statement_in b.inside n) now o.2 in
@@ -78,14 +79,14 @@ one_doable : (trees : List Plain) (i : ℕ) (e : Edit) (t now : Plain) → nth t
 one_doable trees i e t now there all writes is stands =
     one (record { file = i; edit = e }) [] trees _ writes (change_there (edited e) trees i t now there is) (All-set MayStandBetween trees i now stands all) (none _)
 
-pub removal_doable : (trees : List Plain) (i : ℕ) (path : List ℕ) (n : ℕ) (t now : Plain) → nth trees i ≡ Some t → All MayStandBetween trees → edited (RemoveStatement path n) t ≡ Some now
-    → AreDoable (record { file = i; edit = RemoveStatement path n } ∷ []) trees
-removal_doable trees i path n t now there all is =
-    let g = gone t now path n is in
+pub removal_doable : (trees : List Plain) (i : ℕ) (blank : BlankLines) (path : List ℕ) (n : ℕ) (t now : Plain) → nth trees i ≡ Some t → All MayStandBetween trees
+    → edited (RemoveStatement blank path n) t ≡ Some now → AreDoable (record { file = i; edit = RemoveStatement blank path n } ∷ []) trees
+removal_doable trees i blank path n t now there all is =
+    let g = gone t now blank path n is in
     let was = all_nth MayStandBetween trees i t all there in
     let deep = g.depth in
     let most = was.1 in
-    one_doable trees i (RemoveStatement path n) t now there all tt is (g.level was.0, omega (arith, deep, most))
+    one_doable trees i (RemoveStatement blank path n) t now there all tt is (g.level was.0, omega (arith, deep, most))
 
 pub append_doable : (trees : List Plain) (i : ℕ) (new : Written (Statement Nowhere)) (t : Plain) → nth trees i ≡ Some t → All MayStandBetween trees → Writes (Append new) → LevelStatement new.node → statement_depth new.node ≤ 1
     → AreDoable (record { file = i; edit = Append new } ∷ []) trees

@@ -1,4 +1,5 @@
 -- The statement of a target, and the step that removes it.
+use Rattle.meson_targets.proofs.Words.{Stay}
 use Rattle.meson_targets.proofs.Words.{◌≡◌, ℕ, zero, suc, ◌+◌, ◌<◌, ◌≤◌, List, [], ◌∷◌, take, length, get_or, map, Option, Some, None, refl, sym, ap, ◌∙◌}
 use Rattle.meson_targets.proofs.Words.{arith, ok_or, option_map, option_and_then, Result, Ok, Err, IfOk, bytes_at, then_ok, File, Span, Statement, view, Parsed}
 use Rattle.meson_targets.proofs.Words.{block_at, statement_in, named_trees, views, Project, BuildFile, nth_file, place, CallRef, Refusal, NotStatement}
@@ -75,7 +76,7 @@ module _ (p : Project Span) (call : CallRef) where
     removed_is is = on_held ∙ ap (λ r. then_ok r (λ _. Ok (statement_removal h.statement))) is
 
     pub removal_meant : {V : Type 0} (list : V → List ListStep) (r : Result V Refusal) → not_in_use p h.statement h.held ≡ Ok tt
-        → IfOk r (λ v. list v ≡ record { list = h.statement.block; edit = code.RemoveStatement h.statement.number } ∷ []) → IfOk r (λ v. AreMeant (call_removed p call) (list v))
+        → IfOk r (λ v. list v ≡ record { list = h.statement.block; edit = code.RemoveStatement h.statement.number Stay } ∷ []) → IfOk r (λ v. AreMeant (call_removed p call) (list v))
     removal_meant list (Ok v) is done = record { steps = statement_removal h.statement; is = removed_is is; bare = sym (ap (map Some) done) }
     removal_meant list (Err e) is done = tt
 

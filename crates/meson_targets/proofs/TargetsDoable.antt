@@ -10,6 +10,8 @@ use Rattle.meson_targets.proofs.Words.{StatementPlace, Holder, is_target_kind, k
 use Rattle.meson_targets.proofs.Words.{number_in, append_steps, target_added, statement_there, held_by, holder, statement_of, not_in_use, statement_removal}
 use Rattle.meson_targets.proofs.Words.{target_removed, written_target}
 use Rattle.std.proofs.lemmas.List.Quantifiers.{position-Some}
+use Rattle.meson_layout.specs.declared.primitive.BlankLines.{BlankLines}
+use Rattle.meson_layout.specs.declared.primitive.BlankLines.TheVariants.{Stay}
 use Rattle.meson_syntax.specs.Tree as tree
 use Rattle.meson_calls.specs.declared.call.Role.TheVariants as role
 use Rattle.meson_calls.specs.declared.call.CallName.{CallName}
@@ -100,8 +102,9 @@ module _ (old : Loaded) (whole : IsProject old) where
 
   -- ---- a target that goes
 
-  gone_there : (f : tree.File Span) (path : List ℕ) (n : ℕ) (s : Statement Span) → option_and_then (λ b. statement_in b.inside n) (block_at f path) ≡ Some s → (now : Plain) × (edited (RemoveStatement path n) (erase f) ≡ Some now)
-  gone_there f path n s is =
+  gone_there : (blank : BlankLines) (f : tree.File Span) (path : List ℕ) (n : ℕ) (s : Statement Span) → option_and_then (λ b. statement_in b.inside n) (block_at f path) ≡ Some s
+      → (now : Plain) × (edited (RemoveStatement blank path n) (erase f) ≡ Some now)
+  gone_there blank f path n s is =
       let o = and-then-some (λ (b : BlockAt Span). statement_in b.inside n) (block_at f path) s is in
       let b = o.0 in
       let q = map-some (λ (c : BlockAt Nowhere). c.inside) (block_at (erase f) path) (erase_block b.inside) (blocks-erase f path ∙ ap (option_map (λ (c : BlockAt Span). erase_block c.inside)) o.1) in
@@ -111,11 +114,13 @@ module _ (old : Loaded) (whole : IsProject old) where
             ∙ ap (option_map (λ t. q.0.back (block_without q.0.inside n))) there,
       )
 
-  statement_doable : (line : StatementPlace) (s : Statement Span) → statement_there p line ≡ Some s → AreDoable (statement_removal line) (plain_trees old)
-  statement_doable line s is =
+  -- with any blank lines beside it
+  pub statement_doable : (blank : BlankLines) (line : StatementPlace) (s : Statement Span) → statement_there p line ≡ Some s
+      → AreDoable (record { file = line.block.file; edit = RemoveStatement blank line.block.path.steps line.number } ∷ []) (plain_trees old)
+  statement_doable blank line s is =
       let o = and-then-some (λ (f : BuildFile Span). option_and_then (λ b. statement_in b.inside line.number) (block_at f.tree line.block.path.steps)) (nth_file p line.block.file) s is in
-      let g = gone_there o.0.tree line.block.path.steps line.number s o.2 in
-      removal_doable (plain_trees old) line.block.file line.block.path.steps line.number (erase o.0.tree) g.0 (plain_there old.files old.parsed line.block.file o.0 o.1) (trees_stand old.files old.parsed whole.parsed) g.1
+      let g = gone_there blank o.0.tree line.block.path.steps line.number s o.2 in
+      removal_doable (plain_trees old) line.block.file blank line.block.path.steps line.number (erase o.0.tree) g.0 (plain_there old.files old.parsed line.block.file o.0 o.1) (trees_stand old.files old.parsed whole.parsed) g.1
 
   removed_doable : (c : Placed (Call Span)) (steps : List Step) → target_removed p c ≡ Ok steps → AreDoable steps (plain_trees old)
   removed_doable c steps is =
@@ -126,7 +131,7 @@ module _ (old : Loaded) (whole : IsProject old) where
       let o = and-then-some (λ line. option_map (λ held. record { statement = line; held = held }) (option_and_then held_by (statement_there p line))) (statement_of c.place) h (some_there (holder p c.place) h a.1) in
       let m = map-some (λ held. record { statement = o.0; held = held }) (option_and_then held_by (statement_there p o.0)) h o.2 in
       let s = and-then-some held_by (statement_there p o.0) m.0 m.1 in
-      let here = statement_doable o.0 s.0 s.1 in
+      let here = statement_doable Stay o.0 s.0 s.1 in
       subst (λ ss. AreDoable ss (plain_trees old)) (ap (λ (k : Holder). statement_removal k.statement) m.2 ∙ same) here
 
   -- ---- what the commands mean

@@ -1,4 +1,5 @@
 -- What is told of the parts of a file, one after another: between what is told of all else stands what is told of a block in it, and of a statement of that.
+use Rattle.meson_targets.proofs.Words.{Stay}
 use Rattle.meson_targets.proofs.Words.{◌≡◌, ℕ, zero, suc, ◌+◌, List, [], ◌∷◌, ◌++◌, append-nil, append_assoc, Option, Some, None, refl, sym, ap, ap₂, ◌∙◌}
 use Rattle.meson_targets.proofs.Words.{subst, arith, option_and_then, option_map, cons_option, File, Any, an_expression, a_statement, a_block, Sort}
 use Rattle.meson_targets.proofs.Words.{of_expression, of_statement, of_block, Node, Hole, around, reach, Nowhere, Plain, Name, Expression, Statement, evaluate}
@@ -259,14 +260,14 @@ module _ {Y : Type 0} (tell : Part Nowhere → Option Y) where
 
     pub project_cut : (line : StatementPlace) (it : Statement Nowhere) (files : List File) (before after : List Plain) (n i : ℕ) (f : BuildFile Nowhere) → nth_file (named_trees files before) i ≡ Some f
         → option_and_then (λ (b : BlockAt Nowhere). statement_in b.inside line.number) (block_at f.tree line.block.path.steps) ≡ Some it
-        → changed_at i (edited (RemoveStatement line.block.path.steps line.number)) before ≡ Some after
+        → changed_at i (edited (RemoveStatement Stay line.block.path.steps line.number)) before ≡ Some after
         → Cut (of_project n (named_trees files before)) (of_node of_statement it) (of_project n (named_trees files after))
     project_cut line it [] before after n i f is_file is_it made = absurd cc
     project_cut line it (g ∷ files) [] after n i f is_file is_it made = absurd cc
     project_cut line it (g ∷ files) (t ∷ ts) after n zero f is_file is_it made =
         let path = line.block.path.steps in
         let is_tree : t ≡ f.tree = ap (λ (h : BuildFile Nowhere). h.tree) (some-injective _ _ is_file) in
-        let o = map-some (λ y. y ∷ ts) (edited (RemoveStatement path line.number) t) after made in
+        let o = map-some (λ y. y ∷ ts) (edited (RemoveStatement Stay path line.number) t) after made in
         let b = and-then-some (λ (c : BlockAt Nowhere). option_map (λ s. c.back (block_without c.inside line.number)) (statement_in c.inside line.number)) (block_at t path) o.0 o.1 in
         let m = map-some (λ (s : Statement Nowhere). b.0.back (block_without b.0.inside line.number)) (statement_in b.0.inside line.number) o.0 b.2 in
         let here_it : statement_in b.0.inside line.number ≡ Some it =
@@ -283,7 +284,7 @@ module _ {Y : Type 0} (tell : Part Nowhere → Option Y) where
               ∙ ap (λ u. of_file n u ++ rest) (sym m.2) ∙ w.has;
         }
     project_cut line it (g ∷ files) (t ∷ ts) after n (suc i) f is_file is_it made =
-        let o = map-some (λ l. t ∷ l) (changed_at i (edited (RemoveStatement line.block.path.steps line.number)) ts) after made in
+        let o = map-some (λ l. t ∷ l) (changed_at i (edited (RemoveStatement Stay line.block.path.steps line.number)) ts) after made in
         let c = project_cut line it files ts o.0 (n + 1) i f is_file is_it o.1 in
         let own = of_file n t in
         record {

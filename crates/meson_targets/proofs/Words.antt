@@ -30,6 +30,8 @@ pub use Rattle.meson_syntax.specs.inside.Children.{any_of, block_parts, child_no
 pub use Rattle.meson_syntax.proofs.parsing.Steps.{some-injective}
 pub use Rattle.meson_syntax.proofs.paths.Every.{Every, every-nth}
 pub use Rattle.meson_syntax.proofs.paths.Reaching.{and-then-some, map-some, reach-fits, Reaches}
+pub use Rattle.meson_layout.specs.declared.primitive.BlankLines.{BlankLines}
+pub use Rattle.meson_layout.specs.declared.primitive.BlankLines.TheVariants.{Stay}
 pub use Rattle.meson_edit.specs.Blocks.{all_but, and_last, block_at, block_of_node, block_without, BlockAt, file_and_last, statement_in}
 pub use Rattle.meson_edit.specs.Edits.{Append, Edit, edited, RemoveStatement, Written}
 pub use Rattle.meson_edit.specs.Places.{IsWrittenStatement, Writes}

@@ -3,6 +3,7 @@ use Rattle.std.specs.Prelude.{ℕ, Bool, true, false, not, ◌&&◌, nat_eq, Lis
 use Rattle.std.specs.List.{list_any}
 use Rattle.meson_lex.specs.Literals.{literal}
 use Rattle.meson_splice.specs.Patch.{then_ok}
+use Rattle.meson_layout.specs.declared.primitive.BlankLines.TheVariants.{Stay}
 use Rattle.meson_syntax.specs.declared.operator.Assignment.TheVariants as assignment
 use Rattle.meson_syntax.specs.Tree.{bare_name, Nowhere, Expression, identifier, call, listing, plain, arguments_of, Statement, evaluate, assign, iteration}
 use Rattle.meson_edit.specs.Blocks.{block_at, statement_in}
@@ -170,7 +171,7 @@ not_in_use p statement alone = Ok tt
 not_in_use p statement (set_to x) = if is_used_outside p statement x then Err (InUse x) else Ok tt
 
 abbrev pub statement_removal : StatementPlace → List Step
-statement_removal statement = record { file = statement.block.file; edit = RemoveStatement statement.block.path.steps statement.number } ∷ []
+statement_removal statement = record { file = statement.block.file; edit = RemoveStatement Stay statement.block.path.steps statement.number } ∷ []
 
 abbrev pub call_removed : {S : Type 0} → Project S → CallRef → Result (List Step) Refusal
 call_removed p c = then_ok (ok_or (holder p c) NotStatement) (λ h. then_ok (not_in_use p h.statement h.held) (λ _. Ok (statement_removal h.statement)))

@@ -8,4 +8,4 @@ pub mod target_removing;
 mod uses;
 pub mod variable;
 
-pub use uses::StatementPlace;
+pub use uses::{StatementPlace, is_used_outside};

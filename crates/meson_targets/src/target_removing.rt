@@ -15,6 +15,7 @@ use meson_calls::finding::the_call;
 use meson_calls::noted::Noted;
 use meson_calls::roles::identifier_text;
 use meson_calls::{BorrowedName, CallRef, Refusal, Role};
+use meson_layout::BlankLines;
 use meson_splice::Text;
 use meson_steps::step::{ListEdit, ListStep, push_step};
 use std::alloc::Global;
@@ -48,12 +49,16 @@ fn not_in_use(
 
 /// The step that removes a statement.
 fn statement_removed(alloc: Global, line: StatementPlace) -> Result<Vec<ListStep>, Refusal>
-    ensures done { IfOk result (λ steps. steps.items ≡ record { list = line.block; edit = ListEdit.RemoveStatement line.number } ∷ []) }
+    ensures done { IfOk result (λ steps. steps.items ≡ record { list = line.block; edit = ListEdit.RemoveStatement line.number BlankLines.Stay } ∷ []) }
     ensures refused { IfErr result (λ e. e ≡ Refusal.OutOfMemory) }
 {
     let StatementPlace { block, number } = line;
     let mut steps = Vec::new(alloc);
-    push_step(&mut steps, block, ListEdit::RemoveStatement(number))?;
+    push_step(
+        &mut steps,
+        block,
+        ListEdit::RemoveStatement(number, BlankLines::Stay),
+    )?;
     Ok(steps)
 }
 

@@ -55,7 +55,7 @@ impl StatementPlace {
     }
 
     /// Whether a place is outside the statement.
-    fn is_outside(&self, place: BorrowedPlace<'_>) -> bool
+    pub fn is_outside(&self, place: BorrowedPlace<'_>) -> bool
         ensures { result ≡ is_outside (place_view self.now) (place_at place.entry) }
     {
         self.block.file != place.file || !self.is_on(place.path)
@@ -159,7 +159,10 @@ fn reads_of<'t>(
 }
 
 /// Whether the variable is used outside a statement.
-pub(crate) fn is_used_outside(
+///
+/// # Errors
+/// Out of memory.
+pub fn is_used_outside(
     alloc: Global,
     noted: &Noted<'_>,
     line: &StatementPlace,

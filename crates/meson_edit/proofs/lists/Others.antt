@@ -221,7 +221,7 @@ module _ (items : List Lexeme) (p : ListAt Span) (l : ListStands items p) (m : �
       let own = ap length part.is_left in
       let sum = length-append y.before (words_ahead y.element) in
       before-by n y is_y before left front gone (omega arith) cut comma
-  enough-before (RemoveStatement path n) left right notes t before front gone cut comma = absurd before
+  enough-before (RemoveStatement blank path n) left right notes t before front gone cut comma = absurd before
   enough-before (Append new) left right notes t before front gone cut comma = absurd before
   enough-before (Assign path new) left right notes t before front gone cut comma = absurd before
   enough-before (Lines place new) left right notes t before front gone cut comma = absurd before
@@ -245,7 +245,7 @@ module _ (items : List Lexeme) (p : ListAt Span) (l : ListStands items p) (m : �
   enough-behind (Remove path n) left right notes (y, is_y, part, left_is, right_is, n_is) behind lost rest cut comma = behind-of n y is_y behind right lost rest (ap spoken right_is ∙ part.is_right) cut comma
   enough-behind (Replace path n new) left right notes (y, is_y, v, is_v, part, left_is, right_is, n_is) behind lost rest cut comma = behind-of n y is_y behind right lost rest (ap spoken right_is ∙ part.is_right) cut comma
   enough-behind (Wrap path n) left right notes (y, is_y, v, is_v, part, left_is, right_is, n_is) behind lost rest cut comma = behind-of n y is_y behind right lost rest (ap spoken right_is ∙ part.is_right) cut comma
-  enough-behind (RemoveStatement path n) left right notes t behind lost rest cut comma = absurd behind
+  enough-behind (RemoveStatement blank path n) left right notes t behind lost rest cut comma = absurd behind
   enough-behind (Append new) left right notes t behind lost rest cut comma = absurd behind
   enough-behind (Assign path new) left right notes t behind lost rest cut comma = absurd behind
   enough-behind (Lines place new) left right notes t behind lost rest cut comma = absurd behind
@@ -259,7 +259,7 @@ module _ (items : List Lexeme) (p : ListAt Span) (l : ListStands items p) (m : �
   inner-left (Remove path n) left right notes (y, is_y, part, left_is, right_is, n_is) = (part.own, part.parts ∙ ap₂ (λ u v. u ++ (part.own ++ v)) (sym left_is) (sym right_is))
   inner-left (Replace path n new) left right notes (y, is_y, v, is_v, part, left_is, right_is, n_is) = (part.own, part.parts ∙ ap₂ (λ u v. u ++ (part.own ++ v)) (sym left_is) (sym right_is))
   inner-left (Wrap path n) left right notes (y, is_y, v, is_v, part, left_is, right_is, n_is) = (part.own, part.parts ∙ ap₂ (λ u v. u ++ (part.own ++ v)) (sym left_is) (sym right_is))
-  inner-left (RemoveStatement path n) left right notes t = absurd t
+  inner-left (RemoveStatement blank path n) left right notes t = absurd t
   inner-left (Append new) left right notes t = absurd t
   inner-left (Assign path new) left right notes t = absurd t
   inner-left (Lines place new) left right notes t = absurd t

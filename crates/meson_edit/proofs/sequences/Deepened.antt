@@ -73,7 +73,7 @@ elements-deepen (Wrap path n) xs now is =
     let d = value-depth v.it (array_of v.value) v.value v.is_value in
     subst (λ ys. depth_of ys ≤ depth_of xs + 1) v.is_now
     (depth-put n (suc n) 1 xs (with_value (array_of v.value) v.it) (omega (arith, d.0, d.1, depth-nth xs n v.it v.is_it)))
-elements-deepen (RemoveStatement path n) xs now is = absurd cc
+elements-deepen (RemoveStatement blank path n) xs now is = absurd cc
 elements-deepen (Append new) xs now is = absurd cc
 elements-deepen (Assign path new) xs now is = absurd cc
 elements-deepen (Lines place new) xs now is = absurd cc
@@ -96,7 +96,7 @@ edits-deepen (After list n new) path of t now is = list-deepens (After list n ne
 edits-deepen (Remove list n) path of t now is = list-deepens (Remove list n) list t now is
 edits-deepen (Replace list n new) path of t now is = list-deepens (Replace list n new) list t now is
 edits-deepen (Wrap list n) path of t now is = list-deepens (Wrap list n) list t now is
-edits-deepen (RemoveStatement block n) path of t now is = absurd of
+edits-deepen (RemoveStatement blank block n) path of t now is = absurd of
 edits-deepen (Append new) path of t now is = absurd of
 edits-deepen (Assign assignment new) path of t now is = absurd of
 edits-deepen (Lines place new) path of t now is = absurd of

@@ -35,24 +35,24 @@ module _ (items : List Lexeme) (s : Span) (words rest : List Word) (l : LineStan
   }
 
 pub removals-spell : StatementRemovalsSpell
-removals-spell path n limits bytes f s items are name writes t is level =
+removals-spell blank path n limits bytes f s items are name writes t is level =
     let v = leaves f path n t is in
     let b = v.place in
     let x = v.node in
     let sp = statement_span x in
     let same = one_list bytes s.reads.spells.items items s.reads.spells.are_items are in
     let l = subst (λ xs. LineStands xs sp _ _) same (line-stands limits bytes f s path b v.is_place n x v.is_node) in
-    let g = statement-removal-law name bytes items are sp l.more (line-place items sp _ _ l) in
+    let g = statement-removal-law name bytes items are blank sp l.more (line-place items sp _ _ l) in
     record {
-      primitive = layout.RemoveStatement sp;
+      primitive = layout.RemoveStatement sp blank;
       is_primitive =
-          ap (λ o. option_map layout.RemoveStatement (option_map statement_span (option_and_then (λ b. statement_in b.inside n) o))) v.is_place
-          ∙ ap (λ o. option_map layout.RemoveStatement (option_map statement_span o)) v.is_node;
+          ap (λ o. option_map (λ q. layout.RemoveStatement q blank) (option_map statement_span (option_and_then (λ b. statement_in b.inside n) o))) v.is_place
+          ∙ ap (λ o. option_map (λ q. layout.RemoveStatement q blank) (option_map statement_span o)) v.is_node;
       placed = span-place items sp _ _ l;
       text = joined g.front ++ joined g.rest;
       patches = g.edited.patches;
-      utf8 = coding-law name bytes items are s.reads.source.utf8 (layout.RemoveStatement sp) tt (joined g.front ++ joined g.rest) g.edited.patches;
-      texts = texts-law name bytes items are s.reads.source.utf8 (layout.RemoveStatement sp) tt;
+      utf8 = coding-law name bytes items are s.reads.source.utf8 (layout.RemoveStatement sp blank) tt (joined g.front ++ joined g.rest) g.edited.patches;
+      texts = texts-law name bytes items are s.reads.source.utf8 (layout.RemoveStatement sp blank) tt;
       spells = record {
         items = g.edited.items;
         are_items = g.edited.are_items;

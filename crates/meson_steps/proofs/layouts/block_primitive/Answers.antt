@@ -3,10 +3,10 @@ use Rattle.meson_layout.specs.declared.primitive.Primitive.TheVariants as layout
 use Rattle.meson_steps.proofs.layouts.block_primitive.Goals as goal
 
 pub returns-in-Some : goal.returns-in-Some
-returns-in-Some c = λ source of. ap (option_map (layout.RemoveStatement)) (c.in-Some.ensures source) ∙ ap (placed_edit (view source c.args.tree.now) c.args.path.now.steps) (sym c.in-RemoveStatement.is)
+returns-in-Some c = λ source of. ap (option_map (λ s. layout.RemoveStatement s c.in-RemoveStatement.blank)) (c.in-Some.ensures source) ∙ ap (placed_edit (view source c.args.tree.now) c.args.path.now.steps) (sym c.in-RemoveStatement.is)
 
 pub returns-in-RemoveStatement : goal.returns-in-RemoveStatement
-returns-in-RemoveStatement c = λ source of. ap (option_map (layout.RemoveStatement)) (c.in-None.ensures source) ∙ ap (placed_edit (view source c.args.tree.now) c.args.path.now.steps) (sym c.in-RemoveStatement.is)
+returns-in-RemoveStatement c = λ source of. ap (option_map (λ s. layout.RemoveStatement s c.in-RemoveStatement.blank)) (c.in-None.ensures source) ∙ ap (placed_edit (view source c.args.tree.now) c.args.path.now.steps) (sym c.in-RemoveStatement.is)
 
 pub returns-in-Some-assigned_span : goal.returns-in-Some-assigned_span
 returns-in-Some-assigned_span c = λ source of.
