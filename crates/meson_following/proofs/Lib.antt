@@ -6,11 +6,8 @@ pub mod ReadFiles
 pub mod ReadParts
 pub mod ReadTurns
 pub mod TakenTurns
-pub mod WayTurns
-pub mod TakerLists
 pub mod HeldTexts
 pub mod ReadAnswers
-pub mod OwnMakers
 pub mod Searches
 pub mod SearchParts
 pub mod Steps
@@ -22,5 +19,4 @@ pub mod Asking
 pub mod Followed
 pub mod MetArguments
 pub mod Entering
-pub mod Sharing
-pub mod ApartReads
+pub mod LeftOut

@@ -16,7 +16,7 @@ use Rattle.meson_calls.proofs.Listed.{list_is}
 use Rattle.meson_following.specs.declared.site.Site.{Site}
 use Rattle.meson_following.specs.CodeArguments.{call_followed, is_in_list, value_by, value_met, values_met}
 use Rattle.meson_following.specs.CodeSites.{project_at, way_at}
-use Rattle.meson_following.specs.Following.{Following, Mark, follow, follow_left, follow_marks, follow_values, hidden, met, nothing_met, opaque, straight, then_follow}
+use Rattle.meson_following.specs.Following.{Following, Mark, follow, follow_call, follow_left, follow_marks, follow_values, hidden, met, nothing_met, opaque, straight, then_follow}
 use Rattle.meson_variables.specs.Expansion.{max_followed}
 use Rattle.meson_following.proofs.Followed.{follow_nothing, follow_twice}
 
@@ -65,6 +65,9 @@ module _ (s : Site) (call : CallRef) (steps : List ℕ) (source : List ℕ) (arg
       ∙ ap (λ g. then_follow g (values_there false ys))
       (plains ∙ ap (then_follow f) (values_are None xs) ∙ ap (λ f. then_follow f (values_there true xs)) none ∙ met_first (values_there true xs)
       ∙ ap (λ xs. values_there true xs []) (sym others))
+
+pub call_is : (p : Project Span) (q : CallRef) (function source : List ℕ) (l : rust.List) → follow_call p (placed_call q function source l) ≡ call_followed p q source l.items
+call_is p q function source l = ap (λ list. follow_call p (placed q (call_with function list))) (list_is source l)
 
 -- What is met in all arguments: `kwargs:` hides others.
 module _ (p : Project Span) (call : CallRef) (function source : List ℕ) (l : rust.List) (f : Following Span) (is : f ≡ call_followed p call source l.items) where

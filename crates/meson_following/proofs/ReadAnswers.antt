@@ -12,7 +12,7 @@ use Rattle.meson_following.specs.declared.walk.Aim.TheVariants as aim
 use Rattle.meson_following.specs.Flows.{Arrival, known_among}
 use Rattle.meson_following.specs.Makers.{Known}
 use Rattle.meson_following.specs.Reads.{read_places, reads_at_arrival}
-use Rattle.meson_following.specs.Sharing.{has_one_of, sees}
+use Rattle.meson_following.specs.Reads.{has_one_of, sees}
 use Rattle.meson_following.specs.Walks.{Found, met_by, reads_seen}
 
 -- ---- a place

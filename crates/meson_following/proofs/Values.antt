@@ -1,6 +1,7 @@
 -- The expression at a place of a project, which is read where its file is.
-use Rattle.std.proofs.Common.{◌≡◌, ℕ, ◌<◌, List, ◌++◌, length, get_or, sym, subst}
+use Rattle.std.proofs.Common.{◌≡◌, ℕ, ◌<◌, ◌^◌, List, ◌++◌, length, get_or, sym, subst, length-append, arith}
 use Rattle.std.specs.Prelude.{Some}
+use Rattle.meson_lex.specs.Significant.{Word}
 use Rattle.meson_lex.specs.declared.kinds.Span.{Span}
 use Rattle.meson_splice.specs.declared.file_set.File.{File}
 use Rattle.meson_splice.specs.Files.{bytes_at}
@@ -16,27 +17,45 @@ use Rattle.meson_calls.specs.Strings.{AreGood}
 use Rattle.meson_calls.proofs.CallsAt.{spanned_at}
 use Rattle.meson_calls.proofs.GoodParts.{good_left, good_right}
 use Rattle.meson_calls.proofs.GoodTexts.{text_good}
+use Rattle.meson_calls.proofs.WordCounts.{file_few}
 use Rattle.meson_syntax.proofs.paths.Reaching.{and-then-some, reach-fits}
 
-node_read : (sort : Sort) (x : Node sort Span) (e : Expression Span) → expression_of Span sort x ≡ Some e → AreGood (node_words Span sort x) → AreGood (expression_words e)
-node_read of_expression x e is good = let same : x ≡ e = cc in subst (λ y. AreGood (expression_words y)) same good
-node_read of_statement x e is good = cc
-node_read of_block x e is good = cc
+-- what holds of words, and then of the first and of the last of them
+module _ (P : List Word → Type 0) (left : (xs ys : List Word) → P (xs ++ ys) → P xs) (right : (xs ys : List Word) → P (xs ++ ys) → P ys) where
+  node_read : (sort : Sort) (x : Node sort Span) (e : Expression Span) → expression_of Span sort x ≡ Some e → P (node_words Span sort x) → P (expression_words e)
+  node_read of_expression x e is holds = let same : x ≡ e = cc in subst (λ y. P (expression_words y)) same holds
+  node_read of_statement x e is holds = cc
+  node_read of_block x e is holds = cc
 
-file_is : (f : tree.File Span) → AreGood (file_words f) → AreGood (node_words Span of_block (block_of f))
-file_is (tree.file s b) good = good
+  file_is : (f : tree.File Span) → P (file_words f) → P (node_words Span of_block (block_of f))
+  file_is (tree.file s b) holds = holds
 
-among_words : (f : tree.File Span) (path : List ℕ) (e : Expression Span) → expression_on_path f path ≡ Some e → AreGood (file_words f) → AreGood (expression_words e)
-among_words f path e is good =
-    let found = and-then-some (λ h. expression_of Span h.sort h.inside) (reach Span of_block (block_of f) path) e is in
-    let h = found.0 in
-    let fits = reach-fits Span of_block (block_of f) path h found.1 in
-    let whole = subst AreGood (fits.put h.inside) (subst (λ b. AreGood (node_words Span of_block b)) (sym fits.same) (file_is f good)) in
-    node_read h.sort h.inside e found.2 (good_left (node_words Span h.sort h.inside) h.behind (good_right h.before (node_words Span h.sort h.inside ++ h.behind) whole))
+  among_words : (f : tree.File Span) (path : List ℕ) (e : Expression Span) → expression_on_path f path ≡ Some e → P (file_words f) → P (expression_words e)
+  among_words f path e is holds =
+      let found = and-then-some (λ h. expression_of Span h.sort h.inside) (reach Span of_block (block_of f) path) e is in
+      let h = found.0 in
+      let fits = reach-fits Span of_block (block_of f) path h found.1 in
+      let whole = subst P (fits.put h.inside) (subst (λ b. P (node_words Span of_block b)) (sym fits.same) (file_is f holds)) in
+      node_read h.sort h.inside e found.2 (left (node_words Span h.sort h.inside) h.behind (right h.before (node_words Span h.sort h.inside ++ h.behind) whole))
 
 pub value_good : (files : List File) (trees : List Parsed) (n : ℕ) (d : Parsed) (path : List ℕ) (e : Expression Span) → n < length trees → AreParsed files trees
     → Some e ≡ expression_on_path (view (bytes_at n files) (get_or trees n d)) path → AreGood (expression_words e)
 value_good files trees n d path e lt are is =
     let f = view (bytes_at n files) (get_or trees n d) in
     let spanned = spanned_at files trees n d lt are in
-    among_words f path e (sym is) (subst AreGood (file-words-erased f) (text_good (bytes_at n files) (erase f) spanned.reads.spells))
+    among_words AreGood good_left good_right f path e (sym is) (subst AreGood (file-words-erased f) (text_good (bytes_at n files) (erase f) spanned.reads.spells))
+
+abbrev Few : List Word → Type 0
+Few words = length words < 2 ^ 64
+
+few_left : (xs ys : List Word) → Few (xs ++ ys) → Few xs
+few_left xs ys few = omega (arith, length-append xs ys, few)
+
+few_right : (xs ys : List Word) → Few (xs ++ ys) → Few ys
+few_right xs ys few = omega (arith, length-append xs ys, few)
+
+pub value_few : (files : List File) (trees : List Parsed) (n : ℕ) (d : Parsed) (path : List ℕ) (e : Expression Span) → n < length trees → AreParsed files trees
+    → Some e ≡ expression_on_path (view (bytes_at n files) (get_or trees n d)) path → length (expression_words e) < 2 ^ 64
+value_few files trees n d path e lt are is =
+    let t = get_or trees n d in
+    among_words Few few_left few_right (view (bytes_at n files) t) path e (sym is) (file_few (bytes_at n files) t (spanned_at files trees n d lt are))

@@ -17,8 +17,4 @@ pub mod CodeArguments
 pub mod Samples
 pub mod Rows
 pub mod Infos
-pub mod Sharing
-pub mod CodeWays
-pub mod CodeOwning
-pub mod SharedLists
 pub mod Laws

@@ -1,7 +1,7 @@
 -- What may have made the value of a variable. Meson manual, Syntax, "Variables": a variable is set by an assignment, `+=` gives a new value, and no value
 -- ever changes. So what a variable holds is what the assignments that an evaluation went through last have put there. Where evaluations take different ways,
 -- more than one assignment may have done so.
-use Rattle.std.specs.Prelude.{ℕ, ◌==◌, nat_lt, Bool, true, false, not, ◌&&◌, ◌||◌, List, [], ◌∷◌, ◌++◌, map, filter, length, take, if◌then◌else◌, bytes_eq, Option, Some, None}
+use Rattle.std.specs.Prelude.{ℕ, ◌==◌, nat_le, nat_lt, Bool, true, false, not, ◌&&◌, ◌||◌, List, [], ◌∷◌, ◌++◌, map, filter, length, take, if◌then◌else◌, bytes_eq, Option, Some, None}
 use Rattle.std.specs.List.{list_any}
 use Rattle.meson_syntax.specs.Tree.{Expression}
 use Rattle.meson_calls.specs.declared.call.CallRef.{CallRef}
@@ -51,6 +51,10 @@ max_makers = 1024
 
 abbrev pub limited : {S : Type 0} → Made S → Made S
 limited m = if nat_lt max_makers (length m.makers) then record { makers = take max_makers m.makers; unknown = true } else m
+
+-- as many are kept as can be: others may have been left out
+abbrev pub is_full : {S : Type 0} → Made S → Bool
+is_full m = nat_le max_makers (length m.makers)
 
 -- ---- one of two ways
 

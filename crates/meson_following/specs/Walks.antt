@@ -24,8 +24,7 @@ use Rattle.meson_following.specs.CodeMakers.{known_view}
 use Rattle.meson_following.specs.Effects.{calls_of_listing, effect_of}
 use Rattle.meson_following.specs.Flows.{Arrival, Choice, Flow, all_branches, begun, flow_block, flow_branches, flow_call, flow_calls, flow_effect, flow_expression, flow_file, flow_loop, flow_otherwise, flow_project, flow_statement, met_at, no_branch, with_block, with_condition}
 use Rattle.meson_following.specs.Makers.{Known}
-use Rattle.meson_following.specs.Reads.{read_places}
-use Rattle.meson_following.specs.Sharing.{has_one_of}
+use Rattle.meson_following.specs.Reads.{has_one_of, read_places}
 
 -- what is known at a place, and the places at which a variable is read
 pub record Found : Type 0 where

@@ -18,7 +18,7 @@ use meson_syntax::{Arg, Expr};
 use std::alloc::AllocError;
 
 /// The value of an argument without a name, or with this one.
-pub(crate) fn value_of<'e>(source: &[u8], arg: &'e Arg, key: Option<&[u8]>) -> Option<&'e Expr>
+pub fn value_of<'e>(source: &[u8], arg: &'e Arg, key: Option<&[u8]>) -> Option<&'e Expr>
     ensures { option_map (λ e. expr_view source.now e.now) result ≡ value_by (option_map (λ k. k.now) key.entry) (arg_view source.now arg.now) }
 {
     match (arg, key) {

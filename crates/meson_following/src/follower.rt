@@ -1,13 +1,13 @@
 //! A project whose variables are followed.
 
-ghost use Rattle.std.specs.Prelude.{◌≡◌, IfOk, IfSome, option_map};
+ghost use Rattle.std.specs.Prelude.{◌≡◌, ◌<◌, ◌^◌, IfOk, IfSome, length, option_map};
 ghost use Rattle.meson_syntax.specs.Grammar.{expression_words};
 ghost use Rattle.meson_calls.specs.Loading.{IsProject, loaded_from};
 ghost use Rattle.meson_calls.specs.Project.{expression_at, place_at};
 ghost use Rattle.meson_following.specs.CodeMakers.{known_view};
 ghost use Rattle.meson_following.specs.CodeFollowing.{followed_project, value_view};
 ghost use Rattle.meson_following.specs.Flows.{known_at};
-ghost use Rattle.meson_following.specs.Sharing.{reads_of_variable};
+ghost use Rattle.meson_following.specs.Reads.{reads_of_variable};
 ghost use Rattle.meson_calls.specs.Strings.{AreGood};
 
 use crate::makers::Known;
@@ -28,7 +28,7 @@ pub struct Follower<'t> {
 
 /// An expression, and the bytes of its file.
 #[derive(Clone, Copy)]
-pub(crate) struct Value<'t> {
+pub struct Value<'t> {
     pub source: &'t [u8],
     pub expr: &'t Expr,
 }
@@ -57,8 +57,12 @@ impl<'t> Follower<'t> {
         Ok(known)
     }
 
-    /// The places at which a variable is read when it may hold the value of one of these makers.
-    pub(crate) fn reads_of_variable(
+    /// The places at which a variable is read when it may hold the value of one of these makers, in the order of evaluation. Where as many makers are known as
+    /// are kept apart, it may hold the value of any.
+    ///
+    /// # Errors
+    /// Out of memory.
+    pub fn reads_of_variable(
         &self,
         variable: &[u8],
         makers: &[CallRef],
@@ -77,11 +81,12 @@ impl<'t> Follower<'t> {
         Ok(reads)
     }
 
-    /// The expression at a place.
-    pub(crate) fn value_at(&self, place: &CallRef) -> Option<Value<'t>>
+    /// The expression at a place; `None` if nothing is there.
+    pub fn value_at(&self, place: &CallRef) -> Option<Value<'t>>
         requires { IsProject (loaded_from self.now.files.now self.now.trees.now) }
         ensures value { option_map value_view result ≡ expression_at (followed_project self.now) place.now }
         ensures good { IfSome result (λ v. AreGood (expression_words (value_view v))) }
+        ensures fits { IfSome result (λ v. length (expression_words (value_view v)) < 2 ^ 64) }
     {
         if place.file >= self.trees.len() {
             return None;

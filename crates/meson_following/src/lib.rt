@@ -10,16 +10,13 @@ pub mod lists;
 pub mod makers;
 pub mod marks;
 pub mod names;
-mod owning;
 mod reader;
 mod reads;
 pub mod site;
 mod sources;
-mod takers;
 pub mod walk;
 mod walk_statements;
-mod ways;
 
-pub use follower::Follower;
+pub use follower::{Follower, Value};
 pub use makers::{Known, Made, Maker};
 pub use marks::{Following, Item, Mark, Way};

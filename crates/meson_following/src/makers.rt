@@ -3,7 +3,7 @@
 ghost use Rattle.std.specs.Prelude.{◌≡◌, ◌&&◌, Some, IfOk, filter, map, not};
 ghost use Rattle.meson_following.specs.CodeMakers.{known_view, made_view, maker_view};
 ghost use Rattle.meson_following.specs.Following.{one_of_places};
-ghost use Rattle.meson_following.specs.Makers.{added, are_same, assigned, either_made, is_among, is_same_place, is_sure_among, joined, limited, made_by};
+ghost use Rattle.meson_following.specs.Makers.{added, are_same, assigned, either_made, is_among, is_full, is_same_place, is_sure_among, joined, limited, made_by};
 ghost use Rattle.meson_following.specs.Makers.{made_unknown, of_both, renewed, sure_as_among, touched, unsure, with_maker};
 
 use meson_calls::CallRef;
@@ -39,14 +39,14 @@ pub struct Made<'t> {
 pub type Known<'t> = Option<Made<'t>>;
 
 /// Whether two places are the same.
-pub(crate) fn is_same_place(place: &CallRef, other: &CallRef) -> bool
+pub fn is_same_place(place: &CallRef, other: &CallRef) -> bool
     ensures { result ≡ is_same_place place.now other.now }
 {
     place.file == other.file && place.path.steps.get() == other.path.steps.get()
 }
 
 /// Whether a place is one of these.
-pub(crate) fn is_one_of(places: &[CallRef], place: &CallRef) -> bool
+pub fn is_one_of(places: &[CallRef], place: &CallRef) -> bool
     ensures { result ≡ one_of_places places.now place.now }
 {
     for other in places {
@@ -284,6 +284,13 @@ impl<'t> Made<'t> {
             };
         }
         Made { makers, unknown }
+    }
+
+    /// Whether as many makers are kept as can be: others may have been left out.
+    pub(crate) fn is_full(&self) -> bool
+        ensures { result ≡ is_full (made_view self.now) }
+    {
+        self.makers.len() >= MAX_MAKERS
     }
 
     /// By these makers and a further one.

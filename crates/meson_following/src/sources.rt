@@ -8,7 +8,7 @@ ghost use Rattle.meson_calls.specs.GoodLists.{GoodArgs, GoodListing};
 ghost use Rattle.meson_calls.specs.Loading.{IsProject, loaded_from};
 ghost use Rattle.meson_following.specs.CodeArguments.{call_followed};
 ghost use Rattle.meson_following.specs.CodeFollowing.{followed_project, following_view, mark_view};
-ghost use Rattle.meson_following.specs.Following.{follow_marks};
+ghost use Rattle.meson_following.specs.Following.{follow_call, follow_marks};
 
 use crate::follower::Follower;
 use crate::marks::{Following, Mark, Route};
@@ -21,7 +21,10 @@ use std::alloc::AllocError;
 
 impl<'t> Follower<'t> {
     /// What is met in the arguments of the call at a place: in those without a name after the first, and in `sources:`.
-    pub(crate) fn meet_sources(
+    ///
+    /// # Errors
+    /// Out of memory.
+    pub fn meet_sources(
         &self,
         call: &CallRef,
         source: &'t [u8],
@@ -50,8 +53,36 @@ impl<'t> Follower<'t> {
         Ok(found)
     }
 
+    /// What is met in the sources of a target whose call has these arguments, and what was followed.
+    ///
+    /// # Errors
+    /// Out of memory.
+    pub fn follow_call(
+        &self,
+        call: &CallRef,
+        source: &'t [u8],
+        arguments: &List,
+    ) -> Result<Following, AllocError>
+        requires project { IsProject (loaded_from self.now.files.now self.now.trees.now) }
+        requires good { GoodListing (list_view source.now arguments.now) }
+        ensures marks { (function : Source) → IfOk result (λ f.
+            map mark_view f.marks.items ≡ follow_marks (followed_project self.now) (placed_call call.now function source.now arguments.now)) }
+        ensures followed { (function : Source) → IfOk result (λ f.
+            f.followed.items ≡ (follow_call (followed_project self.now) (placed_call call.now function source.now arguments.now)).followed) }
+    {
+        let args = arguments.items.get();
+        let mut found = self.meet_sources(call, source, args)?;
+        if count_named(source, args, b"kwargs".as_slice()) > 0 {
+            found.miss()?;
+        }
+        Ok(found)
+    }
+
     /// What is met in the sources of a target whose call has these arguments.
-    fn marks_of(
+    ///
+    /// # Errors
+    /// Out of memory.
+    pub fn marks_of(
         &self,
         call: &CallRef,
         source: &'t [u8],
@@ -62,12 +93,7 @@ impl<'t> Follower<'t> {
         ensures { (function : Source) → IfOk result (λ ms.
             map mark_view ms.items ≡ follow_marks (followed_project self.now) (placed_call call.now function source.now arguments.now)) }
     {
-        let args = arguments.items.get();
-        let mut found = self.meet_sources(call, source, args)?;
-        if count_named(source, args, b"kwargs".as_slice()) > 0 {
-            found.miss()?;
-        }
-        let Following { marks, followed: _ } = found;
+        let Following { marks, followed: _ } = self.follow_call(call, source, arguments)?;
         Ok(marks)
     }
 

@@ -19,7 +19,7 @@ ghost use Rattle.meson_following.specs.CodeMakers.{known_view, maker_view};
 ghost use Rattle.meson_following.specs.Effects.{by_fit, entering, number_of};
 ghost use Rattle.meson_following.specs.Flows.{assigned_if, is_in, joined_if, maker};
 ghost use Rattle.meson_following.specs.Following.{one_of_places};
-ghost use Rattle.meson_following.specs.Sharing.{has_one_of};
+ghost use Rattle.meson_following.specs.Reads.{has_one_of};
 
 use crate::effects::{Deed, Effect, Search};
 use crate::flows::Flow;
@@ -140,7 +140,7 @@ fn has_one_of(places: &[CallRef], known: &Known<'_>) -> bool
     ensures { result ≡ has_one_of places.now (known_view known.now) }
 {
     match known {
-        Some(made) => is_maker_at(places, &made.makers),
+        Some(made) => made.is_full() || is_maker_at(places, &made.makers),
         None => false,
     }
 }

@@ -1,7 +1,0 @@
-use Rattle.std.proofs.Common.{◌≡◌, drop}
-use Rattle.meson_following.specs.CodeFollowing.{followed_project}
-use Rattle.meson_following.specs.Sharing.{is_way_of_makers}
-use Rattle.meson_following.proofs.follower.Follower.is_way_of_makers.Given as goal
-
-abbrev pub invariant-loop-maker : goal.invariant-loop-maker
-invariant-loop-maker l = is_way_of_makers (followed_project l.self) (drop l.maker-index l.makers) l.place ≡ is_way_of_makers (followed_project l.self) l.makers l.place

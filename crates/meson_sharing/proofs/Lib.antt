@@ -1,0 +1,8 @@
+pub mod WayTurns
+pub mod TakerLists
+pub mod OwnMakers
+pub mod ToldTargets
+pub mod Sharing
+pub mod ApartReads
+pub mod UseTurns
+pub mod UsesAround

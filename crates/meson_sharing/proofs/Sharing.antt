@@ -1,0 +1,342 @@
+-- What follows from a list being read for one target alone.
+use Rattle.std.proofs.Common.{◌≡◌, inl, inr, ℕ, List, [], ◌∷◌, length, refl, sym, ap, subst, ◌∙◌, arith}
+use Rattle.std.specs.Prelude.{slice_index_or, ◌==◌, Bool, true, false, not, ◌&&◌, ◌||◌, zero, suc, filter, flat_map, bytes_eq, if◌then◌else◌, Option, Some, None}
+use Rattle.std.specs.List.{All, Any, Contains, cons_option, filter_map, list_all, list_any}
+use Rattle.std.proofs.lemmas.Bool.{and_from, and_parts, eq-eqb, eqb-true, false≢true, or_cases, or_left, or_right}
+use Rattle.std.proofs.lemmas.List.Elements.{All-append, All-contains, All-contains_itself, All-filter, All-head, All-map, All-nil, All-tail, All-weaker, All-cons, Contains-append_left, Contains-append_right, filter_passes}
+use Rattle.std.proofs.lemmas.List.Folds.{Any-from_list_any, list_all-append, list_any-from_Any}
+use Rattle.std.proofs.lemmas.List.Sums.{AllPass-from_list_all}
+use Rattle.std.proofs.lemmas.Slice.Eq.{bytes_eq-Decides}
+use Rattle.meson_lex.specs.declared.kinds.Span.{Span}
+use Rattle.meson_syntax.proofs.parsing.Steps.{some-injective}
+use Rattle.meson_syntax.specs.Tree.{Statement, evaluate, assign, selection, iteration, breaks, continues}
+use Rattle.meson_calls.specs.declared.call.CallRef.{CallRef}
+use Rattle.meson_calls.specs.Calls.{Call}
+use Rattle.meson_calls.specs.Parts.{Part, an_expression, a_statement, parts}
+use Rattle.meson_calls.specs.Project.{Project, Placed, child, place}
+use Rattle.meson_calls.specs.Roles.{places}
+use Rattle.meson_following.specs.Following.{follow_call, one_of_places}
+use Rattle.meson_sharing.specs.Laws.{MadeOf, itself, further, is_kept, is_left_out, MaySee, ReadFor, by_the_call, by_one, ReadOrUsed, Spreads}
+use Rattle.meson_following.specs.Makers.{Known, Maker, is_same_place}
+use Rattle.meson_following.specs.Reads.{has_one_of, keeps_one_of, may_leave_out, reads, reads_of_variable, sees}
+use Rattle.meson_sharing.specs.Sharing.{from_maker, is_own, is_unshared, is_use, is_way, is_way_of_makers, name_of_part, name_of_statement, names_of, reads_of, takes_at, uses, ways_at, ways_of_target, with_takers, with_takers_of_takers}
+
+-- ---- places
+
+pub same_place : (c d : CallRef) → is_same_place c d ≡ true → c ≡ d
+same_place c d same =
+    let both = and_parts (c.file == d.file) (bytes_eq c.path.steps d.path.steps) same in
+    ap (λ n. place n c.path.steps) (eqb-true c.file d.file both.0) ∙ ap (place d.file) ((bytes_eq-Decides c.path.steps d.path.steps).0 both.1)
+
+itself_same : (c : CallRef) → is_same_place c c ≡ true
+itself_same c =
+    and_from (c.file == c.file) (bytes_eq c.path.steps c.path.steps) (eq-eqb c.file c.file refl) ((bytes_eq-Decides c.path.steps c.path.steps).1 refl)
+
+pub one_of : (qs : List CallRef) (q : CallRef) → one_of_places qs q ≡ true → Contains qs q
+one_of qs q is =
+    let found : Any (λ r. is_same_place r q ≡ true) qs = Any-from_list_any (λ r. is_same_place r q) qs is in
+    let same : found.1 ≡ q = same_place found.1 q found.4 in
+    subst (Contains qs) same (found.0, found.2, found.3)
+
+pub is_one : (qs : List CallRef) (q : CallRef) → Contains qs q → one_of_places qs q ≡ true
+is_one qs q c = list_any-from_Any (λ r. is_same_place r q) qs (c.0, q, c.1, c.2, itself_same q)
+
+-- what is one of the one place is one of those that have it
+of_those : (ms : List CallRef) (v q : CallRef) → Contains ms v → one_of_places (v ∷ []) q ≡ true → one_of_places ms q ≡ true
+of_those ms v q has is = is_one ms q (subst (Contains ms) (same_place v q (one (is_same_place v q) is)) has)
+  where
+    one : (b : Bool) → b || false ≡ true → b ≡ true
+    one true is = refl
+    one false is = is
+
+-- ---- where fewer values may be read
+
+module _ {S : Type 0} (test : CallRef → Bool) (ms : List CallRef) (v : CallRef) (has : Contains ms v) where
+  -- a maker of what is known
+  maker_of_those : (makers : List (Maker S)) → list_any (λ m. one_of_places (v ∷ []) m.value.place) makers ≡ true
+      → list_any (λ m. one_of_places ms m.value.place) makers ≡ true
+  maker_of_those [] is = is
+  maker_of_those (m ∷ more) is =
+      elim (or_cases (one_of_places (v ∷ []) m.value.place) (list_any (λ n. one_of_places (v ∷ []) n.value.place) more) is) [
+        | inl first ↦ or_left (one_of_places ms m.value.place) (list_any (λ n. one_of_places ms n.value.place) more) (of_those ms v m.value.place has first)
+        | inr later ↦ or_right (one_of_places ms m.value.place) (list_any (λ n. one_of_places ms n.value.place) more) (maker_of_those more later)
+      ]
+
+  kept_of_those : (k : Known S) → keeps_one_of (v ∷ []) k ≡ true → keeps_one_of ms k ≡ true
+  kept_of_those None is = is
+  kept_of_those (Some k) is = maker_of_those k.makers is
+
+  known_of_those : (k : Known S) → has_one_of (v ∷ []) k ≡ true → has_one_of ms k ≡ true
+  known_of_those k is =
+      elim (or_cases (may_leave_out k) (keeps_one_of (v ∷ []) k) is) [
+        | inl cut ↦ or_left (may_leave_out k) (keeps_one_of ms k) cut
+        | inr kept ↦ or_right (may_leave_out k) (keeps_one_of ms k) (kept_of_those k kept)
+      ]
+
+  reads_of_those : (rs : List (Placed (Known S))) → list_all test (places (filter (sees ms) rs)) ≡ true
+      → list_all test (places (filter (sees (v ∷ [])) rs)) ≡ true
+  reads_of_those [] all = all
+  reads_of_those (r ∷ rs) all = go (sees (v ∷ []) r) (sees ms r) (known_of_those r.it) (reads_of_those rs) all
+    where
+      go : (b c : Bool) → (b ≡ true → c ≡ true)
+          → (list_all test (places (filter (sees ms) rs)) ≡ true → list_all test (places (filter (sees (v ∷ [])) rs)) ≡ true)
+          → list_all test (places (if c then r ∷ filter (sees ms) rs else filter (sees ms) rs)) ≡ true
+          → list_all test (places (if b then r ∷ filter (sees (v ∷ [])) rs else filter (sees (v ∷ [])) rs)) ≡ true
+      go true true more later all =
+          let both = and_parts (test r.place) (list_all test (places (filter (sees ms) rs))) all in
+          and_from (test r.place) (list_all test (places (filter (sees (v ∷ [])) rs))) both.0 (later both.1)
+      go true false more later all = absurd (false≢true (more refl))
+      go false true more later all = later (and_parts (test r.place) (list_all test (places (filter (sees ms) rs))) all).1
+      go false false more later all = later all
+
+  -- the variable to which a statement assigns it
+  name_of_those : (q : CallRef) (s : Statement S) (x : List ℕ) → name_of_statement (v ∷ []) q s ≡ Some x → name_of_statement ms q s ≡ Some x
+  name_of_those q (assign s y a e) x is = go (one_of_places (v ∷ []) (child q 0)) (one_of_places ms (child q 0)) (of_those ms v (child q 0) has) is
+    where
+      go : (b c : Bool) → (b ≡ true → c ≡ true) → (if b then Some y.text else None) ≡ Some x → (if c then Some y.text else None) ≡ Some x
+      go true true more is = is
+      go true false more is = absurd (false≢true (more refl))
+      go false c more is = absurd (let no : ⊥ = cc in no)
+  name_of_those q (evaluate e) x is = is
+  name_of_those q (selection s bs o) x is = is
+  name_of_those q (iteration s xs e b) x is = is
+  name_of_those q (breaks s) x is = is
+  name_of_those q (continues s) x is = is
+
+  part_of_those : (q : CallRef) (part : Part S) (x : List ℕ) → name_of_part (v ∷ []) (record { place = q; it = part }) ≡ Some x
+      → name_of_part ms (record { place = q; it = part }) ≡ Some x
+  part_of_those q (an_expression e) x is = is
+  part_of_those q (a_statement s) x is = name_of_those q s x is
+
+module _ {S : Type 0} (test : CallRef → Bool) (p : Project S) (ms : List CallRef) (v : CallRef) (has : Contains ms v) where
+  -- of a first variable and of others
+  parts_of_all : (x : List ℕ) (names : List (List ℕ)) → list_all test (flat_map (reads_of_variable p ms) (x ∷ names)) ≡ true
+      → (list_all test (reads_of_variable p ms x) ≡ true) × (list_all test (flat_map (reads_of_variable p ms) names) ≡ true)
+  parts_of_all x names all =
+      and_parts (list_all test (reads_of_variable p ms x)) (list_all test (flat_map (reads_of_variable p ms) names))
+      (sym (list_all-append test (reads_of_variable p ms x) (flat_map (reads_of_variable p ms) names)) ∙ all)
+
+  names_of_those : (qs : List (Placed (Part S))) → list_all test (flat_map (reads_of_variable p ms) (filter_map (name_of_part ms) qs)) ≡ true
+      → list_all test (flat_map (reads_of_variable p (v ∷ [])) (filter_map (name_of_part (v ∷ [])) qs)) ≡ true
+  names_of_those [] all = all
+  names_of_those (q ∷ qs) all = go (name_of_part (v ∷ []) q) (name_of_part ms q) (part_of_those test ms v has q.place q.it) (names_of_those qs) all
+    where
+      go : (o w : Option (List ℕ)) → ((x : List ℕ) → o ≡ Some x → w ≡ Some x)
+          → (list_all test (flat_map (reads_of_variable p ms) (filter_map (name_of_part ms) qs)) ≡ true
+          → list_all test (flat_map (reads_of_variable p (v ∷ [])) (filter_map (name_of_part (v ∷ [])) qs)) ≡ true)
+          → list_all test (flat_map (reads_of_variable p ms) (cons_option w (filter_map (name_of_part ms) qs))) ≡ true
+          → list_all test (flat_map (reads_of_variable p (v ∷ [])) (cons_option o (filter_map (name_of_part (v ∷ [])) qs))) ≡ true
+      go None None more later all = later all
+      go None (Some y) more later all = later (parts_of_all y (filter_map (name_of_part ms) qs) all).1
+      go (Some x) None more later all = absurd (let is : None ≡ Some x = more x refl in let no : ⊥ = cc in no)
+      go (Some x) (Some y) more later all =
+          let both = parts_of_all y (filter_map (name_of_part ms) qs) all in
+          let of_x : list_all test (reads_of_variable p ms x) ≡ true =
+          subst (λ z. list_all test (reads_of_variable p ms z) ≡ true) (some-injective y x (more x refl)) both.0 in
+          let names = filter_map (name_of_part (v ∷ [])) qs in
+          list_all-append test (reads_of_variable p (v ∷ []) x) (flat_map (reads_of_variable p (v ∷ [])) names)
+          ∙ and_from (list_all test (reads_of_variable p (v ∷ []) x)) (list_all test (flat_map (reads_of_variable p (v ∷ [])) names))
+          (reads_of_those test ms v has (reads p x) of_x) (later both.1)
+
+pub reads_of_fewer : {S : Type 0} (test : CallRef → Bool) (p : Project S) (ms : List CallRef) (v : CallRef) → Contains ms v
+    → list_all test (reads_of p ms) ≡ true → list_all test (reads_of p (v ∷ [])) ≡ true
+reads_of_fewer test p ms v has all = names_of_those test p ms v has (parts p) all
+
+-- ---- variables to which values are assigned
+
+-- the value of one of these is assigned to the variable
+abbrev AssignsOne : List (Placed (Part Span)) → List CallRef → List ℕ → Type 0
+AssignsOne qs ms x = (u : CallRef) × Contains ms u × Contains (filter_map (name_of_part (u ∷ [])) qs) x
+
+module _ (ms : List CallRef) where
+  -- by a statement
+  name_by_one : (q : CallRef) (s : Statement Span) (x : List ℕ) → name_of_statement ms q s ≡ Some x
+      → (u : CallRef) × Contains ms u × (name_of_statement (u ∷ []) q s ≡ Some x)
+  name_by_one q (assign s y a e) x is = go (one_of_places ms (child q 0)) refl is
+    where
+      go : (b : Bool) → one_of_places ms (child q 0) ≡ b → (if b then Some y.text else None) ≡ Some x
+          → (u : CallRef) × Contains ms u × (name_of_statement (u ∷ []) q (assign s y a e) ≡ Some x)
+      go true holds is =
+          let here : one_of_places (child q 0 ∷ []) (child q 0) ≡ true = or_left (is_same_place (child q 0) (child q 0)) false (itself_same (child q 0)) in
+          (child q 0, one_of ms (child q 0) holds, ap (λ b. if b then Some y.text else None) here ∙ is)
+      go false fails is = absurd (let no : ⊥ = cc in no)
+  name_by_one q (evaluate e) x is = absurd (let no : ⊥ = cc in no)
+  name_by_one q (selection s bs o) x is = absurd (let no : ⊥ = cc in no)
+  name_by_one q (iteration s xs e b) x is = absurd (let no : ⊥ = cc in no)
+  name_by_one q (breaks s) x is = absurd (let no : ⊥ = cc in no)
+  name_by_one q (continues s) x is = absurd (let no : ⊥ = cc in no)
+
+  part_by_one : (q : CallRef) (part : Part Span) (x : List ℕ) → name_of_part ms (record { place = q; it = part }) ≡ Some x
+      → (u : CallRef) × Contains ms u × (name_of_part (u ∷ []) (record { place = q; it = part }) ≡ Some x)
+  part_by_one q (an_expression e) x is = absurd (let no : ⊥ = cc in no)
+  part_by_one q (a_statement s) x is = name_by_one q s x is
+
+  in_more : {C : Type 0} (o : Option C) (rest : List C) (x : C) → Contains rest x → Contains (cons_option o rest) x
+  in_more None rest x has = has
+  in_more (Some y) rest x has = Contains-append_right (y ∷ []) rest x has
+
+  first_of_all : {C : Type 0} (o : Option C) (rest : List C) (x : C) → o ≡ Some x → Contains (cons_option o rest) x
+  first_of_all None rest x is = absurd (let no : ⊥ = cc in no)
+  first_of_all (Some y) rest x is = (0, omega arith, some-injective y x is)
+
+  assigned_more : (q : Placed (Part Span)) (qs : List (Placed (Part Span))) (x : List ℕ) → AssignsOne qs ms x → AssignsOne (q ∷ qs) ms x
+  assigned_more q qs x a = (a.0, a.1, in_more (name_of_part (a.0 ∷ []) q) (filter_map (name_of_part (a.0 ∷ [])) qs) x a.2)
+
+  all_assigned : (qs : List (Placed (Part Span))) → All (AssignsOne qs ms) (filter_map (name_of_part ms) qs)
+  all_assigned [] = All-nil (AssignsOne [] ms)
+  all_assigned (q ∷ qs) = go (name_of_part ms q) refl (All-weaker (AssignsOne qs ms) (AssignsOne (q ∷ qs) ms) (assigned_more q qs) (filter_map (name_of_part ms) qs) (all_assigned qs))
+    where
+      go : (o : Option (List ℕ)) → name_of_part ms q ≡ o → All (AssignsOne (q ∷ qs) ms) (filter_map (name_of_part ms) qs)
+          → All (AssignsOne (q ∷ qs) ms) (cons_option o (filter_map (name_of_part ms) qs))
+      go None is more = more
+      go (Some x) is more =
+          let one = part_by_one q.place q.it x is in
+          All-cons (AssignsOne (q ∷ qs) ms) x (filter_map (name_of_part ms) qs)
+          (one.0, one.1, first_of_all (name_of_part (one.0 ∷ []) q) (filter_map (name_of_part (one.0 ∷ [])) qs) x one.2) more
+
+-- ---- what may be seen at a place
+
+-- one of these may be seen there
+abbrev SeesOne : Project Span → List CallRef → CallRef → Type 0
+SeesOne p ms q = (u : CallRef) × Contains ms u × MaySee p q u
+
+module _ (p : Project Span) (ms : List CallRef) where
+  maker_seen : (makers : List (Maker Span)) → list_any (λ m. one_of_places ms m.value.place) makers ≡ true
+      → (u : CallRef) × Contains ms u × (list_any (λ m. one_of_places (u ∷ []) m.value.place) makers ≡ true)
+  maker_seen makers is =
+      let found : Any (λ m. one_of_places ms m.value.place ≡ true) makers = Any-from_list_any (λ m. one_of_places ms m.value.place) makers is in
+      let u : CallRef = found.1.value.place in
+      let is_there : one_of_places (u ∷ []) u ≡ true = or_left (is_same_place u u) false (itself_same u) in
+      (u, one_of ms u found.4, list_any-from_Any (λ m. one_of_places (u ∷ []) m.value.place) makers (found.0, found.1, found.2, found.3, is_there))
+
+  known_seen : (k : Known Span) → keeps_one_of ms k ≡ true → (u : CallRef) × Contains ms u × (keeps_one_of (u ∷ []) k ≡ true)
+  known_seen None is = absurd (false≢true is)
+  known_seen (Some k) is = maker_seen k.makers is
+
+  read_sees : (x : List ℕ) (r : Placed (Known Span)) → AssignsOne (parts p) ms x → Contains (reads p x) r → sees ms r ≡ true → SeesOne p ms r.place
+  read_sees x r assigned has is =
+      elim (or_cases (may_leave_out r.it) (keeps_one_of ms r.it) is) [
+        | inl cut ↦
+            (assigned.0, assigned.1, record { variable = x; read = r; is_read = has; is_there = refl; is_seen = is_left_out assigned.2 cut })
+        | inr kept ↦
+            let one = known_seen r.it kept in
+            (one.0, one.1, record { variable = x; read = r; is_read = has; is_there = refl; is_seen = is_kept one.2 })
+      ]
+
+  reads_see : (x : List ℕ) → AssignsOne (parts p) ms x → All (SeesOne p ms) (reads_of_variable p ms x)
+  reads_see x assigned =
+      let rs = reads p x in
+      let in_them : All (Contains rs) (filter (sees ms) rs) = All-filter (sees ms) (Contains rs) rs (All-contains_itself rs) in
+      let passing : All (λ r. sees ms r ≡ true) (filter (sees ms) rs) = filter_passes (sees ms) rs in
+      All-map (SeesOne p ms) (λ r. r.place) (filter (sees ms) rs)
+      (λ k d within. read_sees x (slice_index_or (filter (sees ms) rs) k d) assigned (in_them k d within) (passing k d within))
+
+  names_see : (xs : List (List ℕ)) → All (AssignsOne (parts p) ms) xs → All (SeesOne p ms) (flat_map (reads_of_variable p ms) xs)
+  names_see [] all = All-nil (SeesOne p ms)
+  names_see (x ∷ xs) all =
+      All-append (SeesOne p ms) (reads_of_variable p ms x) (flat_map (reads_of_variable p ms) xs) (reads_see x (All-head (AssignsOne (parts p) ms) x xs all))
+      (names_see xs (All-tail (AssignsOne (parts p) ms) x xs all))
+
+  all_see : All (SeesOne p ms) (reads_of p ms)
+  all_see = names_see (names_of p ms) (all_assigned ms (parts p))
+
+-- ---- what is made of a value
+
+module _ (p : Project Span) (all : List CallRef) (m : CallRef) where
+  taker_made : (ms : List CallRef) → All (MadeOf p all m) ms → (v : CallRef) → Contains all v → takes_at p (reads_of p ms) v ≡ true → MadeOf p all m v
+  taker_made ms made v has takes =
+      let found : Any (λ q. one_of_places (ways_at p v) q ≡ true) (reads_of p ms) = Any-from_list_any (one_of_places (ways_at p v)) (reads_of p ms) takes in
+      let q : CallRef = found.1 in
+      let seen : SeesOne p ms q = All-contains (SeesOne p ms) (reads_of p ms) q (all_see p ms) (found.0, found.2, found.3) in
+      further seen.0 v q (All-contains (MadeOf p all m) ms seen.0 made seen.1) has (one_of (ways_at p v) q found.4) seen.2
+
+  takers_made : (ms : List CallRef) → All (MadeOf p all m) ms → All (MadeOf p all m) (with_takers p all ms (reads_of p ms))
+  takers_made ms made =
+      let test : CallRef → Bool = λ v. not (one_of_places ms v) && takes_at p (reads_of p ms) v in
+      let in_all : All (Contains all) (filter test all) = All-filter test (Contains all) all (All-contains_itself all) in
+      let passing : All (λ v. test v ≡ true) (filter test all) = filter_passes test all in
+      let made_one : (v : CallRef) → Contains all v → test v ≡ true → MadeOf p all m v =
+      λ v has is. taker_made ms made v has (and_parts (not (one_of_places ms v)) (takes_at p (reads_of p ms) v) is).1 in
+      All-append (MadeOf p all m) ms (filter test all) made
+      (λ k d within. made_one (slice_index_or (filter test all) k d) (in_all k d within) (passing k d within))
+
+  all_made : (times : ℕ) (ms : List CallRef) → All (MadeOf p all m) ms → All (MadeOf p all m) (with_takers_of_takers p all times ms)
+  all_made zero ms made = made
+  all_made (suc times) ms made = all_made times (with_takers p all ms (reads_of p ms)) (takers_made ms made)
+
+  keeps : (times : ℕ) (ms : List CallRef) → Contains ms m → Contains (with_takers_of_takers p all times ms) m
+  keeps zero ms has = has
+  keeps (suc times) ms has =
+      let seen = reads_of p ms in
+      keeps times (with_takers p all ms seen) (Contains-append_left ms (filter (λ v. not (one_of_places ms v) && takes_at p seen v) all) m has)
+
+  only_it : All (MadeOf p all m) (m ∷ [])
+  only_it = All-cons (MadeOf p all m) m [] itself (All-nil (MadeOf p all m))
+
+-- ---- the laws
+
+module _ (p : Project Span) (c : Placed (Call Span)) where
+  way_of_makers : (ms : List CallRef) (q : CallRef) → is_way_of_makers p ms q ≡ true → ReadFor p c ms q
+  way_of_makers ms q is =
+      let found : Any (λ m. one_of_places (ways_at p m) q ≡ true) ms = Any-from_list_any (λ m. one_of_places (ways_at p m) q) ms is in
+      by_one found.1 (found.0, found.2, found.3) (one_of (ways_at p found.1) q found.4)
+
+  way : (ms : List CallRef) (q : CallRef) → is_way p c ms q ≡ true → ReadFor p c ms q
+  way ms q is =
+      elim (or_cases (one_of_places (ways_of_target c) q) (is_way_of_makers p ms q) is) [
+        | inl here ↦ by_the_call (one_of (ways_of_target c) q here)
+        | inr there ↦ way_of_makers ms q there
+      ]
+
+  own_way : (ms : List CallRef) (q : CallRef) → is_way p c ms q || (false && is_use p q) ≡ true → ReadFor p c ms q
+  own_way ms q is = elim (or_cases (is_way p c ms q) (false && is_use p q) is) [ inl a_way ↦ way ms q a_way | inr never ↦ absurd (false≢true never) ]
+
+  unshared_way : (ms : List CallRef) (q : CallRef) → is_way p c ms q || (true && is_use p q) ≡ true → ReadOrUsed p c ms q
+  unshared_way ms q is = elim (or_cases (is_way p c ms q) (is_use p q) is) [ inl a_way ↦ inl (way ms q a_way) | inr used ↦ inr (one_of (uses p) q used) ]
+
+  each_read : (Q : CallRef → Type 0) (test : CallRef → Bool) (ms : List CallRef) → ((q : CallRef) → test q ≡ true → Q q) → list_all test (reads_of p ms) ≡ true
+      → All (λ v. All Q (reads_of p (v ∷ []))) ms
+  each_read Q test ms means all = All-weaker (Contains ms) (λ v. All Q (reads_of p (v ∷ []))) of_one ms (All-contains_itself ms)
+    where
+      of_one : (v : CallRef) → Contains ms v → All Q (reads_of p (v ∷ []))
+      of_one v has =
+          All-weaker (λ q. test q ≡ true) Q means (reads_of p (v ∷ [])) (AllPass-from_list_all test (reads_of p (v ∷ [])) (reads_of_fewer test p ms v has all))
+
+  spreads : (m : CallRef) (Q : List CallRef → CallRef → Type 0) (test : CallRef → Bool) → ((q : CallRef) → test q ≡ true → Q (from_maker p c m) q)
+      → list_all test (reads_of p (from_maker p c m)) ≡ true → Spreads p c m Q
+  spreads m Q test means all =
+      let followed = (follow_call p c).followed in
+      record {
+        made = from_maker p c m;
+        has_it = keeps p followed m (length followed) (m ∷ []) (0, omega arith, refl);
+        are_made = all_made p followed m (length followed) (m ∷ []) (only_it p followed m);
+        are_read = each_read (Q (from_maker p c m)) test (from_maker p c m) means all;
+      }
+
+  pub own_spreads : (m : CallRef) → is_own p c m ≡ true → Spreads p c m (ReadFor p c)
+  own_spreads m own = spreads m (ReadFor p c) (λ q. is_way p c (from_maker p c m) q || (false && is_use p q)) (own_way (from_maker p c m)) own
+
+  pub unshared_spreads : (m : CallRef) → is_unshared p c m ≡ true → Spreads p c m (ReadOrUsed p c)
+  unshared_spreads m unshared =
+      spreads m (ReadOrUsed p c) (λ q. is_way p c (from_maker p c m) q || (true && is_use p q)) (unshared_way (from_maker p c m)) unshared
+
+  pub own_reads : (m : CallRef) → is_own p c m ≡ true → All (λ v. All (ReadFor p c (from_maker p c m)) (reads_of p (v ∷ []))) (from_maker p c m)
+  own_reads m own =
+      each_read (ReadFor p c (from_maker p c m)) (λ q. is_way p c (from_maker p c m) q || (false && is_use p q)) (from_maker p c m)
+      (own_way (from_maker p c m)) own
+
+  closed_with_uses : (ms qs : List CallRef) → list_all (λ q. is_way p c ms q || (false && is_use p q)) qs ≡ true
+      → list_all (λ q. is_way p c ms q || (true && is_use p q)) qs ≡ true
+  closed_with_uses ms [] all = all
+  closed_with_uses ms (q ∷ qs) all =
+      let strict : CallRef → Bool = λ r. is_way p c ms r || (false && is_use p r) in
+      let loose : CallRef → Bool = λ r. is_way p c ms r || (true && is_use p r) in
+      let both = and_parts (strict q) (list_all strict qs) all in
+      let first : loose q ≡ true = elim (or_cases (is_way p c ms q) (false && is_use p q) both.0) [
+        | inl a_way ↦ or_left (is_way p c ms q) (true && is_use p q) a_way
+        | inr never ↦ absurd (false≢true never)
+      ] in
+      and_from (loose q) (list_all loose qs) first (closed_with_uses ms qs both.1)
+
+  pub own_is_unshared : (m : CallRef) → is_own p c m ≡ true → is_unshared p c m ≡ true
+  own_is_unshared m own = closed_with_uses (from_maker p c m) (reads_of p (from_maker p c m)) own

@@ -1,0 +1,24 @@
+use Rattle.std.proofs.Common.{refl}
+use Rattle.std.specs.Char.{encode_utf8}
+use Rattle.std.specs.Str.{chars, is_utf8}
+use Rattle.meson_sharing.proofs.laws.told_rows.Goals as goal
+
+pub returns-clause-in_turn : goal.returns-clause-in_turn
+unfolding encode_utf8 chars is_utf8
+returns-clause-in_turn c = (refl, refl, refl, refl, refl, refl)
+
+pub returns-clause-branching : goal.returns-clause-branching
+unfolding encode_utf8 chars is_utf8
+returns-clause-branching c = (refl, refl, refl, refl, refl, refl, refl, refl)
+
+pub returns-clause-looping : goal.returns-clause-looping
+unfolding encode_utf8 chars is_utf8
+returns-clause-looping c = (refl, refl, refl, refl, refl, refl, refl, refl, refl)
+
+pub returns-clause-entering : goal.returns-clause-entering
+unfolding encode_utf8 chars is_utf8
+returns-clause-entering c = (refl, refl, refl, refl, refl)
+
+pub returns-clause-shared : goal.returns-clause-shared
+unfolding encode_utf8 chars is_utf8
+returns-clause-shared c = (refl, refl, refl, refl)

@@ -1,0 +1,62 @@
+-- What the code tells of the sources of a target.
+use Rattle.std.specs.Prelude.{◌≡◌, ℕ, List, [], map, MatchOption, ⊤, false, Option, Some, None}
+use Rattle.std.specs.List.{filter_map}
+use Rattle.meson_lex.specs.declared.kinds.Span.{Span}
+use Rattle.meson_calls.specs.declared.call.CallRef.{CallRef}
+use Rattle.meson_calls.specs.Project.{Project}
+use Rattle.meson_following.specs.CodeFollowing.{followed_project, item_view}
+use Rattle.meson_following.specs.Following.{Item, Mark, known, opaque, empty}
+use Rattle.meson_sharing.specs.declared.told.Answer.{Answer}
+use Rattle.meson_sharing.specs.declared.told.Sharing.{Sharing}
+use Rattle.meson_sharing.specs.declared.told.Told as code
+use Rattle.meson_sharing.specs.declared.told.ToldItem as code_item
+use Rattle.meson_sharing.specs.CodeOwning.{is_closed_by}
+use Rattle.meson_sharing.specs.CodeTargets.{Target, sharing_names, target_view}
+use Rattle.meson_sharing.specs.Sharing.{or_none}
+use Rattle.meson_sharing.specs.Told.{Told, ToldItem, last_of}
+
+abbrev pub told_item_view : code_item.ToldItem → ToldItem Span
+told_item_view i = record { item = item_view i.item; shared = i.shared }
+
+abbrev pub told_view : code.Told → Told Span
+told_view t = record { items = map told_item_view t.items.items; unknown = t.unknown }
+
+-- which other targets get what is in the value of a maker: of a call that follows these values and has these ways, among these targets
+module _ (p : Project Span) (call : CallRef) (followed ways : List CallRef) (targets : List Target) where
+  abbrev pub sharers_by : CallRef → Option (List (List ℕ))
+  sharers_by m = or_none (is_closed_by p false followed ways m) (sharing_names call m targets)
+
+  abbrev pub shared_with : Option CallRef → Option (List (List ℕ))
+  shared_with None = Some []
+  shared_with (Some m) = sharers_by m
+
+  abbrev pub item_by : Item Span → ToldItem Span
+  item_by i = record { item = i; shared = shared_with (last_of i.way.through) }
+
+  abbrev pub mark_by : Mark Span → Option (ToldItem Span)
+  mark_by (known i) = Some (item_by i)
+  mark_by opaque = None
+  mark_by (empty q w) = None
+
+  abbrev pub items_by : List (Mark Span) → List (ToldItem Span)
+  items_by marks = filter_map mark_by marks
+
+module _ (s : Sharing) where
+  abbrev pub sharers_with : CallRef → Option (List (List ℕ))
+  sharers_with = sharers_by (followed_project s.follower) s.call.now s.followed.now s.ways.now (map target_view s.targets.now)
+
+  abbrev pub shared_of : Option CallRef → Option (List (List ℕ))
+  shared_of = shared_with (followed_project s.follower) s.call.now s.followed.now s.ways.now (map target_view s.targets.now)
+
+  abbrev pub item_with : Item Span → ToldItem Span
+  item_with = item_by (followed_project s.follower) s.call.now s.followed.now s.ways.now (map target_view s.targets.now)
+
+  abbrev pub mark_with : Mark Span → Option (ToldItem Span)
+  mark_with = mark_by (followed_project s.follower) s.call.now s.followed.now s.ways.now (map target_view s.targets.now)
+
+  abbrev pub items_with : List (Mark Span) → List (ToldItem Span)
+  items_with = items_by (followed_project s.follower) s.call.now s.followed.now s.ways.now (map target_view s.targets.now)
+
+  -- it is right, if there is one
+  abbrev pub IsAnswer : Option Answer → Type 0
+  IsAnswer a = MatchOption a ⊤ (λ b. b.shared ≡ sharers_with b.maker)

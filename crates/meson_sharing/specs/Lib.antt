@@ -1,0 +1,10 @@
+pub mod Sharing
+pub mod CodeWays
+pub mod CodeUses
+pub mod CodeOwning
+pub mod Told
+pub mod CodeTargets
+pub mod CodeTold
+pub mod SharedLists
+pub mod ToldRows
+pub mod Laws

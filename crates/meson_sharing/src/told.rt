@@ -1,0 +1,225 @@
+//! What is reported of the sources of a target, where variables are followed.
+
+ghost use Rattle.std.specs.Prelude.{◌≡◌, ◌++◌, ◌∷◌, [], IfOk, OnOk, count_by, map, option_map};
+ghost use Rattle.std.specs.List.{cons_option};
+ghost use Rattle.meson_calls.specs.CallPlaces.{call_at};
+ghost use Rattle.meson_calls.specs.ChosenNotes.{Source, placed_call};
+ghost use Rattle.meson_calls.specs.GoodLists.{GoodListing};
+ghost use Rattle.meson_calls.specs.Loading.{IsProject, loaded_from};
+ghost use Rattle.meson_syntax.specs.View.{list_view};
+ghost use Rattle.meson_following.specs.CodeFollowing.{followed_project, item_view, mark_view};
+ghost use Rattle.meson_sharing.specs.CodeTold.{IsAnswer, items_with, item_with, mark_with, sharers_with, told_item_view, told_view};
+ghost use Rattle.meson_sharing.specs.Told.{is_opaque, told};
+
+use crate::owning::is_closed_by;
+use crate::takers::ways_of_sources;
+use crate::targets::{Target, sharing_names, targets_of};
+use meson_calls::CallRef;
+use meson_calls::place::copy_place;
+use meson_following::makers::is_same_place;
+use meson_following::{Follower, Following, Item, Mark};
+use meson_splice::{Many, Text};
+use meson_syntax::{Expr, List};
+use std::alloc::{AllocError, Global};
+
+/// A source that is reported.
+#[derive(Debug, Drop)]
+pub struct ToldItem {
+    pub item: Item,
+    /// The names of the other targets that get it, in file order and source order; `None` where none does, but something that is no target.
+    pub shared: Option<Many<Text>>,
+}
+
+/// What is reported of the sources of a target.
+#[derive(Debug, Drop)]
+pub struct Told {
+    pub items: Vec<ToldItem>,
+    /// How many things are not known.
+    pub unknown: usize,
+}
+
+/// A maker, and which other targets get what is in its value.
+#[derive(Drop)]
+pub(crate) struct Answer {
+    pub maker: CallRef,
+    pub shared: Option<Many<Text>>,
+}
+
+/// What decides which other targets get what is in the sources of a target: its call, the values that it follows, its ways, and all targets.
+#[derive(Clone, Copy)]
+pub(crate) struct Sharing<'t> {
+    pub follower: Follower<'t>,
+    pub call: &'t CallRef,
+    pub followed: &'t [CallRef],
+    pub ways: &'t [CallRef],
+    pub targets: &'t [Target],
+}
+
+/// Equal names.
+fn copy_texts(alloc: Global, names: &[Text]) -> Result<Vec<Text>, AllocError>
+    ensures { IfOk result (λ all. all.items ≡ names.now) }
+{
+    let mut all = Vec::with_capacity(alloc, names.len())?;
+    for name in names {
+        all.push(name.clone()?)?;
+    }
+    Ok(all)
+}
+
+/// Equal names, if there are some.
+fn copy_names(alloc: Global, names: &Option<Many<Text>>) -> Result<Option<Many<Text>>, AllocError>
+    ensures { IfOk result (λ all. all ≡ names.now) }
+{
+    match names {
+        Some(names) => {
+            let all = copy_texts(alloc, names.get())?;
+            Ok(Some(Many::of(all)))
+        }
+        None => Ok(None),
+    }
+}
+
+/// How many things are not known.
+fn count_unknown(marks: &[Mark]) -> usize
+    ensures { result ≡ count_by is_opaque (map mark_view marks.now) }
+{
+    marks
+        .iter()
+        .filter(|mark| matches!(mark, Mark::Opaque))
+        .count()
+}
+
+impl Sharing<'_> {
+    /// The names of the other targets that get what is in the value of a maker; `None` where none does, but something that is no target.
+    fn sharers(&self, maker: &CallRef) -> Result<Option<Many<Text>>, AllocError>
+        requires { IsProject (loaded_from self.now.follower.files.now self.now.follower.trees.now) }
+        ensures { IfOk result (λ names. names ≡ sharers_with self.now maker.now) }
+    {
+        let own = is_closed_by(&self.follower, false, self.followed, self.ways, maker)?;
+        let names = sharing_names(self.follower.alloc, self.targets, self.call, maker)?;
+        if names.is_empty() && !own {
+            return Ok(None);
+        }
+        Ok(Some(Many::of(names)))
+    }
+
+    /// The answer for a maker: the last one, if that is for the same.
+    fn answer(&self, maker: &CallRef, last: Option<Answer>) -> Result<Answer, AllocError>
+        requires project { IsProject (loaded_from self.now.follower.files.now self.now.follower.trees.now) }
+        requires last { IsAnswer self.now last }
+        ensures { IfOk result (λ a. (a.maker ≡ maker.now) × (a.shared ≡ sharers_with self.now maker.now)) }
+    {
+        if let Some(answer) = last {
+            if is_same_place(&answer.maker, maker) {
+                return Ok(answer);
+            }
+        }
+        let shared = self.sharers(maker)?;
+        let maker = copy_place(self.follower.alloc, maker)?;
+        Ok(Answer { maker, shared })
+    }
+
+    /// Takes an item with the names of the other targets that get it, and returns the last answer.
+    fn take_item(
+        &self,
+        item: Item,
+        last: Option<Answer>,
+        items: &mut Vec<ToldItem>,
+    ) -> Result<Option<Answer>, AllocError>
+        requires project { IsProject (loaded_from self.now.follower.files.now self.now.follower.trees.now) }
+        requires last { IsAnswer self.now last }
+        ensures all { OnOk result (map told_item_view items.new.items ≡ map told_item_view items.old.items ++ item_with self.now (item_view item) ∷ []) }
+        ensures last { IfOk result (λ a. IsAnswer self.now a) }
+    {
+        let alloc = self.follower.alloc;
+        let Some(maker) = item.way.through.as_slice().last() else {
+            let shared = Some(Many::new(alloc));
+            items.push(ToldItem { item, shared })?;
+            return Ok(last);
+        };
+        let answer = self.answer(maker, last)?;
+        let shared = copy_names(alloc, &answer.shared)?;
+        items.push(ToldItem { item, shared })?;
+        Ok(Some(answer))
+    }
+
+    /// Takes what is met, if it is an item, and returns the last answer.
+    fn take_mark(
+        &self,
+        mark: Mark,
+        last: Option<Answer>,
+        items: &mut Vec<ToldItem>,
+    ) -> Result<Option<Answer>, AllocError>
+        requires project { IsProject (loaded_from self.now.follower.files.now self.now.follower.trees.now) }
+        requires last { IsAnswer self.now last }
+        ensures all { OnOk result (map told_item_view items.new.items
+            ≡ map told_item_view items.old.items ++ cons_option (mark_with self.now (mark_view mark)) []) }
+        ensures last { IfOk result (λ a. IsAnswer self.now a) }
+    {
+        match mark {
+            Mark::Known(item) => self.take_item(item, last, items),
+            _ => Ok(last),
+        }
+    }
+
+    /// The items that are met, each with the names of the other targets that get it.
+    fn items(&self, marks: Vec<Mark>) -> Result<Vec<ToldItem>, AllocError>
+        requires { IsProject (loaded_from self.now.follower.files.now self.now.follower.trees.now) }
+        ensures { IfOk result (λ items. map told_item_view items.items ≡ items_with self.now (map mark_view marks.items)) }
+    {
+        let mut items = Vec::new(self.follower.alloc);
+        let mut last = None;
+        for mark in marks {
+            last = self.take_mark(mark, last, &mut items)?;
+        }
+        Ok(items)
+    }
+}
+
+/// What is reported of the sources of the target whose call at a place has these arguments.
+fn tell_of<'t>(
+    follower: &Follower<'t>,
+    call: &CallRef,
+    source: &'t [u8],
+    arguments: &List,
+) -> Result<Told, AllocError>
+    requires project { IsProject (loaded_from follower.now.files.now follower.now.trees.now) }
+    requires good { GoodListing (list_view source.now arguments.now) }
+    ensures { (function : Source) → IfOk result (λ t.
+        told_view t ≡ told (followed_project follower.now) (placed_call call.now function source.now arguments.now)) }
+{
+    let Following { marks, followed } = follower.follow_call(call, source, arguments)?;
+    let ways = ways_of_sources(follower.alloc, call, source, arguments)?;
+    let targets = targets_of(follower)?;
+    let sharing = Sharing {
+        follower: *follower,
+        call,
+        followed: followed.as_slice(),
+        ways: ways.as_slice(),
+        targets: targets.as_slice(),
+    };
+    let unknown = count_unknown(marks.as_slice());
+    let items = sharing.items(marks)?;
+    Ok(Told { items, unknown })
+}
+
+/// What is reported of the sources of the target that the call at a place makes: each that an evaluation may give it, in the order in which they are met; `None`
+/// where no call stands there.
+///
+/// # Errors
+/// Out of memory.
+pub fn tell_sources(follower: &Follower<'_>, call: &CallRef) -> Result<Option<Told>, AllocError>
+    requires { IsProject (loaded_from follower.now.files.now follower.now.trees.now) }
+    ensures { IfOk result (λ t. option_map told_view t ≡ option_map (told (followed_project follower.now)) (call_at (followed_project follower.now) call.now)) }
+{
+    let Some(value) = follower.value_at(call) else {
+        return Ok(None);
+    };
+    match value.expr {
+        Expr::Call { arguments, .. } => {
+            let told = tell_of(follower, call, value.source, arguments)?;
+            Ok(Some(told))
+        }
+        _ => Ok(None),
+    }
+}
