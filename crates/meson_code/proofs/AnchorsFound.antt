@@ -64,7 +64,7 @@ value_held a b (Some x) is = go (holds_value x) is
     go true h = (some-injective a b h, (x, refl))
     go false h = absurd (let no : ⊥ = cc in no)
 
-with_there : (p : Project Span) (c : CallRef) (a : StatementPlace) → statement_with p c ≡ Some a → (x : Statement Span) × (statement_there p a ≡ Some x)
+pub with_there : (p : Project Span) (c : CallRef) (a : StatementPlace) → statement_with p c ≡ Some a → (x : Statement Span) × (statement_there p a ≡ Some x)
 with_there p c a is =
     let o = and-then-some (λ (b : StatementPlace). if_holds_value b (statement_there p b)) (statement_of c) a is in
     let h = value_held o.0 a (statement_there p o.0) o.2 in

@@ -1,5 +1,5 @@
 -- The step that inserts code may be done.
-use Rattle.std.proofs.Common.{◌≡◌, ℕ, zero, suc, ◌+◌, ◌-◌, ◌<◌, ◌≤◌, true, List, [], ◌∷◌, ◌++◌, length, Option, Some, None, Result, Ok, Err, refl, sym, ap, ◌∙◌, subst, arith, leb-true}
+use Rattle.std.proofs.Common.{◌≡◌, ℕ, zero, suc, ◌-◌, ◌<◌, ◌≤◌, true, List, [], ◌∷◌, length, Option, Some, None, Result, Ok, Err, refl, sym, ap, ◌∙◌, subst, arith, leb-true}
 use Rattle.std.specs.Prelude.{max, nat_le, option_map, option_and_then}
 use Rattle.std.specs.Str.{IsUtf8}
 use Rattle.meson_lex.specs.declared.kinds.Span.{Span}
@@ -9,15 +9,14 @@ use Rattle.meson_splice.proofs.Sets.{found-within}
 use Rattle.meson_syntax.specs.declared.tree.Parsed.{Parsed}
 use Rattle.meson_syntax.specs.Grammar.{LevelFile, LevelStatements, file_depth, block_depth, statements_depth}
 use Rattle.meson_syntax.specs.Paths.{nth}
-use Rattle.meson_syntax.specs.Reads.{IsSpanned, Reads}
+use Rattle.meson_syntax.specs.Reads.{IsSpanned}
 use Rattle.meson_syntax.specs.Tree as tree
 use Rattle.meson_syntax.specs.Tree.{Block, block, file, Nowhere, Plain, Statement, Statements, no_statements, statement, statement_list, statements_of, erase, erase_block, erase_statement, erase_statements}
-use Rattle.meson_syntax.specs.View.{view}
 use Rattle.meson_syntax.proofs.parsing.CompleteFiles.{list-of-statements}
 use Rattle.meson_syntax.proofs.parsing.Steps.{some-injective}
 use Rattle.meson_syntax.proofs.paths.Reaching.{and-then-some, map-some}
 use Rattle.meson_edit.specs.Blocks.{BlockAt, block_at, statement_in}
-use Rattle.meson_edit.specs.Edits.{LinePlace, above, below, at_end, Lines, with_lines, with_more}
+use Rattle.meson_edit.specs.Edits.{with_lines, with_more}
 use Rattle.meson_edit.specs.ExchangedLines.{exchanged_in, file_statements, statements_in, with_statements}
 use Rattle.meson_edit.specs.Places.{IsWrittenLines, span_of_statement}
 use Rattle.meson_edit.specs.Standing.{statement_span}
@@ -27,12 +26,11 @@ use Rattle.meson_edit.proofs.sequences.Lined.{lines-keep-levels}
 use Rattle.meson_statements.specs.declared.places.Side.{Side}
 use Rattle.meson_statements.specs.declared.places.Side.TheVariants as beside
 use Rattle.meson_statements.specs.Code.{IsStatements}
-use Rattle.meson_statements.specs.CodeTexts.{lexemes_of, tree_of}
+use Rattle.meson_statements.specs.CodeTexts.{lexemes_of}
 use Rattle.meson_statements.proofs.CodeTexts.{lexemes-are-items, trees-are-read}
 use Rattle.meson_statements.specs.Places.{text_at}
 use Rattle.meson_statements.proofs.Placed.{placed-lines, placed-utf8}
 use Rattle.meson_splice.specs.Patch.{then_ok}
-use Rattle.meson_calls.specs.declared.call.CallRef.{CallRef}
 use Rattle.meson_calls.specs.Project.{place}
 use Rattle.meson_calls.specs.declared.refusal.Refusal.{Refusal}
 use Rattle.meson_calls.specs.Loading.{AreParsed, IsProject, Loaded, named_trees, project, views}
@@ -42,7 +40,6 @@ use Rattle.meson_steps.specs.declared.command.CodePlace.TheVariants as code_plac
 use Rattle.meson_steps.specs.declared.step.LineSide.{LineSide}
 use Rattle.meson_steps.specs.declared.step.LineSide.TheVariants as side
 use Rattle.meson_steps.specs.declared.step.ListEdit.TheVariants as code_edit
-use Rattle.meson_steps.specs.declared.step.ListStep.{ListStep}
 use Rattle.meson_steps.specs.ListSteps.{AreDoable, MayStandBetween, none, bare, block_of_lines, side_of_lines as lines_side}
 use Rattle.meson_steps.specs.ResultLimits.{plain_trees}
 use Rattle.meson_steps.proofs.PlainTrees.{parsed_shallow, tree_there, trees_stand}
@@ -83,7 +80,7 @@ nth-erased no_statements n = refl
 nth-erased (statement s more) zero = refl
 nth-erased (statement s more) (suc n) = nth-erased more n
 
-in-erased : (b : Block Span) (n : ℕ) → statement_in (erase_block b) n ≡ option_map erase_statement (statement_in b n)
+pub in-erased : (b : Block Span) (n : ℕ) → statement_in (erase_block b) n ≡ option_map erase_statement (statement_in b n)
 in-erased (block s list) n = nth-erased list n
 
 -- The block in which the lines come, in the tree without spans, and the side of them in the file.

@@ -1,15 +1,14 @@
 -- How deep code nests, and how many constructs are around a block.
-use Rattle.std.proofs.Common.{◌≡◌, ℕ, suc, List, [], ◌∷◌, length, Some, refl, sym, ap, ◌∙◌, arith}
-use Rattle.std.specs.Prelude.{◌/◌, map}
+use Rattle.std.proofs.Common.{◌≡◌, ℕ, suc, List, [], ◌∷◌, length, refl, sym, ap, ◌∙◌, arith}
+use Rattle.std.specs.Prelude.{◌/◌}
 use Rattle.std.proofs.Common.{rules}
-use Rattle.meson_lex.specs.declared.kinds.Span.{Span}
 use Rattle.meson_syntax.specs.declared.tree.Block as rust_block
 use Rattle.meson_syntax.specs.declared.tree.Parsed.{Parsed}
 use Rattle.meson_syntax.specs.declared.tree.Stmt.{Stmt}
 use Rattle.meson_syntax.specs.declared.tree.Stmt.TheFolds.{the_lemmas as statement_lemmas}
 use Rattle.meson_syntax.specs.Grammar.{file_depth, statements_depth}
 use Rattle.meson_syntax.specs.Reads.{Reads}
-use Rattle.meson_syntax.specs.Tree.{Block, block, file, Plain, Statement, statement_list, statements_of}
+use Rattle.meson_syntax.specs.Tree.{block, file, Plain, Statement, statement_list, statements_of}
 use Rattle.meson_syntax.specs.View.{block_view, stmts_view, view}
 use Rattle.meson_syntax.proofs.parsing.CompleteFiles.{list-of-statements}
 use Rattle.meson_edit.specs.ExchangedLines.{file_statements}

@@ -1,11 +1,11 @@
 -- The statement beside which code is inserted is a range of its file.
-use Rattle.std.proofs.Common.{◌≡◌, ℕ, ◌+◌, ◌-◌, ◌≤◌, List, [], ◌++◌, length, Option, Some, None, refl, sym, ap, ◌∙◌, subst, arith, length-append}
-use Rattle.std.specs.Prelude.{option_map, option_and_then}
+use Rattle.std.proofs.Common.{◌≡◌, ℕ, ◌+◌, ◌-◌, List, [], ◌++◌, length, Option, Some, None, refl, sym, ap, ◌∙◌, subst, arith, length-append}
+use Rattle.std.specs.Prelude.{option_and_then}
 use Rattle.meson_lex.specs.declared.kinds.Span.{Span}
 use Rattle.meson_lex.specs.Items.{joined}
 use Rattle.meson_lex.proofs.Seams.{joined-append}
 use Rattle.meson_syntax.specs.Reads.{IsSpanned, of_files}
-use Rattle.meson_syntax.specs.Tree.{File, Statement}
+use Rattle.meson_syntax.specs.Tree.{File}
 use Rattle.meson_syntax.proofs.parsing.Steps.{some-injective}
 use Rattle.meson_syntax.proofs.paths.Reaching.{and-then-some, map-some}
 use Rattle.meson_edit.specs.Blocks.{BlockAt, block_at, statement_in}
@@ -21,7 +21,7 @@ use Rattle.meson_steps.specs.declared.step.LineSide.TheVariants as side
 use Rattle.meson_code.specs.Insertion.{last_span, side_in}
 
 module _ (source : List ℕ) (f : File Span) (s : IsSpanned source f) where
-  span-within : (path : List ℕ) (n : ℕ) (sp : Span) → span_of_statement f path n ≡ Some sp → IsWithin sp (length source)
+  pub span-within : (path : List ℕ) (n : ℕ) (sp : Span) → span_of_statement f path n ≡ Some sp → IsWithin sp (length source)
   span-within path n sp is =
       let m = map-some statement_span (option_and_then (λ (b : BlockAt Span). statement_in b.inside n) (block_at f path)) sp is in
       let o = and-then-some (λ (b : BlockAt Span). statement_in b.inside n) (block_at f path) m.0 m.1 in

@@ -2,3 +2,9 @@ pub mod Statements
 pub mod Anchors
 pub mod AnchorLaws
 pub mod Insertion
+pub mod Removal
+pub mod Unused
+pub mod UnusedLaws
+pub mod Removing
+pub mod RemovalLaws
+pub mod inside

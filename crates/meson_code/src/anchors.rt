@@ -31,7 +31,7 @@ fn holds_value(stmt: &Stmt) -> bool
 }
 
 /// The statement that is the expression at a place, or assigns it.
-fn statement_with(
+pub(crate) fn statement_with(
     alloc: Global,
     sources: Sources<'_>,
     place: &CallRef,

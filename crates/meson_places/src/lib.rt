@@ -34,7 +34,7 @@ pub mod slots;
 mod sorted_additions;
 pub mod spans;
 mod target_names;
-mod uses;
+pub mod uses;
 mod value_lists;
 pub mod values;
 mod variables;

@@ -79,7 +79,10 @@ fn note_names(alloc: Global, note: &Note<'_, '_>, name: &[u8]) -> Result<bool, A
 }
 
 /// Whether one of some notes is.
-fn is_named(alloc: Global, notes: &[Note<'_, '_>], name: &[u8]) -> Result<bool, AllocError>
+///
+/// # Errors
+/// Out of memory.
+pub fn is_named(alloc: Global, notes: &[Note<'_, '_>], name: &[u8]) -> Result<bool, AllocError>
     requires { NotesGood (note_views notes.now) }
     ensures { IfOk result (λ b. b ≡ is_named name.now (note_views notes.now)) }
 {
@@ -128,8 +131,11 @@ fn is_format(kind: Kind) -> bool
     matches!(kind, Kind::FormatString | Kind::FormatMultilineString)
 }
 
-/// The name between two `@`.
-fn placeholder(alloc: Global, name: &[u8]) -> Result<Vec<u8>, AllocError>
+/// The name between two `@`: what a format string holds where it has the value of the variable.
+///
+/// # Errors
+/// Out of memory.
+pub fn placeholder(alloc: Global, name: &[u8]) -> Result<Vec<u8>, AllocError>
     ensures { IfOk result (λ v. v.items ≡ placeholder name.now) }
 {
     let mut text = Vec::new(alloc);
@@ -157,7 +163,7 @@ fn item_holds(source: &[u8], part: &[u8], item: Result<Item, LexFault>) -> bool
 }
 
 /// Whether a format string of a source holds a text.
-fn source_holds(source: &[u8], part: &[u8]) -> bool
+pub fn source_holds(source: &[u8], part: &[u8]) -> bool
     ensures { result ≡ source_holds part.now source.now }
 {
     for item in items(source) {
@@ -169,7 +175,10 @@ fn source_holds(source: &[u8], part: &[u8]) -> bool
 }
 
 /// Whether a format string of one of the files holds the variable.
-fn is_formatted(alloc: Global, files: &FileSet, name: &[u8]) -> Result<bool, AllocError>
+///
+/// # Errors
+/// Out of memory.
+pub fn is_formatted(alloc: Global, files: &FileSet, name: &[u8]) -> Result<bool, AllocError>
     ensures { IfOk result (λ b. b ≡ is_formatted name.now files.now) }
 {
     let part = placeholder(alloc, name)?;

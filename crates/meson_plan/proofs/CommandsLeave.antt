@@ -44,6 +44,10 @@ use Rattle.meson_plan.specs.Effects.{CodeComes, CommandsLeave, ExtrasCome, Extra
 use Rattle.meson_places.specs.Effects.{ValueLeft}
 use Rattle.meson_code.specs.declared.insertion.FileLines.{FileLines}
 use Rattle.meson_code.specs.Insertion.{code_statements, code_steps, has_room, inserted_if_room, insertion_step, lines_at}
+use Rattle.meson_code.specs.RemovalLaws.{CodeGoes}
+use Rattle.meson_code.specs.Removing.{code_removed}
+use Rattle.meson_code.proofs.Removals.{removals_leave}
+use Rattle.meson_steps.specs.declared.argument.Search.{Search}
 use Rattle.meson_steps.specs.declared.command.CodePlace.{CodePlace}
 use Rattle.meson_places.proofs.ValuesLeft.{values_left}
 use Rattle.meson_plan.specs.Performing.{Performs}
@@ -159,6 +163,9 @@ module _ (old new : Loaded) (c : Command) (done : Done) (is : IsProject old) (p 
       roomy lines true is done = cc
       roomy lines false is done = absurd (let no : ⊥ = cc in no)
 
+  code_goes : (s : Search) (unused : Bool) → code_removed old s unused ≡ Ok p.made.steps → CodeGoes old s unused (plain_trees new)
+  code_goes s unused made = removals_leave old s unused p.made.steps (plain_trees new) made stepped
+
 pub commands-leave : CommandsLeave
 commands-leave old new (command.SourcesAdd id names) done is p = sources_come old new (command.SourcesAdd id names) done is p id names p.made.are_planned
 commands-leave old new (command.SourcesAddSorted id names) done is p = sources_come_among old new (command.SourcesAddSorted id names) done is p id names p.made.are_planned
@@ -175,5 +182,6 @@ commands-leave old new (command.KwargsDelete r id keys) done is p = leaves old n
 commands-leave old new (command.OptionsSet pairs) done is p = leaves old new (command.OptionsSet pairs) done is p _ _ (to_set_options pairs) p.made.are_planned
 commands-leave old new (command.OptionsDelete names) done is p = leaves old new (command.OptionsDelete names) done is p _ _ (to_delete_options names) p.made.are_planned
 commands-leave old new (command.CodeInsert place code blank) done is p = code_comes old new (command.CodeInsert place code blank) done is p place code blank p.made.are_planned
+commands-leave old new (command.CodeRemove s unused) done is p = code_goes old new (command.CodeRemove s unused) done is p s unused p.made.are_planned
 commands-leave old new (command.Argument name change) done is p = value_left old new (command.Argument name change) done is p name change p.made.are_planned
 commands-leave old new _ done is p = tt

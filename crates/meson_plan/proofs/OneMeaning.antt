@@ -6,7 +6,7 @@ use Rattle.meson_steps.specs.Done.{Meaning}
 use Rattle.meson_steps.specs.declared.command.Command.{Command}
 use Rattle.meson_steps.specs.declared.command.Command.TheVariants as command
 use Rattle.meson_places.proofs.OneMeaning.{arguments_one, arguments_same, value_places_same}
-use Rattle.meson_code.proofs.OneMeaning.{code_steps_same}
+use Rattle.meson_code.proofs.OneMeaning.{code_removed_same, code_steps_same}
 use Rattle.meson_sources.specs.Targeted.{sorted_steps}
 use Rattle.meson_plan.specs.Planning.{Means, planned}
 
@@ -30,6 +30,7 @@ means-one l (command.OptionsDelete names) m n p q = sym p ∙ q
 means-one l (command.Argument name change) m n p q = sym p.1 ∙ arguments_one l name change p.0 q.0 ∙ q.1
 means-one l (command.ArgumentInfo name) m n p q = sym p ∙ q
 means-one l (command.CodeInsert place code blank) m n p q = sym p ∙ q
+means-one l (command.CodeRemove statement unused) m n p q = sym p ∙ q
 
 module _ (l k : Loaded) (same_files : l.files ≡ k.files) (same_trees : trees l ≡ trees k) where
   same-plan : (c : Command) (m : Meaning) → planned (project l) c ≡ m → planned (project k) c ≡ m
@@ -54,4 +55,5 @@ module _ (l k : Loaded) (same_files : l.files ≡ k.files) (same_trees : trees l
   means-same (command.OptionsDelete names) m is = same-plan (command.OptionsDelete names) m is
   means-same (command.ArgumentInfo name) m is = sym (ap (λ r. then_ok r (λ c. Ok [])) (value_places_same l k same_files same_trees name)) ∙ is
   means-same (command.CodeInsert place code blank) m is = sym (code_steps_same l k same_files same_trees place code blank) ∙ is
+  means-same (command.CodeRemove statement unused) m is = sym (code_removed_same l k same_files same_trees statement unused) ∙ is
   means-same (command.Argument name change) m is = (is.0, sym (arguments_same l k same_files same_trees name change is.0) ∙ is.1)

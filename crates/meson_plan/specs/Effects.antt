@@ -34,6 +34,7 @@ use Rattle.meson_targets.specs.Effects.{NamesTarget, TargetRemoved, call_with_te
 use Rattle.meson_targets.specs.TargetEdits.{number_in}
 use Rattle.meson_code.specs.declared.insertion.FileLines.{FileLines}
 use Rattle.meson_code.specs.Insertion.{code_statements, lines_at, tree_place}
+use Rattle.meson_code.specs.RemovalLaws.{CodeGoes}
 use Rattle.meson_plan.specs.Performing.{Performs}
 use Rattle.meson_calls.specs.declared.call.CallName.{CallName}
 use Rattle.meson_calls.specs.Searching.{anywhere}
@@ -126,6 +127,7 @@ HasEffect old (command.OptionsSet pairs) new = LeavesOf old role.Project (anywhe
 HasEffect old (command.OptionsDelete names) new = LeavesOf old role.Project (anywhere (codes "/")) (to_delete_options names) new
 HasEffect old (command.Argument name change) new = ValueLeft old name change (plain_trees old) (plain_trees new)
 HasEffect old (command.CodeInsert place code blank) new = CodeComes old place code new
+HasEffect old (command.CodeRemove statement unused) new = CodeGoes old statement unused (plain_trees new)
 HasEffect old _ new = Unit {0}
 
 -- the law: what a command that is performed leaves of the call that it changes

@@ -20,6 +20,7 @@ use Rattle.meson_keywords.specs.TaskSteps.{call_changed}
 use Rattle.meson_places.specs.Arguments.{MayBeMade, argument_steps}
 use Rattle.meson_places.specs.NamedValues.{value_place}
 use Rattle.meson_code.specs.Insertion.{code_steps}
+use Rattle.meson_code.specs.Removing.{code_removed}
 use Rattle.meson_steps.specs.Done.{Meaning}
 use Rattle.meson_steps.specs.Steps.{Step}
 use Rattle.meson_calls.specs.Searching.{anywhere}
@@ -54,6 +55,7 @@ planned p (command.OptionsDelete names) = then_ok (the_call p role.Project (anyw
 planned p (command.SourcesAddSorted target sources) = Ok []
 planned p (command.Argument name change) = Ok []
 planned p (command.CodeInsert place code blank) = Ok []
+planned p (command.CodeRemove statement unused) = Ok []
 planned p (command.ArgumentInfo name) = Ok []
 
 -- What a command means. A change of a value, whose values may be given, also reads the files: where lines begin, and how its neighbours are written. So does an
@@ -62,5 +64,6 @@ abbrev pub Means : Loaded → Command → Meaning → Type 0
 Means l (command.SourcesAddSorted target sources) meant = sorted_steps l.files (project l) target sources ≡ meant
 Means l (command.Argument name change) meant = (may : MayBeMade change) × (argument_steps l name change may ≡ meant)
 Means l (command.CodeInsert place code blank) meant = code_steps l place code blank ≡ meant
+Means l (command.CodeRemove statement unused) meant = code_removed l statement unused ≡ meant
 Means l (command.ArgumentInfo name) meant = then_ok (value_place l name) (λ c. Ok []) ≡ meant
 Means l c meant = planned (project l) c ≡ meant

@@ -13,6 +13,7 @@ ghost use Rattle.meson_sources.specs.Targeted.{renamed_steps, sorted_steps, targ
 
 use meson_calls::{BorrowedName, CallName, Role};
 use meson_code::Insertion;
+use meson_code::removing::CodeRemoval;
 use meson_keywords::request::{AskedWords, Request};
 use meson_sources::renaming::Renaming;
 use meson_sources::targeting::TargetChange;
@@ -63,6 +64,8 @@ pub(crate) enum Order<'c> {
     OnValue(&'c ValueName, &'c ValueChange),
     /// Code is inserted.
     InsertCode(Insertion<'c>),
+    /// A statement is removed.
+    RemoveCode(CodeRemoval<'c>),
 }
 
 /// A change of a target.
@@ -171,6 +174,10 @@ pub(crate) fn order_of(command: &Command) -> Order<'_>
             place,
             code,
             blank: *blank,
+        }),
+        Command::CodeRemove { statement, unused } => Order::RemoveCode(CodeRemoval {
+            statement,
+            unused: *unused,
         }),
     }
 }

@@ -18,6 +18,7 @@ use meson_calls::kept::Kept;
 use meson_calls::noted::Noted;
 use meson_calls::notes::notes_for;
 use meson_code::insertion_steps;
+use meson_code::removing::remove_code;
 use meson_keywords::changing::changed;
 use meson_places::Sources;
 use meson_places::arguments::argument_steps;
@@ -142,5 +143,6 @@ pub(crate) fn performed(
             let steps = insertion_steps(alloc, sources, insertion)?;
             done(alloc, work, steps)
         }
+        Order::RemoveCode(removal) => remove_code(alloc, work, removal),
     }
 }

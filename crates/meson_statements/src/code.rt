@@ -3,16 +3,13 @@
 ghost use Rattle.std.specs.Prelude.{◌≡◌, IfOk, List, length, true, ℕ};
 ghost use Rattle.std.specs.Str.{IsUtf8};
 ghost use Rattle.meson_lex.specs.Items.{IsItemList, Lexeme};
-ghost use Rattle.meson_lex.specs.Kinds.{IsLineEnd};
 ghost use Rattle.meson_syntax.specs.Reads.{Reads};
 ghost use Rattle.meson_syntax.specs.Tree.{Plain};
 ghost use Rattle.meson_edit.specs.ExchangedLines.{IsLinesText, file_statements};
 ghost use Rattle.meson_statements.specs.Code.{IsStatements};
 ghost use Rattle.meson_statements.specs.CodeTexts.{statement_code};
-ghost use Rattle.meson_statements.specs.Indented.{is_indent};
 ghost use Rattle.meson_statements.specs.Places.{IsBeside, text_at};
 
-use crate::indenting::indented;
 use crate::places::Surroundings;
 use meson_splice::Text;
 use meson_syntax::{ParseFault, parse};
@@ -75,17 +72,6 @@ impl StatementCode {
         self.text.get()
     }
 
-    /// The lines of the statements as they are written at a place: each with this indent, which is blanks, and this line end.
-    ///
-    /// # Errors
-    /// Out of memory.
-    pub fn lines(&self, alloc: Global, indent: &[u8], end: &[u8]) -> Result<Vec<u8>, AllocError>
-        requires indent { is_indent indent.now ≡ true }
-        requires end { IsLineEnd end.now }
-        ensures { (t : Plain) → Reads self.now t → IfOk result (λ v. IsLinesText v.items (file_statements t)) }
-    {
-        indented(alloc, self.text.get().as_bytes(), indent, end)
-    }
     /// What is inserted beside a statement or at the end of a file: the lines of the code, each with the indent of that statement and with the line end of the
     /// file, and the blank lines that part them from what is there.
     ///

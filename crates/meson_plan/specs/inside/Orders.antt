@@ -33,12 +33,13 @@ plan_steps l (plan.RenameSources target names) = renamed_steps (project l) (name
 plan_steps l (plan.AddTarget new) = new_target (project l) new
 plan_steps l (plan.RemoveTarget target) = named_removed (project l) (name_at target)
 
--- an order of a command: its steps are those that the command means, or it is the change of a value or the code that the command is
+-- an order of a command: its steps are those that the command means, or it is the change of a value, the code or the removal that the command is
 abbrev pub IsOrder : Command → Order → Type 0
 IsOrder c (order.Planned q) = (l : Loaded) → Means l c (plan_steps l q)
 IsOrder c (order.Changed r) = (l : Loaded) → Means l c (request_steps (project l) (request_view r))
 IsOrder c (order.OnValue name change) = c ≡ command.Argument name.now change.now
 IsOrder c (order.InsertCode i) = c ≡ command.CodeInsert i.place.now i.code.now i.blank
+IsOrder c (order.RemoveCode r) = c ≡ command.CodeRemove r.statement.now r.unused
 
 -- what a command means, as it is done or refused
 abbrev pub Ends : Loaded → Command → (Meaning → Type 0) → Type 0

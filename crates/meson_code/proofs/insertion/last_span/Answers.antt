@@ -1,4 +1,4 @@
-use Rattle.std.proofs.Common.{◌≡◌, ℕ, ◌-◌, [], length, sym, ap, ap₂, ◌∙◌}
+use Rattle.std.proofs.Common.{◌-◌, length, sym, ap, ap₂, ◌∙◌}
 use Rattle.meson_syntax.specs.View.{view}
 use Rattle.meson_edit.specs.Places.{span_of_statement}
 use Rattle.meson_code.proofs.Rooms.{count-is}

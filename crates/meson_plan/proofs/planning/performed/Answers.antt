@@ -1,6 +1,6 @@
 -- What a command orders is what it means: its steps are planned and done, its call is changed, or its value.
 use Rattle.std.proofs.Common.{◌≡◌, List, refl, sym, subst}
-use Rattle.std.specs.Prelude.{Err, Option, ℕ}
+use Rattle.std.specs.Prelude.{Bool, Err, Option, ℕ}
 use Rattle.std.proofs.lemmas.Result.{IfErr-weaker, err_from_is_err_and, on_ok_weaker}
 use Rattle.meson_splice.specs.declared.file_set.File.{File}
 use Rattle.meson_syntax.specs.declared.tree.Parsed.{Parsed}
@@ -8,11 +8,13 @@ use Rattle.meson_calls.specs.Loading.{IsProject, Loaded, project}
 use Rattle.meson_calls.specs.Setters.{AreKept}
 use Rattle.meson_places.specs.Arguments.{MayBeMade, argument_steps}
 use Rattle.meson_code.specs.Insertion.{code_steps}
+use Rattle.meson_code.specs.Removing.{code_removed}
 use Rattle.meson_keywords.specs.Changing.{request_steps}
 use Rattle.meson_keywords.specs.Tasking.{request_view}
 use Rattle.meson_steps.specs.Done.{unmeant}
 use Rattle.meson_steps.specs.declared.argument.ValueChange.{ValueChange}
 use Rattle.meson_steps.specs.declared.argument.ValueName.{ValueName}
+use Rattle.meson_steps.specs.declared.argument.Search.{Search}
 use Rattle.meson_steps.specs.declared.command.CodePlace.{CodePlace}
 use Rattle.meson_steps.specs.declared.command.Command.{Command}
 use Rattle.meson_steps.specs.declared.command.Command.TheVariants as command
@@ -175,3 +177,20 @@ returns-in_err-steps-in-InsertCode-clause-refused c =
     let e = c.in_err-steps-in-InsertCode.field-0.0 in
     let why = subst (λ ts. code_steps (of ts) i.place.now i.code.now i.blank ≡ Err e) c.as_slice-in-InsertCode.ensures.value (c.in_err-steps-in-InsertCode.ensures.refused other) in
     (code_steps old i.place.now i.code.now i.blank, code_means old c.args.command.now i.place.now i.code.now i.blank c.in-InsertCode.ensures, unmeant e why))
+
+-- ---- a statement is removed
+
+removal_means : (l : Loaded) (c : Command) (s : Search) (unused : Bool) → c ≡ command.CodeRemove s unused → Means l c (code_removed l s unused)
+removal_means l c s unused is = subst (λ k. Means l k (code_removed l s unused)) (sym is) refl
+
+pub returns-in-RemoveCode-clause-done : goal.returns-in-RemoveCode-clause-done
+returns-in-RemoveCode-clause-done c =
+    let old = so_far c.args.work.now in
+    let r = c.in-RemoveCode.removal in
+    on_ok_weaker c.remove_code.result (λ out. (code_removed old r.statement.now r.unused, removal_means old c.args.command.now r.statement.now r.unused c.in-RemoveCode.ensures, out)) c.remove_code.ensures.done
+
+pub returns-in-RemoveCode-clause-refused : goal.returns-in-RemoveCode-clause-refused
+returns-in-RemoveCode-clause-refused c =
+    let old = so_far c.args.work.now in
+    let r = c.in-RemoveCode.removal in
+    IfErr-weaker c.remove_code.result _ _ (λ e why other. (code_removed old r.statement.now r.unused, removal_means old c.args.command.now r.statement.now r.unused c.in-RemoveCode.ensures, why other)) c.remove_code.ensures.refused

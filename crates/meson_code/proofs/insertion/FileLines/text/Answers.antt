@@ -1,8 +1,7 @@
-use Rattle.std.proofs.Common.{◌≡◌, ℕ, List, Some, None, length, get_or, sym, ap, ap₂, ◌∙◌, subst, arith}
-use Rattle.std.specs.Prelude.{Option, option_and_then}
+use Rattle.std.proofs.Common.{length, get_or, sym, ap, ◌∙◌, subst, arith}
+use Rattle.std.specs.Prelude.{option_and_then}
 use Rattle.meson_lex.specs.declared.kinds.Span.{Span}
 use Rattle.meson_splice.specs.Files.{bytes_at}
-use Rattle.meson_syntax.specs.Reads.{IsSpanned}
 use Rattle.meson_syntax.specs.View.{view}
 use Rattle.meson_calls.specs.Project.{BuildFile}
 use Rattle.meson_calls.proofs.CallsAt.{spanned_at}
