@@ -70,7 +70,7 @@ impl ProjectCase {
         let failures = self.failures;
         self.failures = Failures::NONE;
         let files = &mut self.files;
-        call(self.alloc, files, failures, words.as_slice(), is_brief, to)
+        call(self.alloc, files, failures, words, is_brief, to)
     }
 
     /// Calls the program on the files, with one of them cut at each length.

@@ -3,7 +3,7 @@
 use crate::failures::{FailingWriter, Failures};
 use crate::files::{Files, LOG};
 use meson_case_files::{Transcript, text_of};
-use meson_rewrite::{Counted, Memory, rewrite};
+use meson_rewrite::{Counted, Memory, rewrite, words_with_code};
 use std::alloc::{AllocError, Global};
 
 /// A store of the files that exist.
@@ -38,13 +38,16 @@ fn run(
     alloc: Global,
     store: &mut Memory,
     failures: Failures,
-    words: &[String],
+    words: Vec<String>,
     is_brief: bool,
     to: &mut Transcript,
 ) {
     let mut out = Counted::new(FailingWriter::new(Vec::new(alloc), failures.out));
     let mut err = Counted::new(FailingWriter::new(Vec::new(alloc), failures.err));
-    let status = rewrite(alloc, store, words, &mut out, &mut err);
+    let status = match words_with_code(alloc, store, words) {
+        Ok(words) => rewrite(alloc, store, words.as_slice(), &mut out, &mut err),
+        Err(unread) => unread.tell(alloc, &mut out, &mut err),
+    };
     if is_brief {
         put_brief("out", out.take().bytes.as_slice(), to);
         put_brief("err", err.take().bytes.as_slice(), to);
@@ -89,7 +92,7 @@ pub fn call(
     alloc: Global,
     files: &mut Files,
     failures: Failures,
-    words: &[String],
+    words: Vec<String>,
     is_brief: bool,
     to: &mut Transcript,
 ) -> Result<(), AllocError> {

@@ -9,7 +9,7 @@ use Rattle.meson_json.specs.Operations.{code_operation}
 use Rattle.meson_json.specs.declared.names.CodeOperation.{CodeOperation}
 use Rattle.meson_json.specs.declared.names.CodeOperation.TheVariants as operation
 use Rattle.meson_command.specs.Actions.{run, word_at}
-use Rattle.meson_command.specs.Codes.{blank_in, code_action, code_word, last_word, place_meant}
+use Rattle.meson_command.specs.Codes.{blank_in, code_word, insertion_action, last_word, place_meant, removal_action, search_meant}
 use Rattle.meson_command.specs.declared.fault.UsageFault.{UsageFault}
 use Rattle.meson_command.specs.declared.fault.UsageFault.TheVariants.{NotCode}
 
@@ -39,18 +39,18 @@ second-word o rows None x is e some at = at ∙ sym (with-append o rows None is 
 
 pub inserts : (folder : Option Text) (rows : List Row) (o : CodeOperation) (word : Text) (place : CodePlace) (blank : Option ℕ) (code : List ℕ)
     → code_operation (word_at (codes "OPERATION") rows) ≡ Some o → code_word o rows ≡ Some word → place_meant folder o rows ≡ Some place
-    → blank_in (first_of (codes "N") rows) ≡ Ok blank → statement_code word ≡ Some code → code_action folder rows ≡ Ok (run (command.CodeInsert place code blank))
-unfolding code_action
+    → blank_in (first_of (codes "N") rows) ≡ Ok blank → statement_code word ≡ Some code → insertion_action folder rows ≡ Ok (run (command.CodeInsert place code blank))
+unfolding insertion_action
 inserts folder rows o word place blank code operation has beside given is = rw (operation, has, beside, given, is) refl
 
 pub not-code : (folder : Option Text) (rows : List Row) (o : CodeOperation) (word : Text) (place : CodePlace) (blank : Option ℕ)
     → code_operation (word_at (codes "OPERATION") rows) ≡ Some o → code_word o rows ≡ Some word → place_meant folder o rows ≡ Some place
-    → blank_in (first_of (codes "N") rows) ≡ Ok blank → statement_code word ≡ None → code_action folder rows ≡ Err NotCode
-unfolding code_action
+    → blank_in (first_of (codes "N") rows) ≡ Ok blank → statement_code word ≡ None → insertion_action folder rows ≡ Err NotCode
+unfolding insertion_action
 not-code folder rows o word place blank operation has beside given is = rw (operation, has, beside, given, is) refl
 
 pub no-number : (folder : Option Text) (rows : List Row) (o : CodeOperation) (word : Text) (place : CodePlace) (e : UsageFault)
     → code_operation (word_at (codes "OPERATION") rows) ≡ Some o → code_word o rows ≡ Some word → place_meant folder o rows ≡ Some place
-    → blank_in (first_of (codes "N") rows) ≡ Err e → code_action folder rows ≡ Err e
-unfolding code_action
+    → blank_in (first_of (codes "N") rows) ≡ Err e → insertion_action folder rows ≡ Err e
+unfolding insertion_action
 no-number folder rows o word place e operation has beside given = rw (operation, has, beside, given) refl

@@ -12,3 +12,4 @@ pub mod Usages
 pub mod FitTexts
 pub mod LaterWords
 pub mod Entries
+pub mod ReadCode

@@ -7,7 +7,7 @@ use Rattle.meson_splice.specs.Patch.{then_ok}
 use Rattle.meson_command.specs.Actions.{action_of, count_in, kwargs_action, history_by, kwargs_by, has_flag, list_by, list_with, misplaces_sorted, options_action, options_by, is_json, other_action, rename_action, script_action, target_action, target_by, target_words, undo_of, unknown_members, word_at, words_at}
 use Rattle.meson_command.specs.Arguments.{action_within, argument_action, command_meant, requested, value_named}
 use Rattle.meson_statements.specs.CodeTexts.{statement_code}
-use Rattle.meson_command.specs.Codes.{blank_in, code_action, code_word, place_meant}
+use Rattle.meson_command.specs.Codes.{blank_in, code_action, code_word, has_more, insertion_action, place_meant, removal_action, search_meant}
 use Rattle.meson_command.specs.Asking.{asked_from, is_dry, names_no_folder, texts_fit, title_in, with_texts, with_title, without_help_text, without_text}
 use Rattle.meson_command.specs.declared.asked.Action.{Action}
 use Rattle.meson_command.specs.declared.asked.Action.TheVariants as action
@@ -168,14 +168,24 @@ argument-plain folder rows =
     after (ok_or (value_named folder operation rows) Usage) _ (λ name.
     after (command_meant operation name (first_of (codes "ELEMENT") rows) (has_flag (codes "sorted") rows) (words_at (codes "VALUE") rows)) _ (λ c. ok _ (requested-plain operation c))))
 
-code-plain : (folder : Option Text) (rows : List Row) → Answers IsPlain (code_action folder rows)
-unfolding code_action
-code-plain folder rows =
+insertion-plain : (folder : Option Text) (rows : List Row) → Answers IsPlain (insertion_action folder rows)
+unfolding insertion_action
+insertion-plain folder rows =
     after (ok_or (code_operation (word_at (codes "OPERATION") rows)) Usage) _ (λ operation.
     after (ok_or (code_word operation rows) Usage) _ (λ word.
     after (ok_or (place_meant folder operation rows) Usage) _ (λ place.
     after (blank_in (first_of (codes "N") rows)) _ (λ blank.
     after (ok_or (statement_code word) NotCode) _ (λ code. ok _ tt)))))
+
+removal-plain : (folder : Option Text) (rows : List Row) → Answers IsPlain (removal_action folder rows)
+unfolding removal_action
+removal-plain folder rows = either (has_more rows) _ _ (err Usage) (after (ok_or (search_meant folder rows) Usage) _ (λ statement. ok _ tt))
+
+code-plain : (folder : Option Text) (rows : List Row) → Answers IsPlain (code_action folder rows)
+unfolding code_action
+code-plain folder rows =
+    either (bytes_eq (word_at (codes "OPERATION") rows) (codes "remove")) _ _ (removal-plain folder rows)
+    (either (has_flag (codes "unused") rows) _ _ (err Usage) (insertion-plain folder rows))
 
 within-plain : (folder : Option Text) (name : Text) (rows : List Row) → Answers IsPlain (action_within folder name rows)
 unfolding action_within

@@ -23,7 +23,7 @@ use Rattle.meson_command.specs.declared.asked.Flags.{Flags}
 use Rattle.meson_command.specs.declared.fault.UsageFault.{UsageFault}
 use Rattle.meson_command.specs.declared.fault.UsageFault.TheVariants.{Usage, BadTitle}
 
-program_is_simple : is_simple program ≡ true
+pub program_is_simple : is_simple program ≡ true
 unfolding program target kwargs argument code default_options command undo redo history list
 program_is_simple = refl
 

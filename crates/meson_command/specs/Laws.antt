@@ -102,8 +102,8 @@ IsNoTarget rows =
     ((word_at (codes "OPERATION") rows ≢ codes "rename") × (operation_of_word (word_at (codes "OPERATION") rows) ≡ None))
     ⊎ (((word_at (codes "OPERATION") rows ≡ codes "rename") × (length (words_at (codes "SOURCE") rows) ≢ 2)) ⊎ MisplacesSorted rows)
 
--- the operation of `code` is unknown, its words are too few or too many, its function and id name no place, or the word of `--blank` is not a number that it
--- takes
+-- the operation of `code` that inserts is unknown, its words are too few or too many, its function and id name no place, or the word of `--blank` is not a
+-- number that it takes
 abbrev pub IsNoInsertion : List Row → Type 0
 IsNoInsertion rows =
     (code_operation (word_at (codes "OPERATION") rows) ≡ None)
@@ -112,8 +112,21 @@ IsNoInsertion rows =
     × (place_named (word_at (codes "FUNCTION|FILE") rows) (word_at (codes "ID|CODE") rows) ≡ None))
     ⊎ ((word : Text) × (first_of (codes "N") rows ≡ Some word) × (blank_of word ≡ None))))
 
+-- the words of `code remove` are too many, `--blank` is given, or its function and id name no place
+abbrev pub IsNoRemoval : List Row → Type 0
+IsNoRemoval rows =
+    (is_some (first_of (codes "CODE") rows) ≡ true) ⊎ ((is_some (first_of (codes "N") rows) ≡ true)
+    ⊎ (place_named (word_at (codes "FUNCTION|FILE") rows) (word_at (codes "ID|CODE") rows) ≡ None))
+
+-- the words of `code` are no removal or no insertion, or `--unused` is given with another operation than `remove`
+abbrev pub IsNoCode : List Row → Type 0
+IsNoCode rows =
+    ((word_at (codes "OPERATION") rows ≡ codes "remove") × IsNoRemoval rows)
+    ⊎ ((word_at (codes "OPERATION") rows ≢ codes "remove") × ((has_flag (codes "unused") rows ≡ true) ⊎ IsNoInsertion rows))
+
 -- the subcommand's operation, function, id or number is not valid, `rename` has not two names, `--sorted` is given with another one than `add`, the key of `arg`
--- is missing, its values or the words of `code` are not as many as it takes, or two listings are requested or one of a function without a name
+-- is missing, its values or the words of `code` are not as many as it takes or its options are others than it takes, or two listings are requested or one of a
+-- function without a name
 abbrev pub IsUnknown : Text → List Row → Type 0
 IsUnknown subcommand rows =
     ((subcommand ≡ codes "target") × IsNoTarget rows)
@@ -123,7 +136,7 @@ IsUnknown subcommand rows =
     ⊎ (((subcommand ≡ codes "history") × ((word : Text) × (word ≢ codes "all") × IsNoCount (first_of (codes "N") rows) word))
     ⊎ (((subcommand ≡ codes "list") × (AsksForTwo rows ⊎ NamesNoFunction rows))
     ⊎ (((subcommand ≡ codes "arg") × IsNoArgument rows)
-    ⊎ ((subcommand ≡ codes "code") × IsNoInsertion rows)))))))
+    ⊎ ((subcommand ≡ codes "code") × IsNoCode rows)))))))
 
 -- a folder is named for words that take none
 abbrev pub FolderIsMisused : List Row → Text → List Row → Type 0

@@ -10,4 +10,5 @@ pub mod Rows
 pub mod RowsOfArguments
 pub mod RowsOfCode
 pub mod Messages
+pub mod Input
 pub mod Laws

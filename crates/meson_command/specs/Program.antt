@@ -68,10 +68,10 @@ unfoldable pub argument : App
 argument = of_words (new_app (codes "arg")) (required_word (codes "OPERATION") ∷ ending_word (codes "FUNCTION") ∷ required_word (codes "ID")
     ∷ word (codes "KEY") ∷ many (codes "VALUE") ∷ option (codes "ELEMENT") (codes "after") ∷ flag (codes "sorted") (codes "sorted") ∷ help ∷ [])
 
--- code OPERATION [--blank N] FUNCTION|FILE ID|CODE [CODE]
+-- code OPERATION [--blank N] [--unused] FUNCTION|FILE ID|CODE [CODE]
 unfoldable pub code : App
 code = of_words (new_app (codes "code")) (required_word (codes "OPERATION") ∷ ending_word (codes "FUNCTION|FILE") ∷ required_word (codes "ID|CODE")
-    ∷ word (codes "CODE") ∷ option (codes "N") (codes "blank") ∷ help ∷ [])
+    ∷ word (codes "CODE") ∷ option (codes "N") (codes "blank") ∷ flag (codes "unused") (codes "unused") ∷ help ∷ [])
 
 -- default-options OPERATION [OPTION VALUE]...
 unfoldable pub default_options : App

@@ -1,10 +1,11 @@
 -- Command lines of `code`, each with its request.
-use Rattle.std.specs.Prelude.{◌≡◌, ℕ, List, [], ◌∷◌, ◌++◌, codes, Option, Some, None, ok_or, Result, Ok, Err}
+use Rattle.std.specs.Prelude.{◌≡◌, ℕ, List, [], ◌∷◌, ◌++◌, codes, false, true, Option, Some, None, ok_or, Result, Ok, Err}
 use Rattle.meson_splice.specs.Patch.{then_ok}
 use Rattle.meson_statements.specs.CodeTexts.{statement_code}
 use Rattle.meson_steps.specs.declared.argument.Callee.TheVariants as callee
 use Rattle.meson_steps.specs.declared.argument.PlaceName.{PlaceName}
 use Rattle.meson_steps.specs.declared.argument.PlaceName.TheVariants as name
+use Rattle.meson_steps.specs.declared.argument.Search.{Search}
 use Rattle.meson_steps.specs.declared.command.CodePlace.{CodePlace}
 use Rattle.meson_steps.specs.declared.command.CodePlace.TheVariants as place
 use Rattle.meson_steps.specs.declared.command.Command.TheVariants as command
@@ -57,3 +58,27 @@ InsertedNowhere =
     × asks (codes "code after --blank 101 target e y=1") (Err Usage)
     × asks (codes "code after --blank=-1 target e y=1") (Err Usage)
     × asks (codes "--in s code append meson.build y=1") (Err Usage)
+    × asks (codes "code after --unused target e y=1") (Err Usage)
+    × asks (codes "code append --unused meson.build y=1") (Err Usage)
+
+-- a statement, in this folder alone if it is one
+abbrev named_in : Option (List ℕ) → PlaceName → Search
+named_in folder statement = record { name = statement; folder = folder }
+
+-- removals, and wrong words of them
+abbrev pub Removed : Type 0
+Removed =
+    asks (codes "code remove target e") (in_place (run (command.CodeRemove (named_in None (name.Call callee.Target (codes "e"))) false)))
+    × asks (codes "code remove --unused variable x") (in_place (run (command.CodeRemove (named_in None (name.Variable (codes "x"))) true)))
+    × asks (codes "--in s code --unused remove at s/meson.build:12")
+    (in_place (run (command.CodeRemove (named_in (Some (codes "s")) (name.Line (codes "s/meson.build") 12)) true)))
+    × asks (codes "--dry-run code remove test --unused")
+    (flagged dry (run (command.CodeRemove (named_in None (name.Call (callee.Function (codes "test")) (codes "--unused"))) false)))
+    × asks (codes "code remove") (Err Usage)
+    × asks (codes "code remove target") (Err Usage)
+    × asks (codes "code remove target e y=1") (Err Usage)
+    × asks (codes "code remove target e --unused") (Err Usage)
+    × asks (codes "code remove --blank 1 target e") (Err Usage)
+    × asks (codes "code remove --unused --blank 1 target e") (Err Usage)
+    × asks (codes "code remove at meson.build") (Err Usage)
+    × asks (codes "code remove at meson.build:0") (Err Usage)

@@ -274,7 +274,7 @@ fn with_title<T: Drop>(alloc: Global, read: T, word: &str) -> Result<(T, Text), 
 
 /// The request of words that clap took.
 #[tactic(auto, unfolding(crate::specs::Asking::asked_from))]
-fn asked_from(alloc: Global, matches: &ArgMatches<'_>) -> Result<Asked, UsageFault>
+pub(crate) fn asked_from(alloc: Global, matches: &ArgMatches<'_>) -> Result<Asked, UsageFault>
     ensures ok { IfOk result (λ a. asked_from (rows_of (found_of matches.now)) (subcommand_rows_of matches.now) ≡ Ok a) }
     ensures refused { IfErr result (λ e. e ≢ OutOfMemory → asked_from (rows_of (found_of matches.now)) (subcommand_rows_of matches.now) ≡ Err e) }
     ensures title { IfOk result (λ a. is_title a.title ≡ true) }

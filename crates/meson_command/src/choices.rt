@@ -43,7 +43,7 @@ pub(crate) const ARGUMENT_OPERATIONS: Choice = Choice {
 pub(crate) const CODE_OPERATIONS: Choice = Choice {
     of: "code",
     what: "operations",
-    words: &["after", "before", "append"],
+    words: &["after", "before", "append", "remove"],
 };
 
 /// The operations of `default-options`.

@@ -5,7 +5,7 @@ use crate::choices::{
     ARGUMENT_OPERATIONS, CODE_OPERATIONS, FUNCTIONS, KWARGS_OPERATIONS, OPTIONS_OPERATIONS,
     TARGET_OPERATIONS,
 };
-use crate::code_faults::WORDS_HELP;
+use crate::code_faults::{ONE_WORD_HELP, WORDS_HELP};
 use crate::subcommands::{SUBCOMMANDS, Subcommand};
 use clap::Error;
 use clap::error::ErrorKind;
@@ -149,6 +149,11 @@ fn help_misplaced(
     match subcommand {
         Subcommand::Undo if count_of(argument).is_some() => {
             remarks.help(format!(in alloc; "write undo --to {argument}")?)?;
+            Ok(true)
+        }
+        Subcommand::Code if !argument.starts_with('-') => {
+            remarks.help_words(alloc, WORDS_HELP)?;
+            remarks.help_words(alloc, ONE_WORD_HELP)?;
             Ok(true)
         }
         _ => Ok(false),

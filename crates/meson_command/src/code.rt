@@ -1,14 +1,14 @@
-//! `code after|before [--blank N] FUNCTION ID CODE` and `code append [--blank N] FILE CODE`.
+//! `code after|before [--blank N] FUNCTION ID CODE`, `code append [--blank N] FILE CODE` and `code remove [--unused] FUNCTION ID`.
 
 ghost use Rattle.std.specs.Prelude.{◌≡◌, ◌≢◌, Err, IfErr, IfOk, Ok, option_map};
 ghost use Rattle.clap.specs.Words.{found_of, rows_of};
-ghost use Rattle.meson_command.specs.Codes.{blank_in, code_action, code_word, place_meant, search_meant};
+ghost use Rattle.meson_command.specs.Codes.{blank_in, code_action, code_word, has_more, insertion_action, is_given, place_meant, removal_action, search_meant};
 ghost use Rattle.meson_command.specs.declared.fault.UsageFault.TheVariants.{OutOfMemory};
 
 use crate::argument::folder_named;
 use crate::asked::Action;
 use crate::fault::UsageFault;
-use crate::words::{run, word_or};
+use crate::words::{is_set, run, word_or};
 use clap::ArgMatches;
 use meson_json::argument::place_named;
 use meson_json::code::blank_of;
@@ -79,20 +79,20 @@ fn blank_in(word: Option<&str>) -> Result<Option<usize>, UsageFault>
     }
 }
 
-/// The request of the words of `code`, in the folder alone if one is named. With `append` none is.
+/// The request of words of `code` that insert statements, in the folder alone if one is named. With `append` none is.
 ///
 /// # Errors
 /// The operation is unknown; a word is missing or one too many; the function and the id name no place; the word of `--blank` is not a number from 0 to 100; or
 /// the code is not statements of the grammar.
-#[tactic(auto, unfolding(crate::specs::Codes::code_action))]
-pub(crate) fn code_action(
+#[tactic(auto, unfolding(crate::specs::Codes::insertion_action))]
+fn insertion_action(
     alloc: Global,
     folder: Option<&str>,
     matches: &ArgMatches<'_>,
 ) -> Result<Action, UsageFault>
-    ensures ok { IfOk result (λ a. code_action (option_map (λ w. w.now) folder.entry) (rows_of (found_of matches.now)) ≡ Ok a) }
+    ensures ok { IfOk result (λ a. insertion_action (option_map (λ w. w.now) folder.entry) (rows_of (found_of matches.now)) ≡ Ok a) }
     ensures refused { IfErr result (λ e. e ≢ OutOfMemory
-        → code_action (option_map (λ w. w.now) folder.entry) (rows_of (found_of matches.now)) ≡ Err e) }
+        → insertion_action (option_map (λ w. w.now) folder.entry) (rows_of (found_of matches.now)) ≡ Err e) }
 {
     let Some(operation) = find_code_operation(word_or(matches, "OPERATION", "")) else {
         return Err(UsageFault::Usage);
@@ -108,4 +108,66 @@ pub(crate) fn code_action(
         return Err(UsageFault::NotCode);
     };
     run(alloc, Command::CodeInsert { place, code, blank })
+}
+
+/// Whether a word of this name is there.
+fn is_given(matches: &ArgMatches<'_>, name: &str) -> bool
+    ensures { result ≡ is_given name.now (rows_of (found_of matches.now)) }
+{
+    matches.get_str(name).is_some()
+}
+
+/// Whether there is more than a removal takes: code, or a number of blank lines.
+fn has_more(matches: &ArgMatches<'_>) -> bool
+    ensures { result ≡ has_more (rows_of (found_of matches.now)) }
+{
+    is_given(matches, "CODE") || is_given(matches, "N")
+}
+
+/// The request of words of `code` that remove a statement, in the folder alone if one is named.
+///
+/// # Errors
+/// Code or a number of blank lines is given; or the function and the id name no place.
+#[tactic(auto, unfolding(crate::specs::Codes::removal_action))]
+fn removal_action(
+    alloc: Global,
+    folder: Option<&str>,
+    matches: &ArgMatches<'_>,
+) -> Result<Action, UsageFault>
+    ensures ok { IfOk result (λ a. removal_action (option_map (λ w. w.now) folder.entry) (rows_of (found_of matches.now)) ≡ Ok a) }
+    ensures refused { IfErr result (λ e. e ≢ OutOfMemory
+        → removal_action (option_map (λ w. w.now) folder.entry) (rows_of (found_of matches.now)) ≡ Err e) }
+{
+    if has_more(matches) {
+        return Err(UsageFault::Usage);
+    }
+    let Some(statement) = search_meant(alloc, folder, matches)? else {
+        return Err(UsageFault::Usage);
+    };
+    let unused = is_set(matches, "unused");
+    run(alloc, Command::CodeRemove { statement, unused })
+}
+
+/// The request of the words of `code`, in the folder alone if one is named. With `append` none is.
+///
+/// # Errors
+/// The operation is unknown; a word is missing or one too many; the function and the id name no place; the word of `--blank` is not a number from 0 to 100;
+/// `--unused` goes with an insertion or `--blank` with a removal; or the code is not statements of the grammar.
+#[tactic(auto, unfolding(crate::specs::Codes::code_action))]
+pub(crate) fn code_action(
+    alloc: Global,
+    folder: Option<&str>,
+    matches: &ArgMatches<'_>,
+) -> Result<Action, UsageFault>
+    ensures ok { IfOk result (λ a. code_action (option_map (λ w. w.now) folder.entry) (rows_of (found_of matches.now)) ≡ Ok a) }
+    ensures refused { IfErr result (λ e. e ≢ OutOfMemory
+        → code_action (option_map (λ w. w.now) folder.entry) (rows_of (found_of matches.now)) ≡ Err e) }
+{
+    if word_or(matches, "OPERATION", "") == "remove" {
+        removal_action(alloc, folder, matches)
+    } else if is_set(matches, "unused") {
+        Err(UsageFault::Usage)
+    } else {
+        insertion_action(alloc, folder, matches)
+    }
 }

@@ -3,8 +3,9 @@
 use crate::argument_faults::explain_place;
 use crate::choices::CODE_OPERATIONS;
 use crate::code::code_word;
+use crate::input::INPUT;
 use crate::shell::quoted;
-use crate::words::word_or;
+use crate::words::{is_set, word_or};
 use clap::ArgMatches;
 use meson_json::Remarks;
 use meson_json::argument::place_named;
@@ -15,7 +16,10 @@ use std::alloc::{AllocError, Global};
 
 /// Which words the operations take.
 pub(crate) const WORDS_HELP: &str =
-    "after and before take FUNCTION ID CODE, append takes FILE CODE";
+    "after and before take FUNCTION ID CODE, append takes FILE CODE, remove takes FUNCTION ID";
+
+/// How code is written.
+pub(crate) const ONE_WORD_HELP: &str = "CODE is one word: write it in quotes of the shell";
 
 /// The operation on code that a word of another kind means.
 fn meant_operation(word: &str) -> Option<&'static str> {
@@ -23,6 +27,7 @@ fn meant_operation(word: &str) -> Option<&'static str> {
         "below" | "under" | "insert_after" => Some("after"),
         "above" | "over" | "insert_before" => Some("before"),
         "add" | "insert" | "end" => Some("append"),
+        "rm" | "delete" | "del" => Some("remove"),
         _ => None,
     }
 }
@@ -58,7 +63,7 @@ fn explain_number(
         )?,
     }
     remarks.help_words(alloc, WORDS_HELP)?;
-    remarks.help_words(alloc, "CODE is one word: write it in quotes of the shell")
+    remarks.help_words(alloc, ONE_WORD_HELP)
 }
 
 /// Explains that the word of `--blank` is not a number of blank lines.
@@ -77,8 +82,8 @@ fn explain_blank(
     Ok(())
 }
 
-/// Explains that the operation or the place of `code` is not known, that its words are not as many as the operation takes, or that a number is not valid.
-pub(crate) fn explain_insertion(
+/// Explains that the operation or the place of an insertion is not known, that its words are not as many as the operation takes, or that a number is not valid.
+fn explain_insertion(
     alloc: Global,
     remarks: &mut Remarks,
     words: &ArgMatches<'_>,
@@ -99,6 +104,62 @@ pub(crate) fn explain_insertion(
     }
 }
 
+/// Explains that a removal has a word too many or `--blank`, or that its place is not known.
+fn explain_removal(
+    alloc: Global,
+    remarks: &mut Remarks,
+    words: &ArgMatches<'_>,
+) -> Result<(), AllocError> {
+    if words.get_str("CODE").is_some() {
+        remarks.note_words(alloc, "remove takes two words")?;
+        return remarks.help_words(alloc, WORDS_HELP);
+    }
+    if words.get_str("N").is_some() {
+        remarks.note_words(alloc, "remove does not take --blank")?;
+        return remarks.help_words(
+            alloc,
+            "--blank N goes with after, before and append; remove leaves the blank lines on one side",
+        );
+    }
+    let id = word_or(words, "ID|CODE", "");
+    if place_named(alloc, word_or(words, "FUNCTION|FILE", ""), id)?.is_none() {
+        return explain_place(alloc, remarks, id);
+    }
+    Ok(())
+}
+
+/// Explains words of `code` that are wrong usage.
+pub(crate) fn explain_code_words(
+    alloc: Global,
+    remarks: &mut Remarks,
+    words: &ArgMatches<'_>,
+) -> Result<(), AllocError> {
+    let operation = word_or(words, "OPERATION", "");
+    if operation == "remove" {
+        return explain_removal(alloc, remarks, words);
+    }
+    if is_set(words, "unused") && CODE_OPERATIONS.has(operation) {
+        remarks.note(format!(in alloc; "{operation} does not take --unused")?)?;
+        return remarks.help_words(
+            alloc,
+            "--unused says that remove also removes assignments that nothing reads any more",
+        );
+    }
+    explain_insertion(alloc, remarks, words)
+}
+
+/// Explains why `-` is not the code of standard input.
+fn explain_input(alloc: Global, remarks: &mut Remarks) -> Result<(), AllocError> {
+    remarks.note_words(
+        alloc,
+        "standard input is not UTF-8, or it is the file of --texts",
+    )?;
+    remarks.help_words(
+        alloc,
+        "CODE - is read from standard input; a file of --texts has a name then",
+    )
+}
+
 /// Explains that the code is not statements.
 pub(crate) fn explain_statements(
     alloc: Global,
@@ -109,6 +170,9 @@ pub(crate) fn explain_statements(
     let Some(code) = operation.and_then(|operation| code_word(operation, words)) else {
         return Ok(());
     };
+    if code == INPUT {
+        return explain_input(alloc, remarks);
+    }
     match parse(alloc, code.as_bytes()) {
         Ok(_) => remarks.note_words(alloc, "the code has no statement")?,
         Err(ParseFault::OutOfMemory) => return Err(AllocError),

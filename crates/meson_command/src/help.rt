@@ -243,7 +243,7 @@ operation; man meson_rewrite lists their other members:
   kwargs           set, add, remove, delete, info
   default_options  set, delete
   arg              set, add, remove, replace, delete, info
-  code             after, before, append
+  code             after, before, append, remove
 
 All commands are done, or none.
 The script is kept as a run even if it only lists (info). --dry-run leaves the

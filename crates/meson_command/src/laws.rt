@@ -1,11 +1,12 @@
 //! Laws of the command line. The functions do nothing: what they ensure is the law.
 
 ghost use Rattle.meson_command.specs.Entries.{WordsMeanTheEntry};
+ghost use Rattle.meson_command.specs.Input.{ReadsCodeOfRefusedWords};
 ghost use Rattle.meson_command.specs.Laws.{HelpWhereAsked, JsonWhereWanted, OddWordsAreOdd, PairsAreTheWords, UnsetIsDelete, UsageMeansUnknown, VersionWhereAsked};
 ghost use Rattle.meson_command.specs.Laws.{TextsWriteNothing};
 ghost use Rattle.meson_command.specs.Rows.{Done, Flagged, Json, Listed, Other, Refused, Shown, Texts, Titled};
 ghost use Rattle.meson_command.specs.RowsOfArguments.{CodeIsExpressionOrRefused, Infos, LaterWordsArePlain, Sorted, Values};
-ghost use Rattle.meson_command.specs.RowsOfCode.{Inserted, InsertedNowhere};
+ghost use Rattle.meson_command.specs.RowsOfCode.{Inserted, InsertedNowhere, Removed};
 
 /// The requests of some command lines.
 pub fn rows()
@@ -15,6 +16,7 @@ pub fn rows()
     ensures infos { Infos }
     ensures inserted { Inserted }
     ensures nowhere { InsertedNowhere }
+    ensures removed { Removed }
     ensures titled { Titled }
     ensures shown { Shown }
     ensures json { Json }
@@ -54,13 +56,18 @@ pub fn json_where_wanted()
     ensures { JsonWhereWanted }
 {}
 
+/// Code is read from standard input only for words that are refused without it, since `-` is not code.
+pub fn code_of_refused_words()
+    ensures { ReadsCodeOfRefusedWords }
+{}
+
 /// Texts are named only with a request that writes nothing: a dry run, a listing, or what an info command reports. Help and the version have none.
 pub fn texts_write_nothing()
     ensures { TextsWriteNothing }
 {}
 
 /// Words that clap takes are wrong usage only in these cases: the folder is empty, an operation or a function is unknown, `rename` has not two names,
-/// `--sorted` or `--after` goes with an operation that does not take it, or both are given, a number is not valid, two listings are requested or one of a
+/// `--sorted`, `--after`, `--blank` or `--unused` goes with an operation that does not take it, or the first two are both given, a number is not valid, two listings are requested or one of a
 /// function without a name, the function and the id of `arg` or `code` name no place, a key is missing, the values of `arg` or the words of `code` are not as
 /// many as the operation takes, a folder is named for words that take none, or texts are named for what writes or would read standard input, too.
 pub fn usage_means_unknown()

@@ -12,6 +12,7 @@ mod code_help;
 mod fault;
 mod help;
 mod history;
+mod input;
 mod keys;
 mod kwargs;
 pub mod laws;
@@ -29,4 +30,5 @@ mod words;
 
 pub use asked::{Action, Asked, Flags, command_of, wants_json};
 pub use fault::UsageFault;
+pub use input::{reads_code, text_of, with_last};
 pub use misuse::explain_words;

@@ -230,6 +230,7 @@ fn code<'h>(alloc: Global) -> Result<Command<'h>, AllocError>
     let command = with_one(alloc, command, "ID|CODE", code_help::ID);
     let command = with_optional(alloc, command, "CODE", code_help::CODE);
     let command = with_option(alloc, command, "N", "blank", code_help::BLANK);
+    let command = with_flag(alloc, command, "unused", "unused", code_help::UNUSED);
     with_help(alloc, command)
 }
 

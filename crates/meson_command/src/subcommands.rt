@@ -88,7 +88,8 @@ impl Subcommand {
             }
             Subcommand::Kwargs => "kwargs OPERATION FUNCTION ID [KEY VALUE]...",
             Subcommand::Argument => "arg OPERATION FUNCTION ID KEY [VALUE]...",
-            Subcommand::Code => "code OPERATION [--blank N] FUNCTION|FILE ID|CODE [CODE]",
+            Subcommand::Code =>
+                "code OPERATION [--blank N] [--unused] FUNCTION|FILE ID|CODE [CODE]",
             Subcommand::DefaultOptions => "default-options OPERATION [OPTION VALUE]...",
             Subcommand::Command => "command [--strict] JSON",
             Subcommand::Undo => "undo [--to N] [--check FILE]",

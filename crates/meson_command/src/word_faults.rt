@@ -3,7 +3,7 @@
 use crate::argument_faults::{explain_argument, explain_code, explain_sorted};
 use crate::choices::{FUNCTIONS, KWARGS_OPERATIONS, OPTIONS_OPERATIONS, TARGET_OPERATIONS};
 use crate::clap_faults::add_usage;
-use crate::code_faults::{explain_insertion, explain_statements};
+use crate::code_faults::{explain_code_words, explain_statements};
 use crate::fault::UsageFault;
 use crate::keys::{explain_odd, explain_repeated};
 use crate::shell::quoted;
@@ -225,7 +225,7 @@ fn explain_usage(
         Some(Subcommand::Target) => explain_target(alloc, remarks, words)?,
         Some(Subcommand::Kwargs) => explain_kwargs(alloc, remarks, words)?,
         Some(Subcommand::Argument) => explain_argument(alloc, remarks, words)?,
-        Some(Subcommand::Code) => explain_insertion(alloc, remarks, words)?,
+        Some(Subcommand::Code) => explain_code_words(alloc, remarks, words)?,
         Some(Subcommand::DefaultOptions) => explain_options(alloc, remarks, words)?,
         Some(Subcommand::Undo) => explain_undo(alloc, remarks, words)?,
         Some(Subcommand::History) => explain_history(alloc, remarks, words)?,

@@ -261,4 +261,5 @@ module _ (l : Loaded) where
       (same_names (find is_bad_option names))
   bad_meant (command.Argument name change) = λ e. absurd (let none : ◌≡◌ {A = Result (List Step) Refusal} (Ok []) (Err refusal.BadName) = e in let no : ⊥ = cc in no)
   bad_meant (command.CodeInsert place code blank) = λ e. absurd (let none : ◌≡◌ {A = Result (List Step) Refusal} (Ok []) (Err refusal.BadName) = e in let no : ⊥ = cc in no)
+  bad_meant (command.CodeRemove statement unused) = λ e. absurd (let none : ◌≡◌ {A = Result (List Step) Refusal} (Ok []) (Err refusal.BadName) = e in let no : ⊥ = cc in no)
   bad_meant (command.ArgumentInfo name) = λ e. absurd (let none : ◌≡◌ {A = Result (List Step) Refusal} (Ok []) (Err refusal.BadName) = e in let no : ⊥ = cc in no)

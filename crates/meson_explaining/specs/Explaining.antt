@@ -13,7 +13,7 @@ use Rattle.meson_explaining.specs.declared.explanation.Note.{Note}
 use Rattle.meson_explaining.specs.Arguments.{value_explanation}
 use Rattle.meson_explaining.specs.ArgumentPlaces.{and_help, folder_lines}
 use Rattle.meson_explaining.specs.BadNames.{bad_help, bad_notes}
-use Rattle.meson_explaining.specs.Insertions.{code_explanation}
+use Rattle.meson_explaining.specs.Insertions.{code_explanation, removal_explanation}
 use Rattle.meson_explaining.specs.Keys.{keys, nearest_key, unknown_notes, wrong_notes}
 use Rattle.meson_explaining.specs.NotFound.{not_found}
 use Rattle.meson_explaining.specs.Notes.{few_notes}
@@ -46,6 +46,7 @@ subject (command.OptionsSet pairs) = (role.Project, anywhere (codes "/"))
 subject (command.OptionsDelete names) = (role.Project, anywhere (codes "/"))
 subject (command.Argument name change) = (role.Project, anywhere (codes "/"))
 subject (command.CodeInsert place code blank) = (role.Project, anywhere (codes "/"))
+subject (command.CodeRemove statement unused) = (role.Project, anywhere (codes "/"))
 subject (command.ArgumentInfo name) = (role.Project, anywhere (codes "/"))
 
 -- ---- the id names more than one call
@@ -168,4 +169,5 @@ abbrev pub explanation : Loaded → Command → Refusal → Explanation
 explanation l (command.Argument n change) why = value_explanation l n why
 explanation l (command.ArgumentInfo n) why = value_explanation l n why
 explanation l (command.CodeInsert place code blank) why = code_explanation l place why
+explanation l (command.CodeRemove statement unused) why = removal_explanation l statement why
 explanation l c why = call_explanation l c why

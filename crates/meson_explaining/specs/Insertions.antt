@@ -1,4 +1,4 @@
--- Why code is not inserted.
+-- Why code is not inserted, and why a statement is not removed.
 use Rattle.std.specs.Prelude.{ℕ, List, [], ◌∷◌, ◌++◌, codes, decimal}
 use Rattle.meson_calls.specs.declared.refusal.Refusal.{Refusal}
 use Rattle.meson_calls.specs.declared.refusal.Refusal.TheVariants as refusal
@@ -55,3 +55,14 @@ abbrev pub code_explanation : Loaded → CodePlace → Refusal → Explanation
 code_explanation l (place.Above s) why = statement_explanation l s why
 code_explanation l (place.Below s) why = statement_explanation l s why
 code_explanation l (place.End file) why = end_explanation file why
+
+-- ---- a statement that stays
+
+abbrev pub needed_elsewhere : List ℕ → Explanation
+needed_elsewhere name =
+    stated (codes "the statement sets " ++ (name ++ codes ", which is used elsewhere"))
+    (codes "remove the uses first; get_variable, a second assignment, foreach and a format string that holds the variable count too")
+
+abbrev pub removal_explanation : Loaded → Search → Refusal → Explanation
+removal_explanation l s (refusal.InUse name) = needed_elsewhere name
+removal_explanation l s why = statement_explanation l s why

@@ -11,7 +11,7 @@ ghost use Rattle.meson_explaining.specs.NotFound.{not_found};
 use crate::arguments::explain_value;
 use crate::calls::{Telling, add_few};
 use crate::explanation::{Explanation, Note};
-use crate::insertions::explain_insertion;
+use crate::insertions::{explain_insertion, explain_removal};
 use crate::keys::{keys, nearest_key, unknown_notes, wrong_notes};
 use crate::missing_places::and_folder;
 use crate::not_found::not_found;
@@ -237,6 +237,9 @@ pub fn explain(
         Command::Argument { name, .. } => explain_value(alloc, project, name, refusal),
         Command::ArgumentInfo { name } => explain_value(alloc, project, name, refusal),
         Command::CodeInsert { place, .. } => explain_insertion(alloc, project, place, refusal),
+        Command::CodeRemove { statement, .. } => {
+            explain_removal(alloc, project, statement, refusal)
+        }
         _ => explain_call(alloc, project, command, refusal),
     }
 }

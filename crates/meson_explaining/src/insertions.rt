@@ -1,7 +1,7 @@
-//! Why code is not inserted, in words for people.
+//! Why code is not inserted, and why a statement is not removed, in words for people.
 
 ghost use Rattle.std.specs.Prelude.{◌≡◌, IfOk};
-ghost use Rattle.meson_explaining.specs.Insertions.{code_explanation, end_explanation, no_file_named, no_statement_on, statement_by, statement_explanation, within_expression};
+ghost use Rattle.meson_explaining.specs.Insertions.{code_explanation, end_explanation, needed_elsewhere, no_file_named, no_statement_on, removal_explanation, statement_by, statement_explanation, within_expression};
 
 use crate::argument_places::places_meant;
 use crate::bad_names::one_note;
@@ -45,7 +45,7 @@ fn statement_missing(
     }
 }
 
-/// Why code is not inserted beside a statement.
+/// Why a statement that is searched for cannot be changed, or code cannot be inserted beside it.
 fn explain_statement(
     alloc: Global,
     project: &Project,
@@ -99,5 +99,33 @@ pub(crate) fn explain_insertion(
         CodePlace::Above(search) => explain_statement(alloc, project, search, refusal),
         CodePlace::Below(search) => explain_statement(alloc, project, search, refusal),
         CodePlace::End(file) => explain_end(alloc, file.get(), refusal),
+    }
+}
+
+/// Why a statement stays: it sets this variable.
+fn needed_elsewhere(alloc: Global, name: &str) -> Result<Explanation, AllocError>
+    ensures { IfOk result (λ e. e ≡ needed_elsewhere name.now) }
+{
+    let note = format!(in alloc; "the statement sets {name}, which is used elsewhere")?;
+    let notes = one_note(alloc, note)?;
+    with_help(
+        alloc,
+        notes,
+        "remove the uses first; get_variable, a second assignment, foreach and a format string that holds the variable count too",
+    )
+}
+
+/// Why a statement is not removed.
+pub(crate) fn explain_removal(
+    alloc: Global,
+    project: &Project,
+    search: &Search,
+    refusal: &Refusal,
+) -> Result<Explanation, AllocError>
+    ensures { IfOk result (λ e. e ≡ removal_explanation project.now search.now refusal.now) }
+{
+    match refusal {
+        Refusal::InUse(name) => needed_elsewhere(alloc, name.get()),
+        _ => explain_statement(alloc, project, search, refusal),
     }
 }

@@ -53,6 +53,7 @@ pub(crate) fn subject_of(command: &Command) -> Subject<'_>
         | Command::OptionsDelete { .. }
         | Command::Argument { .. }
         | Command::CodeInsert { .. }
+        | Command::CodeRemove { .. }
         | Command::ArgumentInfo { .. } => Subject {
             role: Role::Project,
             name: BorrowedName {

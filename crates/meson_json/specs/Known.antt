@@ -50,6 +50,7 @@ used_members (command.OptionsSet pairs) = codes "options" ∷ []
 used_members (command.OptionsDelete names) = codes "options" ∷ []
 used_members (command.Argument name c) = value_members c
 used_members (command.CodeInsert p code blank) = code_members p
+used_members (command.CodeRemove statement unused) = codes "function" ∷ codes "id" ∷ codes "in" ∷ codes "unused" ∷ []
 used_members (command.ArgumentInfo name) = codes "function" ∷ codes "id" ∷ codes "key" ∷ codes "in" ∷ []
 
 -- one of these, or one that says which command it is

@@ -201,6 +201,27 @@ CodeEntries =
     × gives (codes "[{'type':'code','operation':'append','file':'meson.build','code':'y','blank':'1'}]") (Err (BadField 0 (codes "blank")))
     × gives_known (codes "[{'type':'code','operation':'append','file':'meson.build','code':'y','in':'s'}]") (Err (UnknownMember 0 (codes "in")))
     × gives_known (codes "[{'type':'code','operation':'after','function':'target','id':'e','code':'y','file':'meson.build'}]") (Err (UnknownMember 0 (codes "file")))
+    × gives_known (codes "[{'type':'code','operation':'after','function':'target','id':'e','code':'y','unused':true}]") (Err (UnknownMember 0 (codes "unused")))
+
+-- the removal of a statement, and of what nothing reads after that; code, a file and blank lines are no members of it
+abbrev pub RemovalEntries : Type 0
+RemovalEntries =
+    stands_for (codes "[{'type':'code','operation':'remove','function':'target','id':'e'}]")
+    (command.CodeRemove (anywhere_named (called callee.Target (codes "e"))) false)
+    × stands_for (codes "[{'type':'code','operation':'remove','function':'variable','id':'x','in':'s','unused':true}]")
+    (command.CodeRemove (record { name = name.Variable (codes "x"); folder = Some (codes "s") }) true)
+    × gives_known (codes "[{'type':'code','operation':'remove','function':'at','id':'s/meson.build:12','unused':false}]")
+    (Ok (command.CodeRemove (anywhere_named (name.Line (codes "s/meson.build") 12)) false ∷ []))
+    × stands_for (codes "[{'type':'code','operation':'remove','function':'target','id':'e','code':1,'blank':-1,'file':1}]")
+    (command.CodeRemove (anywhere_named (called callee.Target (codes "e"))) false)
+    × gives (codes "[{'type':'code','operation':'remove','id':'e'}]") (Err (BadField 0 (codes "function")))
+    × gives (codes "[{'type':'code','operation':'remove','function':'at','id':'meson.build','unused':1}]") (Err (BadField 0 (codes "id")))
+    × gives (codes "[{'type':'code','operation':'remove','function':'target','id':'e','in':1,'unused':1}]") (Err (BadField 0 (codes "in")))
+    × gives (codes "[{'type':'code','operation':'remove','function':'target','id':'e','unused':1}]") (Err (BadField 0 (codes "unused")))
+    × gives (codes "[{'type':'code','operation':'remove','function':'target','id':'e','unused':null}]") (Err (BadField 0 (codes "unused")))
+    × gives_known (codes "[{'type':'code','operation':'remove','function':'target','id':'e','code':'y'}]") (Err (UnknownMember 0 (codes "code")))
+    × gives_known (codes "[{'type':'code','operation':'remove','function':'target','id':'e','blank':1}]") (Err (UnknownMember 0 (codes "blank")))
+    × gives_known (codes "[{'type':'code','operation':'remove','function':'target','id':'e','file':'meson.build'}]") (Err (UnknownMember 0 (codes "file")))
 
 -- entry by entry, and each in a fixed order
 abbrev pub Faults : Type 0

@@ -231,14 +231,26 @@ blank_lines d = option_and_then blank_within (option_and_then as_u64 (as_number 
 abbrev pub blank_at : ℕ → Data → Result (Option ℕ) ScriptFault
 blank_at i d = given (λ v. option_map Some (blank_lines v)) i (codes "blank") None (get (codes "blank") d)
 
-unfoldable pub code_entry : ℕ → Data → Result Command ScriptFault
-code_entry i d =
-    then_ok (required_text i (codes "operation") d) (λ word.
-    then_ok (ok_or (code_operation word) (UnknownOperation i)) (λ operation.
+-- beside that statement, or at the end of a file
+unfoldable pub insertion_entry : ℕ → CodeOperation → Data → Result Command ScriptFault
+insertion_entry i operation d =
     then_ok (code_place i operation d) (λ place.
     then_ok (code_at i d) (λ text.
     then_ok (blank_at i d) (λ blank.
-    Ok (command.CodeInsert place text blank))))))
+    Ok (command.CodeInsert place text blank))))
+
+-- of that statement, and with `unused` of the assignments that nothing reads after that
+unfoldable pub removal_entry : ℕ → Data → Result Command ScriptFault
+removal_entry i d =
+    then_ok (search_at i d) (λ statement.
+    then_ok (flag_at i (codes "unused") d) (λ unused.
+    Ok (command.CodeRemove statement unused)))
+
+unfoldable pub code_entry : ℕ → Data → Result Command ScriptFault
+code_entry i d =
+    then_ok (required_text i (codes "operation") d) (λ word.
+    if bytes_eq word (codes "remove") then removal_entry i d
+    else then_ok (ok_or (code_operation word) (UnknownOperation i)) (λ operation. insertion_entry i operation d))
 
 -- ---- entries and scripts
 

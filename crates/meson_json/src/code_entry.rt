@@ -1,13 +1,13 @@
-//! Entries of a script that insert code: those of type `code`.
+//! Entries of a script that insert or remove statements: those of type `code`.
 
 ghost use Rattle.std.specs.Prelude.{◌≡◌, ◌≢◌, Err, IfErr, IfOk, Ok};
 ghost use Rattle.serde_json.specs.View.{view};
-ghost use Rattle.meson_json.specs.Scripts.{blank_at, blank_lines, code_at, code_entry, code_place, search_at};
+ghost use Rattle.meson_json.specs.Scripts.{blank_at, blank_lines, code_at, code_entry, code_place, insertion_entry, removal_entry, search_at};
 ghost use Rattle.meson_json.specs.declared.fault.ScriptFault.TheVariants.{OutOfMemory};
 
 use crate::code::MAX_BLANK_LINES;
 use crate::fault::ScriptFault;
-use crate::members::{bad_field, folder_at, required_text};
+use crate::members::{bad_field, flag_at, folder_at, required_text};
 use crate::names::{CodeOperation, find_code_operation};
 use crate::value_entry::place_at;
 use meson_statements::StatementCode;
@@ -86,6 +86,34 @@ fn blank_at(alloc: Global, index: usize, entry: &Value) -> Result<Option<usize>,
     }
 }
 
+/// The command of an entry that inserts code.
+#[tactic(auto, unfolding(crate::specs::Scripts::insertion_entry))]
+fn insertion_entry(
+    alloc: Global,
+    index: usize,
+    operation: CodeOperation,
+    entry: &Value,
+) -> Result<Command, ScriptFault>
+    ensures ok { IfOk result (λ c. insertion_entry index operation (view entry.now) ≡ Ok c) }
+    ensures refused { IfErr result (λ e. e ≢ OutOfMemory → insertion_entry index operation (view entry.now) ≡ Err e) }
+{
+    let place = code_place(alloc, index, operation, entry)?;
+    let code = code_at(alloc, index, entry)?;
+    let blank = blank_at(alloc, index, entry)?;
+    Ok(Command::CodeInsert { place, code, blank })
+}
+
+/// The command of an entry that removes a statement.
+#[tactic(auto, unfolding(crate::specs::Scripts::removal_entry))]
+fn removal_entry(alloc: Global, index: usize, entry: &Value) -> Result<Command, ScriptFault>
+    ensures ok { IfOk result (λ c. removal_entry index (view entry.now) ≡ Ok c) }
+    ensures refused { IfErr result (λ e. e ≢ OutOfMemory → removal_entry index (view entry.now) ≡ Err e) }
+{
+    let statement = search_at(alloc, index, entry)?;
+    let unused = flag_at(alloc, index, entry, "unused")?;
+    Ok(Command::CodeRemove { statement, unused })
+}
+
 /// The command of an entry of type `code`.
 #[tactic(auto, unfolding(crate::specs::Scripts::code_entry))]
 pub(crate) fn code_entry(alloc: Global, index: usize, entry: &Value) -> Result<Command, ScriptFault>
@@ -93,11 +121,11 @@ pub(crate) fn code_entry(alloc: Global, index: usize, entry: &Value) -> Result<C
     ensures refused { IfErr result (λ e. e ≢ OutOfMemory → code_entry index (view entry.now) ≡ Err e) }
 {
     let word = required_text(alloc, index, entry, "operation")?;
+    if word.get() == "remove" {
+        return removal_entry(alloc, index, entry);
+    }
     let Some(operation) = find_code_operation(word.get()) else {
         return Err(ScriptFault::UnknownOperation(index));
     };
-    let place = code_place(alloc, index, operation, entry)?;
-    let code = code_at(alloc, index, entry)?;
-    let blank = blank_at(alloc, index, entry)?;
-    Ok(Command::CodeInsert { place, code, blank })
+    insertion_entry(alloc, index, operation, entry)
 }

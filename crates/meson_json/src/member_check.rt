@@ -89,6 +89,9 @@ fn is_known(command: &Command, name: &str) -> bool
         Command::OptionsSet { .. } | Command::OptionsDelete { .. } => name == "options",
         Command::Argument { change, .. } => is_known_of_value(change, name),
         Command::CodeInsert { place, .. } => is_known_of_code(place, name),
+        Command::CodeRemove { .. } => {
+            name == "function" || name == "id" || name == "in" || name == "unused"
+        }
         Command::ArgumentInfo { .. } => {
             name == "function" || name == "id" || name == "key" || name == "in"
         }

@@ -54,7 +54,7 @@ const VALUE_OPERATIONS: Choice = Choice {
 const CODE_OPERATIONS: Choice = Choice {
     of: "code",
     what: "operations",
-    words: &["after", "before", "append"],
+    words: &["after", "before", "append", "remove"],
 };
 
 /// The members that an operation uses, by the names of its type and of itself.
@@ -91,6 +91,7 @@ fn members_of(entry_type: &str, operation: &str) -> Choice {
         }
         ("arg", _) => { &["type", "operation", "function", "id", "key", "values", "in"] }
         ("code", "append") => &["type", "operation", "file", "code", "blank"],
+        ("code", "remove") => &["type", "operation", "function", "id", "in", "unused"],
         ("code", _) => { &["type", "operation", "function", "id", "code", "blank", "in"] }
         _ => &["type", "operation", "options"],
     };
@@ -127,12 +128,13 @@ fn argument_of(operation: &str, member: &str) -> &'static str {
     }
 }
 
-/// What a member of an insertion of code takes.
-fn insertion_of(member: &str) -> &'static str {
+/// What a member of an entry of type `code` takes.
+fn code_of(member: &str) -> &'static str {
     match member {
         "id" => "a text; of at it is the name of a file, a colon and a line",
         "code" => "a text of one statement or more",
         "blank" => "a whole number from 0 to 100",
+        "unused" => "true or false",
         _ => "a text",
     }
 }
@@ -143,7 +145,7 @@ fn value_of(entry: &Value, member: &str) -> &'static str {
         return argument_of(text_at(entry, "operation").unwrap_or(""), member);
     }
     if text_at(entry, "type").unwrap_or("") == "code" {
-        return insertion_of(member);
+        return code_of(member);
     }
     match member {
         "sources" if text_at(entry, "operation") == Some("rename") => {

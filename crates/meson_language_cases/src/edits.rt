@@ -4,7 +4,7 @@ use crate::code_places::{placed, side_of, spot_of};
 use crate::readiness::is_ready;
 use crate::tree::put_tree;
 use meson_case_files::{Transcript, bytes_of};
-use meson_layout::{Primitive, layout};
+use meson_layout::{BlankLines, Primitive, layout};
 use meson_lex::Span;
 use meson_splice::{Bytes, Change, FileSet, Many, Splice, apply_all};
 use std::alloc::{AllocError, Global};
@@ -18,10 +18,19 @@ pub enum Edit {
     Replace,
     Wrap,
     RemoveStatement,
+    /// A statement with the blank lines that would be too many without it.
+    Trim { first: bool, last: bool },
     Append,
     CodeAbove,
     CodeBelow,
     CodeAtEnd,
+}
+
+impl Edit {
+    /// The removal of a statement that is the first, the last or the only one of its block, or none of these.
+    fn trim(first: bool, last: bool) -> Edit {
+        Edit::Trim { first, last }
+    }
 }
 
 /// The edit of this name.
@@ -33,6 +42,10 @@ pub fn edit_of(word: &str) -> Option<Edit> {
         "replace" => Some(Edit::Replace),
         "wrap" => Some(Edit::Wrap),
         "remove-statement" => Some(Edit::RemoveStatement),
+        "trim" => Some(Edit::trim(false, false)),
+        "trim-first" => Some(Edit::trim(true, false)),
+        "trim-last" => Some(Edit::trim(false, true)),
+        "trim-only" => Some(Edit::trim(true, true)),
         "append" => Some(Edit::Append),
         "code-above" => Some(Edit::CodeAbove),
         "code-below" => Some(Edit::CodeBelow),
@@ -52,7 +65,14 @@ fn primitive_at(edit: Edit, span: Span, new: Bytes) -> Primitive {
         Edit::Remove => Primitive::Remove { element: span },
         Edit::Replace => Primitive::Replace { value: span, new },
         Edit::Wrap => Primitive::Wrap { value: span },
-        Edit::RemoveStatement => Primitive::RemoveStatement { statement: span },
+        Edit::RemoveStatement => Primitive::RemoveStatement {
+            statement: span,
+            blank: BlankLines::Stay,
+        },
+        Edit::Trim { first, last } => Primitive::RemoveStatement {
+            statement: span,
+            blank: BlankLines::Trim { first, last },
+        },
         Edit::Append => Primitive::Append { new },
         Edit::CodeAbove | Edit::CodeBelow | Edit::CodeAtEnd => Primitive::Lines {
             spot: spot_of(edit, span),

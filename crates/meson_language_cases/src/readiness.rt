@@ -71,7 +71,7 @@ pub(crate) fn is_ready(source: &[u8], primitive: &Primitive) -> bool
             has_span(source, *element)
         }
         Primitive::Replace { value, .. } | Primitive::Wrap { value } => has_span(source, *value),
-        Primitive::RemoveStatement { statement } => has_span(source, *statement),
+        Primitive::RemoveStatement { statement, .. } => has_span(source, *statement),
         Primitive::Append { .. } => is_whole(source),
         Primitive::Lines { spot, .. } => match spot {
             LineSpot::Above(statement) | LineSpot::Below(statement) => {

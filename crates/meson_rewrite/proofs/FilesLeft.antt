@@ -14,7 +14,7 @@ use Rattle.meson_store.specs.Commit.{AreReplaced, path_in, put_all, put_at, puts
 use Rattle.meson_store.specs.Seen.{Seen}
 use Rattle.meson_rewrite.specs.declared.advice.Advice.TheVariants.{Nothing}
 use Rattle.meson_rewrite.proofs.ChangesTold.{Tells, by-step, says-changed}
-use Rattle.meson_rewrite.proofs.Endings.{listing-untouched}
+use Rattle.meson_rewrite.proofs.EndedRuns.{listing-untouched}
 use Rattle.meson_rewrite.proofs.Reading.{stop-not-done}
 use Rattle.meson_rewrite.specs.Lines.{status}
 use Rattle.meson_rewrite.specs.Logs.{log_name, log_use, with_log}

@@ -7,11 +7,11 @@ pub mod Listings
 pub mod PlainObjects
 pub mod Scripts
 pub mod Requests
-pub mod Endings
+pub mod EndedRuns
 pub mod Opened
 pub mod Untold
 pub mod Reading
-pub mod Unread
+pub mod UnreadFiles
 pub mod LogName
 pub mod LogLeft
 mod Statuses

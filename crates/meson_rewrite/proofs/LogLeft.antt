@@ -14,7 +14,7 @@ use Rattle.meson_store.specs.Commit.{AreReplaced, TakenBack, path_in, put_all, p
 use Rattle.meson_store.specs.Content.{Content}
 use Rattle.meson_store.specs.Seen.{Seen}
 use Rattle.meson_store.specs.declared.store_fault.StoreFault.{StoreFault}
-use Rattle.meson_rewrite.proofs.Endings.{listing-untouched}
+use Rattle.meson_rewrite.proofs.EndedRuns.{listing-untouched}
 use Rattle.meson_rewrite.proofs.LogName.{other_name}
 use Rattle.meson_rewrite.specs.Logs.{log_name, log_use}
 use Rattle.meson_rewrite.specs.Runs.{Edits, Ends, LeavesLog, StepEnds, asks_for_none, dir_of, done, helped, lists, memory_ran_out, misused, no_memory, not_opened, refused, shown, steps, told, told_version, unwritten, written}

@@ -9,7 +9,7 @@ use Rattle.meson_store.specs.declared.store_fault.StoreFault.{StoreFault}
 use Rattle.meson_store.specs.declared.store_fault.StoreFault.TheVariants as store
 use Rattle.meson_gathering.specs.Gathered.{IsUnread}
 use Rattle.meson_gathering.specs.Gathering.{Finds, Told, held_bytes, whole}
-use Rattle.meson_rewrite.proofs.Endings.{no-log-before}
+use Rattle.meson_rewrite.proofs.EndedRuns.{no-log-before}
 use Rattle.meson_rewrite.specs.Logs.{IsBadLog, IsLog, log_name}
 use Rattle.meson_rewrite.specs.Opening.{IsNoLog, OpensNone, bad_log, log_unread, no_log}
 use Rattle.meson_rewrite.specs.Stops.{WantsMemory}

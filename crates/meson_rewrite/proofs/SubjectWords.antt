@@ -6,7 +6,7 @@ use Rattle.meson_calls.specs.Loading.{Loaded}
 use Rattle.meson_explaining.specs.Names.{bad_name, find_key, is_bad_option, is_bad_pair, is_empty_name, meant_name, missing_name}
 use Rattle.meson_explaining.specs.Sources.{extras_at, is_missing, sources_at}
 use Rattle.meson_steps.specs.declared.command.Command.{Command}
-use Rattle.meson_steps.specs.declared.command.Command.TheVariants.{SourcesAdd, SourcesAddSorted, SourcesRemove, SourcesRename, ExtraAdd, ExtraRemove, TargetAdd, TargetRemove, TargetInfo, KwargsSet, KwargsAdd, KwargsRemove, KwargsDelete, KwargsInfo, OptionsSet, OptionsDelete, Argument, ArgumentInfo, CodeInsert}
+use Rattle.meson_steps.specs.declared.command.Command.TheVariants.{SourcesAdd, SourcesAddSorted, SourcesRemove, SourcesRename, ExtraAdd, ExtraRemove, TargetAdd, TargetRemove, TargetInfo, KwargsSet, KwargsAdd, KwargsRemove, KwargsDelete, KwargsInfo, OptionsSet, OptionsDelete, Argument, ArgumentInfo, CodeInsert, CodeRemove}
 use Rattle.meson_rewrite.specs.RefusalLaws.{IsAmong, SubjectsAreWords, id_and, words_of}
 use Rattle.meson_rewrite.specs.Subjects.{anchor_id, folder_of, id_in, id_of, subject_of}
 
@@ -57,6 +57,7 @@ module _ (name : List ℕ) where
   id_among (Argument n change) e = id_first (id_in n.place.name) n.keys e
   id_among (ArgumentInfo n) e = id_first (id_in n.place.name) n.keys e
   id_among (CodeInsert place code blank) e = id_first (anchor_id place) [] e
+  id_among (CodeRemove statement unused) e = id_first (id_in statement.name) [] e
 
   new_among : (target subdir : List ℕ) (sources : List (List ℕ)) → find is_empty_name (target ∷ sources) ≡ Some name
       → IsAmong (target ∷ subdir ∷ sources) name

@@ -13,12 +13,12 @@ use Rattle.meson_store.specs.Content.{Content}
 use Rattle.meson_store.specs.Seen.{Seen, Untouched, seen}
 use Rattle.meson_store.specs.StoreCalls.{one_more}
 use Rattle.meson_store.specs.Texts.{texts_over}
-use Rattle.meson_rewrite.proofs.Endings.{asking-keeps, not-used, status-keeps, untouched-then}
+use Rattle.meson_rewrite.proofs.EndedRuns.{asking-keeps, not-used, status-keeps, untouched-then}
 use Rattle.meson_rewrite.proofs.FilesLeft.{run-leaves-files}
 use Rattle.meson_rewrite.proofs.LogLeft.{run-leaves}
 use Rattle.meson_rewrite.proofs.Reading.{nothing-read}
 use Rattle.meson_rewrite.proofs.TextsAsked.{asks-without-text}
-use Rattle.meson_rewrite.proofs.Unread.{memory-unread}
+use Rattle.meson_rewrite.proofs.UnreadFiles.{memory-unread}
 use Rattle.meson_rewrite.proofs.Untold.{run-untold, same-keeps}
 use Rattle.meson_rewrite.specs.Lines.{status}
 use Rattle.meson_rewrite.specs.Logs.{log_name}

@@ -15,6 +15,7 @@ pub mod Faults
 pub mod Steps
 pub mod Warnings
 pub mod Requests
+pub mod InputCode
 pub mod Opening
 pub mod Texts
 pub mod Runs

@@ -9,7 +9,7 @@ use Rattle.meson_steps.specs.declared.argument.PlaceName.TheVariants as name
 use Rattle.meson_steps.specs.declared.command.CodePlace.{CodePlace}
 use Rattle.meson_steps.specs.declared.command.CodePlace.TheVariants as place
 use Rattle.meson_steps.specs.declared.command.Command.{Command}
-use Rattle.meson_steps.specs.declared.command.Command.TheVariants.{SourcesAdd, SourcesAddSorted, SourcesRemove, SourcesRename, ExtraAdd, ExtraRemove, TargetAdd, TargetRemove, TargetInfo, KwargsSet, KwargsAdd, KwargsRemove, KwargsDelete, KwargsInfo, OptionsSet, OptionsDelete, Argument, ArgumentInfo, CodeInsert}
+use Rattle.meson_steps.specs.declared.command.Command.TheVariants.{SourcesAdd, SourcesAddSorted, SourcesRemove, SourcesRename, ExtraAdd, ExtraRemove, TargetAdd, TargetRemove, TargetInfo, KwargsSet, KwargsAdd, KwargsRemove, KwargsDelete, KwargsInfo, OptionsSet, OptionsDelete, Argument, ArgumentInfo, CodeInsert, CodeRemove}
 
 -- the id of a call or a variable; a line has none
 abbrev pub id_in : PlaceName → Option (List ℕ)
@@ -45,6 +45,7 @@ id_of (OptionsDelete names) = None
 id_of (Argument n change) = id_in n.place.name
 id_of (ArgumentInfo n) = id_in n.place.name
 id_of (CodeInsert place code blank) = anchor_id place
+id_of (CodeRemove statement unused) = id_in statement.name
 
 -- the folder of a new target
 abbrev pub folder_of : Command → Option (List ℕ)

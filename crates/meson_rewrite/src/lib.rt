@@ -4,7 +4,9 @@
 mod advice;
 mod changes;
 mod codes;
+mod endings;
 mod faults;
+mod input;
 pub mod laws;
 mod lines;
 mod listed;
@@ -25,6 +27,7 @@ mod subjects;
 mod texts;
 mod warnings;
 
+pub use input::{Unread, words_with_code};
 pub use meson_command::{Action, Asked, UsageFault, command_of};
 pub use meson_store::{
     Counted, Folder, Memory, Output, Store, StoreError, StoreFault, Writer, commit,

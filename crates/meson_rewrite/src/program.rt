@@ -1,6 +1,6 @@
 //! The program, over any store and any two writers.
 
-ghost use Rattle.std.specs.Prelude.{◌≡◌, ◌≤◌, ◌+◌, ◌⊎◌, ◌||◌, ℕ, Err, IfSome, IsTrue, MatchResult, None, Ok, OnOk};
+ghost use Rattle.std.specs.Prelude.{◌≡◌, ◌≤◌, ◌+◌, ◌⊎◌, ◌||◌, ℕ, Err, IfSome, IsTrue, None, Ok, OnOk};
 ghost use Rattle.std.specs.Prelude.{map, option_map, string_bytes, true};
 ghost use Rattle.meson_command.specs.Asking.{asked_by, only_asks, only_shows, wants_json, without_text};
 ghost use Rattle.meson_command.specs.declared.fault.UsageFault.TheVariants.{OutOfMemory};
@@ -8,12 +8,11 @@ ghost use Rattle.meson_gathering.specs.Gathering.{named_folder};
 ghost use Rattle.meson_json.specs.Titles.{is_title};
 ghost use Rattle.meson_rewrite.specs.Remarks.{Advises, IsMisused, asks_to_explain};
 ghost use Rattle.meson_rewrite.specs.declared.advice.Advice.TheVariants.{Nothing};
-ghost use Rattle.meson_rewrite.specs.Lines.{done_status, status, store_fault_status, usage_status};
 ghost use Rattle.meson_rewrite.specs.Logs.{log_use};
 ghost use Rattle.meson_rewrite.specs.StoreReads.{MayRead, ReadsAll, ReadsAtMost, ReadsProject, unread_in};
 ghost use Rattle.meson_rewrite.specs.StoreReads.{RunMayRead, RunReadsAll, TextsMayRead, TextsReadAll};
 ghost use Rattle.meson_rewrite.specs.Steps.{IsTitled, only_tells};
-ghost use Rattle.meson_rewrite.specs.Runs.{CannotSay, Ends, IsUnchanged, KeepsFiles, ListingEnds, NeedsNoStore, OnlyAsks, Run, RunReports, Says, StepEnds, Tells};
+ghost use Rattle.meson_rewrite.specs.Runs.{Ends, IsUnchanged, KeepsFiles, ListingEnds, NeedsNoStore, OnlyAsks, Run, RunReports, StepEnds};
 ghost use Rattle.meson_rewrite.specs.Runs.{LeavesFiles, LeavesLog, RunEnds, TextsEnd, dir_of, wants_exit_code};
 ghost use Rattle.meson_rewrite.specs.Texts.{laid};
 ghost use Rattle.meson_rewrite.specs.declared.stop.Stop.TheVariants.{Usage};
@@ -21,8 +20,8 @@ ghost use Rattle.meson_store.specs.Seen.{seen, seen_by};
 ghost use Rattle.meson_store.specs.Texts.{texts_over};
 
 use crate::advice::Advice;
+use crate::endings::{Ending, ended};
 use crate::faults::reported;
-use crate::lines::tell_stop;
 use crate::listed::listed;
 use crate::opening::open;
 use crate::remarks::misuse_advice;
@@ -34,9 +33,8 @@ use crate::stop::Stop;
 use crate::texts::texts_in;
 use meson_command::{Asked, Flags, UsageFault, command_of, wants_json};
 use meson_splice::{FileSet, Text};
-use meson_store::{Below, Output, Overlaid, Store, StoreFault, commit};
+use meson_store::{Below, Output, Overlaid, Store, commit};
 use std::alloc::{AllocError, Global};
-use std::io;
 use std::marker::{Brand, PhantomData};
 
 /// It writes nothing.
@@ -229,16 +227,6 @@ fn respond<S: Store>(alloc: Global, store: &mut S, asked: Asked) -> Result<Said,
     }
 }
 
-/// How a run ends, and how it reports that.
-#[derive(Drop)]
-struct Ending {
-    end: Result<Said, Stop>,
-    /// Whether it is written in JSON.
-    json: bool,
-    /// Whether the status says that a build file was changed.
-    exit_code: bool,
-}
-
 /// The ending for words that are not a request.
 fn misused(alloc: Global, words: &[String], fault: UsageFault) -> Ending
     ensures end { IsMisused (asks_to_explain (map string_bytes words.now)) (wants_json (map string_bytes words.now)) fault result.end }
@@ -287,68 +275,6 @@ fn run<S: Store>(alloc: Global, store: &mut S, words: &[String]) -> Ending
             }
         }
         Err(fault) => misused(alloc, words, fault),
-    }
-}
-
-/// Writes the lines of the ending, or its object of JSON.
-fn tell<O: Output, E: Output>(
-    alloc: Global,
-    out: &mut O,
-    err: &mut E,
-    json: bool,
-    end: &Result<Said, Stop>,
-) -> io::Result<()>
-    ensures { MatchResult result (λ _. Says json end.now (O.heard out.old) (O.heard out.new) (E.heard err.old) (E.heard err.new))
-        (λ _. CannotSay end.now (O.heard out.old) (O.heard out.new) (E.heard err.old) (E.heard err.new)) }
-{
-    match end {
-        Ok(said) => said.tell(out, err),
-        Err(stop) => tell_stop(alloc, err, json, stop),
-    }
-}
-
-fn store_fault_status(fault: &StoreFault) -> u8
-    ensures { result ≡ store_fault_status fault.now }
-{
-    match fault {
-        StoreFault::OutOfMemory => 1,
-        _ => 3,
-    }
-}
-
-fn usage_status(fault: &UsageFault) -> u8
-    ensures { result ≡ usage_status fault.now }
-{
-    match fault {
-        UsageFault::OutOfMemory => 1,
-        _ => 2,
-    }
-}
-
-fn done_status(exit_code: bool, said: &Said) -> u8
-    ensures { result ≡ done_status exit_code said.now }
-{
-    if exit_code && said.changed { 4 } else { 0 }
-}
-
-fn status(exit_code: bool, end: &Result<Said, Stop>) -> u8
-    ensures { result ≡ status exit_code end.now }
-{
-    match end {
-        Ok(said) => done_status(exit_code, said),
-        Err(Stop::Usage { fault, .. }) => usage_status(fault),
-        Err(Stop::Store { fault, .. }) => store_fault_status(fault),
-        Err(_) => 1,
-    }
-}
-
-/// Writes the lines of the ending, or its object of JSON. Returns its status, or 3 if a writer failed.
-fn ended<O: Output, E: Output>(alloc: Global, out: &mut O, err: &mut E, ending: &Ending) -> u8
-    ensures { Tells ending.now.exit_code ending.now.json result (O.heard out.old) (O.heard out.new) (E.heard err.old) (E.heard err.new) ending.now.end }
-{
-    match tell(alloc, out, err, ending.json, &ending.end) {
-        Ok(()) => status(ending.exit_code, &ending.end),
-        Err(_) => 3,
     }
 }
 

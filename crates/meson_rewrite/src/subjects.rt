@@ -55,6 +55,7 @@ fn id_of(command: &Command) -> Option<&Text>
             id_in(&name.place.name)
         }
         Command::CodeInsert { place, .. } => anchor_id(place),
+        Command::CodeRemove { statement, .. } => id_in(&statement.name),
     }
 }
 

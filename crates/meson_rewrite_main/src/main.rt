@@ -1,7 +1,8 @@
 //! The program over real files: its words, its writers and its status.
 #![tactic(auto)]
 
-use meson_rewrite::{Counted, Folder, Output, rewrite};
+use meson_rewrite::{Counted, Folder, Output, Store, rewrite, words_with_code};
+use std::alloc::Global;
 use std::io::{ErrorKind, IsTerminal};
 use std::process::ExitCode;
 use std::{env, io};
@@ -38,6 +39,20 @@ fn refuse<E: Output>(err: &mut E, kind: ErrorKind, explains: bool) -> u8 {
     }
 }
 
+/// Runs the program on words, with the code of standard input where `-` stands for it.
+fn run<S: Store, O: Output, E: Output>(
+    alloc: Global,
+    store: &mut S,
+    words: Vec<String>,
+    out: &mut O,
+    err: &mut E,
+) -> u8 {
+    match words_with_code(alloc, store, words) {
+        Ok(words) => rewrite(alloc, store, words.as_slice(), out, err),
+        Err(unread) => unread.tell(alloc, out, err),
+    }
+}
+
 fn main(rt: HostRuntime) -> ExitCode {
     let alloc = rt.alloc();
     let mut out = Counted::new(rt.stdout());
@@ -45,7 +60,7 @@ fn main(rt: HostRuntime) -> ExitCode {
     let status = match words(&rt) {
         Ok(words) => {
             let mut folder = Folder::new(&rt, alloc);
-            rewrite(alloc, &mut folder, words.as_slice(), &mut out, &mut err)
+            run(alloc, &mut folder, words, &mut out, &mut err)
         }
         Err(e) => refuse(&mut err, e.kind(), rt.stderr().is_terminal()),
     };

@@ -119,6 +119,7 @@ info-plain l (command.OptionsSet pairs) d i = absurd (let no : ⊥ = cc in no)
 info-plain l (command.OptionsDelete names) d i = absurd (let no : ⊥ = cc in no)
 info-plain l (command.Argument name change) d i = absurd (let no : ⊥ = cc in no)
 info-plain l (command.CodeInsert place code blank) d i = absurd (let no : ⊥ = cc in no)
+info-plain l (command.CodeRemove statement unused) d i = absurd (let no : ⊥ = cc in no)
 
 option-plain : (l : Loaded) (c : Command) (info : Option Data) → IsInfo l c info → AllPlain (option_to_list info)
 option-plain l c None is = refl
@@ -211,6 +212,7 @@ no-info l (command.OptionsSet pairs) why ds h is = h
 no-info l (command.OptionsDelete names) why ds h is = h
 no-info l (command.Argument name change) why ds h is = h
 no-info l (command.CodeInsert place code blank) why ds h is = h
+no-info l (command.CodeRemove statement unused) why ds h is = h
 
 -- ---- a command that changes files lists nothing
 
@@ -238,6 +240,7 @@ lists-nothing l (command.OptionsSet pairs) quiet = (refl, refl)
 lists-nothing l (command.OptionsDelete names) quiet = (refl, refl)
 lists-nothing l (command.Argument name change) quiet = (refl, refl)
 lists-nothing l (command.CodeInsert place code blank) quiet = (refl, refl)
+lists-nothing l (command.CodeRemove statement unused) quiet = (refl, refl)
 
 pub lists-none : (form : ListingForm) (l : Loaded) (c : Command) (shown : List Data) (text : List ℕ) → asks c ≡ false → text ≡ listings_text shown → Added form l c shown text
 lists-none form l c shown text quiet is =

@@ -202,3 +202,4 @@ told-plain l (command.OptionsSet pairs) more is = none-plain more is
 told-plain l (command.OptionsDelete names) more is = none-plain more is
 told-plain l (command.Argument name change) more is = none-plain more is
 told-plain l (command.CodeInsert place code blank) more is = none-plain more is
+told-plain l (command.CodeRemove statement unused) more is = none-plain more is

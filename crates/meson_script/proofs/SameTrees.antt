@@ -64,6 +64,7 @@ told-same p q s (command.OptionsSet pairs) = refl
 told-same p q s (command.OptionsDelete names) = refl
 told-same p q s (command.Argument name change) = refl
 told-same p q s (command.CodeInsert place code blank) = refl
+told-same p q s (command.CodeRemove statement unused) = refl
 
 -- ---- what is done
 

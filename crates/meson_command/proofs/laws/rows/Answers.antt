@@ -3,7 +3,7 @@ use Rattle.clap.proofs.OnLiterals.{clap_on_literals}
 use Rattle.meson_command.specs.Actions.{action_of, kwargs_action, kwargs_by, options_action, options_by, other_action, rename_action, script_action, target_action}
 use Rattle.meson_command.specs.Arguments.{action_within, argument_action, values_meant}
 use Rattle.meson_command.specs.Asking.{asked_from}
-use Rattle.meson_command.specs.Codes.{code_action}
+use Rattle.meson_command.specs.Codes.{code_action, insertion_action, removal_action}
 use Rattle.meson_json.specs.Codes.{blank_of}
 use Rattle.meson_json.specs.Counts.{count_of}
 use Rattle.meson_command.specs.Pairs.{lone_names, pairs_of}
@@ -31,8 +31,12 @@ pub returns-clause-inserted : goal.returns-clause-inserted
 returns-clause-inserted c = inserted-law
 
 pub returns-clause-nowhere : goal.returns-clause-nowhere
-unfolding clap_on_literals program target kwargs argument code default_options command undo redo history list asked_from action_within code_action action_of other_action count_of blank_of
-returns-clause-nowhere c = (refl, refl, refl, refl, refl, refl, refl, refl, refl, refl, refl, refl)
+unfolding clap_on_literals program target kwargs argument code default_options command undo redo history list asked_from action_within insertion_action code_action action_of other_action count_of blank_of
+returns-clause-nowhere c = (refl, refl, refl, refl, refl, refl, refl, refl, refl, refl, refl, refl, refl, refl)
+
+pub returns-clause-removed : goal.returns-clause-removed
+unfolding clap_on_literals program target kwargs argument code default_options command undo redo history list asked_from action_within removal_action code_action action_of other_action count_of blank_of
+returns-clause-removed c = (refl, refl, refl, refl, refl, refl, refl, refl, refl, refl, refl, refl)
 
 pub returns-clause-titled : goal.returns-clause-titled
 unfolding clap_on_literals program target kwargs argument code default_options command undo redo history list asked_from action_within action_of other_action rename_action target_action kwargs_action kwargs_by options_action options_by script_action lone_names pairs_of count_of

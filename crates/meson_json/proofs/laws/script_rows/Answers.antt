@@ -4,7 +4,7 @@ use Rattle.std.specs.Fmt.{digits}
 use Rattle.serde_json.proofs.OnLiterals.{serde_json_on_literals}
 use Rattle.meson_json.specs.Counts.{count_of}
 use Rattle.meson_json.specs.Each.{each_of, each_member, names_of_members}
-use Rattle.meson_json.specs.Scripts.{argument_entry, search_at, code_entry, value_name, rename_entry, target_members, target_entry, kwargs_command, kwargs_entry, options_command, options_entry, entry_of, entry_by, entries_of, max_commands, script_of}
+use Rattle.meson_json.specs.Scripts.{argument_entry, search_at, code_entry, insertion_entry, removal_entry, value_name, rename_entry, target_members, target_entry, kwargs_command, kwargs_entry, options_command, options_entry, entry_of, entry_by, entries_of, max_commands, script_of}
 use Rattle.meson_json.specs.declared.member_check.UnknownMembers.TheVariants.{Ignored}
 use Rattle.meson_json.specs.declared.fault.ScriptFault.TheVariants.{TooMany}
 use Rattle.meson_json.proofs.OnCode.{on_code}
@@ -31,8 +31,12 @@ unfolding serde_json_on_literals digits each_of each_member names_of_members cou
 returns-clause-infos c = (refl, refl, refl, refl, refl, refl)
 
 pub returns-clause-code : goal.returns-clause-code
-unfolding serde_json_on_literals on_code digits each_of each_member names_of_members count_of search_at code_entry entry_of entry_by entries_of script_of
-returns-clause-code c = (refl, refl, refl, refl, refl, refl, refl, refl, refl, refl, refl, refl, refl, refl, refl, refl, refl)
+unfolding serde_json_on_literals on_code digits each_of each_member names_of_members count_of search_at insertion_entry code_entry entry_of entry_by entries_of script_of
+returns-clause-code c = (refl, refl, refl, refl, refl, refl, refl, refl, refl, refl, refl, refl, refl, refl, refl, refl, refl, refl)
+
+pub returns-clause-removals : goal.returns-clause-removals
+unfolding serde_json_on_literals digits each_of each_member names_of_members count_of search_at removal_entry code_entry entry_of entry_by entries_of script_of
+returns-clause-removals c = (refl, refl, refl, refl, refl, refl, refl, refl, refl, refl, refl, refl)
 
 pub returns-clause-faults : goal.returns-clause-faults
 unfolding serde_json_on_literals digits each_of each_member names_of_members target_members rename_entry target_entry kwargs_command kwargs_entry options_command options_entry entry_of entry_by entries_of script_of

@@ -1,7 +1,7 @@
 use Rattle.std.proofs.Common.{◌∙◌, ap, option_map, inl, inr, subst, sym}
 use Rattle.std.proofs.lemmas.Result.{err_from_is_err_and}
 use Rattle.meson_rewrite.proofs.Opened.{no-log-opens}
-use Rattle.meson_rewrite.proofs.Unread.{gathered-unread}
+use Rattle.meson_rewrite.proofs.UnreadFiles.{gathered-unread}
 use Rattle.meson_rewrite.specs.Opening.{OpensNone, no_project}
 use Rattle.meson_rewrite.specs.StoreReads.{ReadsWithLog}
 use Rattle.meson_rewrite.specs.Stops.{unread_by}

@@ -2,7 +2,7 @@ use Rattle.std.proofs.Common.{option_map, ap, inr}
 use Rattle.std.proofs.lemmas.Result.{IfErr-weaker, IfOk-weaker}
 use Rattle.meson_rewrite.proofs.Opened.{bad-read, log-read, none-read, unread-log}
 use Rattle.meson_gathering.proofs.Asking.{asks_and_reads}
-use Rattle.meson_rewrite.proofs.Unread.{log-unread, memory-unread}
+use Rattle.meson_rewrite.proofs.UnreadFiles.{log-unread, memory-unread}
 use Rattle.meson_rewrite.specs.Logs.{log_name}
 use Rattle.meson_rewrite.specs.Stops.{WantsMemory, unread_by}
 use Rattle.meson_gathering.specs.ReadCounts.{MayAsk}

@@ -1,6 +1,6 @@
 use Rattle.std.proofs.Common.{Ok, inl, inr, refl, subst, sym}
 use Rattle.meson_command.specs.Asking.{without_text}
-use Rattle.meson_rewrite.proofs.Endings.{listing-before, not-asked, shown-ends, step-before}
+use Rattle.meson_rewrite.proofs.EndedRuns.{listing-before, not-asked, shown-ends, step-before}
 use Rattle.meson_rewrite.proofs.Reading.{asked-alone, listing-reads-all, shown-may-read, shown-reads-none, step-may-read, step-reads-all}
 use Rattle.meson_rewrite.specs.Runs.{Ends, ListingEnds, StepEnds, lists, steps}
 use Rattle.meson_rewrite.specs.StoreReads.{unread_in}

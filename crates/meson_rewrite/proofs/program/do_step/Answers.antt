@@ -1,9 +1,9 @@
 use Rattle.std.proofs.Common.{◌≡◌, ◌⊎◌, ℕ, List, Option, None, Result, Ok, Err, false, refl, true, option_map}
 use Rattle.std.proofs.lemmas.Result.{err_from_is_err_and}
 use Rattle.std.specs.Prelude.{IfErr, IfOk}
-use Rattle.meson_rewrite.proofs.Endings.{done-ends, dry-ends, failed-ends, stopped-acting, stopped-opening, told-ends}
+use Rattle.meson_rewrite.proofs.EndedRuns.{done-ends, dry-ends, failed-ends, stopped-acting, stopped-opening, told-ends}
 use Rattle.meson_rewrite.proofs.Reading.{on_ok, with-log-all, with-log-at-most}
-use Rattle.meson_rewrite.proofs.Unread.{acting-unread, commit-unread, stop-unread}
+use Rattle.meson_rewrite.proofs.UnreadFiles.{acting-unread, commit-unread, stop-unread}
 use Rattle.meson_rewrite.specs.inside.Edited.{IsShownWith, OnlyTells}
 use Rattle.meson_command.specs.declared.asked.Flags.{Flags}
 use Rattle.meson_rewrite.specs.Logs.{log_use}

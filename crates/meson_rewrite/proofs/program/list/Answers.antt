@@ -1,8 +1,8 @@
 use Rattle.std.proofs.Common.{option_map, refl}
 use Rattle.std.proofs.lemmas.Result.{err_from_is_err_and}
-use Rattle.meson_rewrite.proofs.Endings.{listing-told, listing-unopened}
+use Rattle.meson_rewrite.proofs.EndedRuns.{listing-told, listing-unopened}
 use Rattle.meson_rewrite.proofs.Reading.{on_ok, with-log-all, with-log-at-most}
-use Rattle.meson_rewrite.proofs.Unread.{listing-unread}
+use Rattle.meson_rewrite.proofs.UnreadFiles.{listing-unread}
 use Rattle.meson_rewrite.specs.Logs.{log_use}
 use Rattle.meson_rewrite.specs.StoreReads.{unread_in}
 use Rattle.meson_store.specs.Seen.{Untouched, seen}

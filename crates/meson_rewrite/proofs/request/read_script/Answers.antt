@@ -3,7 +3,7 @@ use Rattle.std.proofs.lemmas.Result.{IfErr-weaker, IfOk-weaker, err_from_is_err_
 use Rattle.meson_rewrite.specs.Requests.{HasBytes, script_in}
 use Rattle.meson_rewrite.proofs.Scripts.{bad-file, no-script}
 use Rattle.meson_gathering.proofs.Asking.{asks_and_reads}
-use Rattle.meson_rewrite.proofs.Unread.{bad-unread}
+use Rattle.meson_rewrite.proofs.UnreadFiles.{bad-unread}
 use Rattle.meson_rewrite.specs.Stops.{unread_by}
 use Rattle.meson_gathering.specs.ReadCounts.{MayAsk}
 use Rattle.meson_rewrite.proofs.request.read_script.Goals as goal

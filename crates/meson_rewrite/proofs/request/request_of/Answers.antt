@@ -1,7 +1,7 @@
 use Rattle.std.proofs.Common.{inl, refl}
 use Rattle.std.proofs.lemmas.Result.{IfErr-weaker, IfOk-weaker}
 use Rattle.meson_rewrite.proofs.Requests.{asks-anywhere, names-none}
-use Rattle.meson_rewrite.proofs.Unread.{asked-unread}
+use Rattle.meson_rewrite.proofs.UnreadFiles.{asked-unread}
 use Rattle.meson_rewrite.proofs.request.request_of.Goals as goal
 
 pub asked_for-requires-clause-no_file : goal.asked_for-requires-clause-no_file

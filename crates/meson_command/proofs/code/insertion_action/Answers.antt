@@ -6,7 +6,7 @@ use Rattle.meson_json.specs.Operations.{code_operation}
 use Rattle.meson_command.specs.Codes.{blank_in}
 use Rattle.meson_command.specs.declared.asked.Action.{Action}
 use Rattle.meson_command.proofs.CodeRequests.{inserts, no-number, not-code}
-use Rattle.meson_command.proofs.code.code_action.Goals as goal
+use Rattle.meson_command.proofs.code.insertion_action.Goals as goal
 
 pub returns-in_err-blank-clause-refused : goal.returns-in_err-blank-clause-refused
 returns-in_err-blank-clause-refused c =
