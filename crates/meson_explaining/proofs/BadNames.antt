@@ -236,8 +236,8 @@ module _ (l : Loaded) where
   bad_meant (command.TargetRemove target) =
       never (command.TargetRemove target) (the_call (project l) role.Target target) (λ c. target_removed (project l) c) refl (call_free is_bad bad_of_names (project l) role.Target target)
       (removed_free is_bad bad_of_names (project l))
-  bad_meant (command.TargetInfo target) =
-      never (command.TargetInfo target) (the_call (project l) role.Target target) (λ c. target_told c.it) refl (call_free is_bad bad_of_names (project l) role.Target target)
+  bad_meant (command.TargetInfo target reading) =
+      never (command.TargetInfo target reading) (the_call (project l) role.Target target) (λ c. target_told c.it) refl (call_free is_bad bad_of_names (project l) role.Target target)
       (λ c. target_free is_bad bad_of_names c.it)
   bad_meant (command.KwargsSet r id pairs) =
       entries_meant r id (is_bad_pair r) (λ p. p.0) (command.KwargsSet r id) (set_entry r) (λ ps. refl) (λ p t. set_free is_bad bad_of_names r p (good_values r p t)) (set_bad r) pairs refl refl

@@ -267,7 +267,7 @@ module _ (l : Loaded) (why : Refusal) (gone : is_gone why ≡ true)
       (λ v. placed_free is_gone gone_of_names (project l) target kind subdir (target ∷ distinct sources))))
   gone_meant (command.TargetRemove target) =
       never_of (command.TargetRemove target) role.Target target (λ c. target_removed (project l) c) refl (removed_free is_gone gone_of_names (project l))
-  gone_meant (command.TargetInfo target) = never_of (command.TargetInfo target) role.Target target (λ c. target_told c.it) refl (λ c. target_free is_gone gone_of_names c.it)
+  gone_meant (command.TargetInfo target reading) = never_of (command.TargetInfo target reading) role.Target target (λ c. target_told c.it) refl (λ c. target_free is_gone gone_of_names c.it)
   gone_meant (command.KwargsSet r id pairs) =
       never_changed (command.KwargsSet r id pairs) r id (set_entry r) pairs refl (λ p. set_free is_gone gone_of_names r p (λ takes. values_free is_gone gone_of_names refl p.0 p.1))
   gone_meant (command.KwargsAdd r id pairs) =

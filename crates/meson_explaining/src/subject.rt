@@ -30,7 +30,7 @@ pub(crate) fn subject_of(command: &Command) -> Subject<'_>
         | Command::ExtraAdd { target, .. }
         | Command::ExtraRemove { target, .. }
         | Command::TargetRemove { target }
-        | Command::TargetInfo { target } => Subject {
+        | Command::TargetInfo { target, .. } => Subject {
             role: Role::Target,
             name: target.as_name(),
         },

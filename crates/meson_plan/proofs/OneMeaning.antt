@@ -19,7 +19,7 @@ means-one l (command.ExtraAdd target sources) m n p q = sym p ∙ q
 means-one l (command.ExtraRemove target sources) m n p q = sym p ∙ q
 means-one l (command.TargetAdd target kind subdir sources) m n p q = sym p ∙ q
 means-one l (command.TargetRemove target) m n p q = sym p ∙ q
-means-one l (command.TargetInfo target) m n p q = sym p ∙ q
+means-one l (command.TargetInfo target reading) m n p q = sym p ∙ q
 means-one l (command.KwargsSet r id pairs) m n p q = sym p ∙ q
 means-one l (command.KwargsAdd r id pairs) m n p q = sym p ∙ q
 means-one l (command.KwargsRemove r id pairs) m n p q = sym p ∙ q
@@ -45,7 +45,7 @@ module _ (l k : Loaded) (same_files : l.files ≡ k.files) (same_trees : trees l
   means-same (command.ExtraRemove target sources) m is = same-plan (command.ExtraRemove target sources) m is
   means-same (command.TargetAdd target kind subdir sources) m is = same-plan (command.TargetAdd target kind subdir sources) m is
   means-same (command.TargetRemove target) m is = same-plan (command.TargetRemove target) m is
-  means-same (command.TargetInfo target) m is = same-plan (command.TargetInfo target) m is
+  means-same (command.TargetInfo target reading) m is = same-plan (command.TargetInfo target reading) m is
   means-same (command.KwargsSet r id pairs) m is = same-plan (command.KwargsSet r id pairs) m is
   means-same (command.KwargsAdd r id pairs) m is = same-plan (command.KwargsAdd r id pairs) m is
   means-same (command.KwargsRemove r id pairs) m is = same-plan (command.KwargsRemove r id pairs) m is

@@ -46,7 +46,7 @@ module _ (name : List ℕ) where
   id_among (ExtraRemove target sources) e = inl (some-same target.id name e)
   id_among (TargetAdd target kind subdir sources) e = inl (some-same target name e)
   id_among (TargetRemove target) e = inl (some-same target.id name e)
-  id_among (TargetInfo target) e = inl (some-same target.id name e)
+  id_among (TargetInfo target reading) e = inl (some-same target.id name e)
   id_among (KwargsSet role call pairs) e = inl (some-same call.id name e)
   id_among (KwargsAdd role call pairs) e = inl (some-same call.id name e)
   id_among (KwargsRemove role call pairs) e = inl (some-same call.id name e)

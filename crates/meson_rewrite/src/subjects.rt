@@ -43,7 +43,7 @@ fn id_of(command: &Command) -> Option<&Text>
         | Command::ExtraAdd { target, .. }
         | Command::ExtraRemove { target, .. }
         | Command::TargetRemove { target }
-        | Command::TargetInfo { target } => Some(&target.id),
+        | Command::TargetInfo { target, .. } => Some(&target.id),
         Command::TargetAdd { target, .. } => Some(target),
         Command::KwargsSet { name, .. }
         | Command::KwargsAdd { name, .. }

@@ -25,6 +25,15 @@ pub enum CodePlace {
     End(Text),
 }
 
+/// How the sources of a target are read.
+#[derive(Debug, Clone, Copy)]
+pub enum Reading {
+    /// A variable is followed where a single assignment outside `if` and `foreach` sets it, and nothing else may.
+    Written,
+    /// Variables are followed as Meson evaluates the files: through `+=`, branches, loops and folders.
+    Followed,
+}
+
 /// What may be done to a project, or queried of it.
 pub enum Command {
     SourcesAdd {
@@ -66,6 +75,7 @@ pub enum Command {
     },
     TargetInfo {
         target: CallName,
+        reading: Reading,
     },
     KwargsSet {
         role: Role,
@@ -164,7 +174,10 @@ impl Drop for Command {
                 sources: _,
             } => {}
             Command::TargetRemove { target: _ } => {}
-            Command::TargetInfo { target: _ } => {}
+            Command::TargetInfo {
+                target: _,
+                reading: _,
+            } => {}
             Command::KwargsSet {
                 role: _,
                 name: _,
@@ -276,9 +289,8 @@ impl fmt::Debug for Command {
                 .field(target_kind)
                 .field(subdir)
                 .field(sources),
-            Command::TargetRemove { target } | Command::TargetInfo { target } => {
-                shown.field(target)
-            }
+            Command::TargetRemove { target } => shown.field(target),
+            Command::TargetInfo { target, reading } => shown.field(target).field(reading),
             Command::KwargsSet { role, name, pairs }
             | Command::KwargsAdd { role, name, pairs }
             | Command::KwargsRemove { role, name, pairs } => shown
