@@ -34,7 +34,7 @@ both : (xs ys : List (Placed (Part Span))) → PartsGood xs → PartsGood ys →
 both [] ys a b = b
 both (x ∷ xs) ys a b = (a.0, both xs ys a.1 b)
 
-parts_good : (n : ℕ) (files : List File) (parsed : List Parsed) → AreParsed files parsed → PartsGood (parts_from n (named_trees files (views files parsed)))
+pub parts_good : (n : ℕ) (files : List File) (parsed : List Parsed) → AreParsed files parsed → PartsGood (parts_from n (named_trees files (views files parsed)))
 parts_good n [] parsed are = tt
 parts_good n (f ∷ files) [] are = absurd are
 parts_good n (f ∷ files) (t ∷ parsed) are =

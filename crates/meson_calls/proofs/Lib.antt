@@ -23,6 +23,7 @@ pub mod GoodParts
 pub mod GoodTexts
 pub mod GoodLiterals
 pub mod GoodNotes
+pub mod NamedNotes
 pub mod Listed
 pub mod Nested
 pub mod KeptArguments

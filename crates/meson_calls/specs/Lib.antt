@@ -12,6 +12,7 @@ pub mod Notes
 pub mod Walks
 pub mod ChosenNotes
 pub mod Strings
+pub mod NamedNotes
 pub mod NotedProjects
 pub mod GoodLists
 pub mod FileNames

@@ -16,6 +16,15 @@ pub enum Role {
     Project,
 }
 
+/// How build files are read.
+#[derive(Clone, Copy, Debug, PartialEq, Eq)]
+pub enum Reading {
+    /// A variable is known where a single assignment outside `if` and `foreach` sets it, and nothing else may.
+    Written,
+    /// Variables are followed as Meson evaluates the files: through `+=`, branches, loops and folders.
+    Followed,
+}
+
 /// What names a call: an id, and the folder whose build file alone is searched for it, if one is given. `.` is the root folder.
 #[derive(Debug, Drop)]
 pub struct CallName {

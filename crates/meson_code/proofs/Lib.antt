@@ -6,7 +6,6 @@ mod Rooms
 mod Sides
 mod InsertionsDoable
 mod FirstFound
-mod NamesSet
 mod Outside
 mod Counts
 mod Tests

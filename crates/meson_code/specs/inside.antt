@@ -1,2 +1,1 @@
-pub mod Removal
 pub mod Removing

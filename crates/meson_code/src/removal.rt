@@ -8,6 +8,7 @@ ghost use Rattle.meson_syntax.specs.View.{list_view, names_at, text_at};
 ghost use Rattle.meson_syntax.specs.declared.operator.Bracket.TheVariants as bracket;
 ghost use Rattle.meson_calls.specs.ChosenNotes.{call_with};
 ghost use Rattle.meson_calls.specs.Loading.{AreParsed, IsProject, project};
+ghost use Rattle.meson_calls.specs.NamedNotes.{AreIdentifiers, AreNamed, IsNamed};
 ghost use Rattle.meson_calls.specs.Notes.{a_call, a_loop, note_view, note_views};
 ghost use Rattle.meson_calls.specs.Refusals.{RefusedAs};
 ghost use Rattle.meson_calls.specs.Strings.{AreGood, NotesGood, note_words};
@@ -18,7 +19,6 @@ ghost use Rattle.meson_places.specs.Names.{loaded_in};
 ghost use Rattle.meson_places.specs.Uses.{source_holds};
 ghost use Rattle.meson_code.specs.AnchorLaws.{IsStatementAt};
 ghost use Rattle.meson_code.specs.Removal.{blank_lines, first_needed, is_formatted_outside, is_needed, names_set, removal_step, removed_at, set_within, span_at, texts_beside};
-ghost use Rattle.meson_code.specs.inside.Removal.{AreIdentifiers, AreNamed, IsNamed};
 
 use meson_calls::Refusal;
 use meson_calls::literals::first_literal;

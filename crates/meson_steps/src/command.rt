@@ -1,7 +1,7 @@
 //! Commands, and what a command did.
 
 use crate::argument::{Search, ValueChange, ValueName};
-use meson_calls::{CallName, Role};
+use meson_calls::{CallName, Reading, Role};
 use meson_splice::{Change, Many, Text};
 use meson_statements::StatementCode;
 use std::fmt;
@@ -23,15 +23,6 @@ pub enum CodePlace {
     Below(Search),
     /// At the end of the file of this name.
     End(Text),
-}
-
-/// How the sources of a target are read.
-#[derive(Debug, Clone, Copy)]
-pub enum Reading {
-    /// A variable is followed where a single assignment outside `if` and `foreach` sets it, and nothing else may.
-    Written,
-    /// Variables are followed as Meson evaluates the files: through `+=`, branches, loops and folders.
-    Followed,
 }
 
 /// What may be done to a project, or queried of it.

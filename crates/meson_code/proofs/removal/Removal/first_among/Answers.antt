@@ -2,6 +2,8 @@ use Rattle.std.proofs.Common.{◌≡◌, ℕ, List, [], ◌∙◌, subst, sym, a
 use Rattle.std.specs.Prelude.{Bool, true, false, not, if◌then◌else◌}
 use Rattle.std.specs.List.{find}
 use Rattle.meson_calls.specs.declared.note.Note as code
+use Rattle.meson_calls.specs.NamedNotes.{IsNamed}
+use Rattle.meson_calls.proofs.NamedNotes.{named_at}
 use Rattle.meson_calls.specs.Notes.{note_view, note_views}
 use Rattle.meson_calls.specs.Strings.{AreGood, note_words}
 use Rattle.meson_calls.proofs.GoodNotes.{good_at}
@@ -9,9 +11,7 @@ use Rattle.meson_targets.specs.TargetEdits.{StatementPlace, is_in_statement}
 use Rattle.meson_targets.specs.inside.TargetViews.{place_view}
 use Rattle.meson_places.specs.Names.{loaded_in}
 use Rattle.meson_code.specs.Removal.{is_needed, names_set, set_within}
-use Rattle.meson_code.specs.inside.Removal.{IsNamed}
 use Rattle.meson_code.proofs.FirstFound.{found_here, none_here}
-use Rattle.meson_code.proofs.NamesSet.{named_at}
 use Rattle.meson_code.proofs.removal.Removal.first_among.Goals as goal
 
 abbrev of_notes : StatementPlace → List code.Note → List (List ℕ)

@@ -1,7 +1,7 @@
 use Rattle.std.proofs.Common.{ap, ◌∙◌}
 use Rattle.meson_calls.specs.Notes.{note_views}
 use Rattle.meson_calls.proofs.GoodNotes.{taken_good}
-use Rattle.meson_code.proofs.NamesSet.{taken_named}
+use Rattle.meson_calls.proofs.NamedNotes.{taken_named}
 use Rattle.meson_code.proofs.removal.Removal.first_needed.Goals as goal
 
 pub first_among-requires-clause-good : goal.first_among-requires-clause-good

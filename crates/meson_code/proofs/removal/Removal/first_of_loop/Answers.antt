@@ -4,11 +4,11 @@ use Rattle.meson_lex.specs.declared.kinds.Span.{Span}
 use Rattle.meson_lex.specs.Kinds.{IsIdentifier}
 use Rattle.meson_syntax.specs.Tree.{Name}
 use Rattle.meson_syntax.specs.View.{names_at, text_at}
+use Rattle.meson_calls.proofs.NamedNotes.{identifier_at}
 use Rattle.meson_targets.specs.inside.TargetViews.{place_view}
 use Rattle.meson_places.specs.Names.{loaded_in}
 use Rattle.meson_code.specs.Removal.{is_needed}
 use Rattle.meson_code.proofs.FirstFound.{found_here, none_here}
-use Rattle.meson_code.proofs.NamesSet.{identifier_at}
 use Rattle.meson_code.proofs.removal.Removal.first_of_loop.Goals as goal
 
 abbrev none : Span

@@ -1,4 +1,4 @@
--- The variables that notes set, as the code reports them: by names that are identifiers.
+-- Notes of assignments and loops whose variables have names that are identifiers.
 use Rattle.std.specs.Prelude.{List, [], ◌∷◌}
 use Rattle.meson_lex.specs.Kinds.{IsIdentifier}
 use Rattle.meson_syntax.specs.Tree.{Name}

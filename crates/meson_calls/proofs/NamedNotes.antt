@@ -1,4 +1,4 @@
--- The names of the variables that assignments and loops of a project set are identifiers.
+-- The variables that assignments and loops of a project set have names that are identifiers.
 use Rattle.std.proofs.Common.{◌≡◌, ℕ, zero, suc, ◌+◌, ◌<◌, List, [], ◌∷◌, ◌++◌, length, get_or, sym, subst, arith}
 use Rattle.std.specs.Prelude.{option_map}
 use Rattle.std.specs.List.{cons_option}
@@ -6,20 +6,19 @@ use Rattle.meson_lex.specs.declared.kinds.Span.{Span}
 use Rattle.meson_lex.specs.Kinds.{IsIdentifier}
 use Rattle.meson_splice.specs.declared.file_set.File.{File}
 use Rattle.meson_syntax.specs.Grammar.{more_names_words, names_words}
-use Rattle.meson_syntax.specs.Tree.{Name, assign, call, iteration, erase}
-use Rattle.meson_syntax.specs.View.{names_at, text_at, view}
+use Rattle.meson_syntax.specs.Tree.{Name, assign, call, iteration}
+use Rattle.meson_syntax.specs.View.{names_at, text_at}
 use Rattle.meson_syntax.specs.declared.tree.Parsed.{Parsed}
-use Rattle.meson_syntax.proofs.parsing.FileErased.{file-words-erased}
 use Rattle.meson_calls.specs.declared.call.CallRef.{CallRef}
 use Rattle.meson_calls.specs.declared.note.Note as code
 use Rattle.meson_calls.specs.Loading.{AreParsed, named_trees, views}
+use Rattle.meson_calls.specs.NamedNotes.{AreIdentifiers, AreNamed, IsNamed}
 use Rattle.meson_calls.specs.Notes.{Note, note_of, note_view, note_views, noted, notes}
-use Rattle.meson_calls.specs.Parts.{Part, an_expression, a_statement, parts_from, parts_of_file}
+use Rattle.meson_calls.specs.Parts.{Part, an_expression, a_statement, parts_from}
 use Rattle.meson_calls.specs.Project.{Placed, placed}
 use Rattle.meson_calls.specs.Strings.{AreGood, PartsGood, part_words}
-use Rattle.meson_calls.proofs.GoodParts.{file_good, good_left}
-use Rattle.meson_calls.proofs.GoodTexts.{text_good}
-use Rattle.meson_code.specs.inside.Removal.{AreIdentifiers, AreNamed, IsNamed}
+use Rattle.meson_calls.proofs.GoodNotes.{parts_good}
+use Rattle.meson_calls.proofs.GoodParts.{good_left}
 
 more_named : {S : Type 0} (xs : List (Name S)) → AreGood (more_names_words xs) → AreIdentifiers xs
 more_named [] good = tt
@@ -39,18 +38,6 @@ note_named (a_statement _) p ns good rest = rest
 noted_named : (ps : List (Placed (Part Span))) → PartsGood ps → AreNamed (noted ps)
 noted_named [] good = tt
 noted_named (q ∷ ps) good = note_named q.it q.place (noted ps) good.0 (noted_named ps good.1)
-
-both : (xs ys : List (Placed (Part Span))) → PartsGood xs → PartsGood ys → PartsGood (xs ++ ys)
-both [] ys a b = b
-both (x ∷ xs) ys a b = (a.0, both xs ys a.1 b)
-
-parts_good : (n : ℕ) (files : List File) (parsed : List Parsed) → AreParsed files parsed → PartsGood (parts_from n (named_trees files (views files parsed)))
-parts_good n [] parsed are = tt
-parts_good n (f ∷ files) [] are = absurd are
-parts_good n (f ∷ files) (t ∷ parsed) are =
-    both (parts_of_file n (view f.bytes t)) (parts_from (n + 1) (named_trees files (views files parsed)))
-    (file_good n (view f.bytes t) (subst AreGood (file-words-erased (view f.bytes t)) (text_good f.bytes (erase (view f.bytes t)) are.0.reads.spells)))
-    (parts_good (n + 1) files parsed are.1)
 
 -- so it is with the notes of a project
 pub taken_named : (files : List File) (parsed : List Parsed) → AreParsed files parsed → (taken : List (Placed (Note Span))) → taken ≡ notes (named_trees files (views files parsed)) → AreNamed taken
