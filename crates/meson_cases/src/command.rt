@@ -1,6 +1,6 @@
 //! Commands by their words, which are those of the program's command line.
 
-use meson_calls::CallName;
+use meson_calls::{CallName, Reading};
 use meson_case_files::text_of;
 use meson_plan::{Command, Role, Setting};
 use meson_splice::{Many, Text};
@@ -145,7 +145,10 @@ fn on_sources(alloc: Global, target: CallName, operation: &str, words: &[&str]) 
 fn on_target(alloc: Global, target: CallName, operation: &str, words: &[&str]) -> Read {
     match operation {
         "rm_target" => Ok(Some(Command::TargetRemove { target })),
-        "info" => Ok(Some(Command::TargetInfo { target })),
+        "info" => {
+            let reading = Reading::Written;
+            Ok(Some(Command::TargetInfo { target, reading }))
+        }
         "rename" => rename(alloc, target, words),
         _ => on_sources(alloc, target, operation, words),
     }

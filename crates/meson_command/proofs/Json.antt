@@ -9,7 +9,7 @@ use Rattle.clap.specs.declared.error.kind.ErrorKind.TheVariants as kind
 use Rattle.clap.specs.declared.error.kind.ErrorKind.TheVariants.{DisplayHelp, DisplayVersion, OutOfMemory}
 use Rattle.meson_json.specs.Titles.{is_title}
 use Rattle.meson_command.specs.Arguments.{action_within}
-use Rattle.meson_command.specs.Asking.{answer, answer_by, asked_from, asked_of, is_dry, is_json_answer, json_by, names_no_folder, texts_fit, title_in}
+use Rattle.meson_command.specs.Asking.{answer, answer_by, asked_from, asked_of, is_dry, is_json_answer, json_by, names_no_folder, reading_in, texts_fit, title_in}
 use Rattle.meson_command.specs.Laws.{JsonWhereWanted}
 use Rattle.meson_command.specs.Program.{program}
 use Rattle.meson_command.specs.declared.asked.Asked.{Asked}
@@ -23,7 +23,7 @@ from_words : (rows : List Row) (subcommand : Option (Text × List Row)) → Answ
 unfolding asked_from
 from_words rows subcommand =
     after (ok_or subcommand Usage) _ (λ s. either (names_no_folder (first_of (codes "DIR") rows)) _ _ (err _)
-    (after (action_within (first_of (codes "FOLDER") rows) s.0 s.1) _ (λ action. either (texts_fit action (first_of (codes "FILE") rows) (is_dry rows)) _ _
+    (after (action_within (first_of (codes "FOLDER") rows) (reading_in rows) s.0 s.1) _ (λ action. either (texts_fit action (first_of (codes "FILE") rows) (is_dry rows)) _ _
     (either (is_title (title_in rows)) _ _ (ok _ refl) (err BadTitle)) (err Usage))))
 
 -- help and the version are not answered in JSON

@@ -12,16 +12,18 @@ use Rattle.clap.specs.Takes.{is_given}
 use Rattle.clap.specs.Walk.{Held, Names, answers_to, finished, nothing_held, settled, walk, walk_from}
 use Rattle.clap.specs.Words.{Row, Text, fault_of, first_of, matches_of, subcommand_of}
 use Rattle.clap.specs.declared.error.kind.ErrorKind.TheVariants.{DisplayHelp, DisplayVersion}
+use Rattle.meson_calls.specs.declared.call.Reading.{Reading}
+use Rattle.meson_calls.specs.declared.call.Reading.TheVariants.{Written, Followed}
 use Rattle.meson_calls.specs.declared.call.Role.{Role}
 use Rattle.meson_splice.specs.Patch.{then_ok}
 use Rattle.meson_command.specs.Actions.{action_of, count_in, has_flag, history_by, kwargs_action, kwargs_by, list_by, list_with, listing_of, misplaces_sorted, options_action, options_by, other_action, target_action, undo_of, word_at, words_at, rename_action, target_by, target_words}
-use Rattle.meson_command.specs.Arguments.{after_meant, action_within, argument_action, command_meant, keys_meant, requested, value_named, values_meant}
+use Rattle.meson_command.specs.Arguments.{after_meant, action_within, argument_action, command_meant, keys_meant, misplaces_follow, requested, value_named, values_meant}
 use Rattle.meson_command.specs.Codes.{code_action}
 use Rattle.meson_command.proofs.CodeUsages.{code-unknown}
-use Rattle.meson_command.specs.Asking.{answer, asked_from, asked_of, help, is_dry, names_no_folder, texts_fit, title_in, version, with_texts, with_title}
+use Rattle.meson_command.specs.Asking.{answer, asked_from, asked_of, help, is_dry, names_no_folder, reading_in, texts_fit, title_in, version, with_texts, with_title}
 use Rattle.meson_json.specs.Counts.{count_of}
-use Rattle.meson_command.specs.Laws.{FolderIsMisused, HelpWhereAsked, IsNoArgument, IsNoCount, IsNoTarget, IsUnknown, TextsAreMisused, UsageMeansUnknown, VersionWhereAsked}
-use Rattle.meson_json.specs.Targets.{renaming_of}
+use Rattle.meson_command.specs.Laws.{FolderIsMisused, FollowIsMisused, HelpWhereAsked, IsNoArgument, IsNoCount, IsNoTarget, IsUnknown, TextsAreMisused, UsageMeansUnknown, VersionWhereAsked}
+use Rattle.meson_json.specs.Targets.{reading_of, renaming_of}
 use Rattle.meson_json.specs.Titles.{is_title}
 use Rattle.meson_json.specs.Arguments.{change_to, command_to, keys_left_out, place_named}
 use Rattle.meson_json.specs.Operations.{argument_operation, kwargs_operation, role_of}
@@ -275,30 +277,30 @@ misplaced true false e = (refl, refl)
 misplaced true true e = cc
 misplaced false adds e = cc
 
-target-unknown : (folder : Option Text) (rows : List Row) → target_action folder rows ≡ Err Usage → IsNoTarget rows
+target-unknown : (folder : Option Text) (reading : Reading) (rows : List Row) → target_action folder reading rows ≡ Err Usage → IsNoTarget rows
 unfolding target_action
-target-unknown folder rows e = by_sorted (misplaces_sorted rows) refl e
+target-unknown folder reading rows e = by_sorted (misplaces_sorted rows) refl e
   where
     by_word : (b : Bool) → bytes_eq (word_at (codes "OPERATION") rows) (codes "rename") ≡ b
         → (if b then rename_action folder rows
-        else then_ok (ok_or (operation_of_word (word_at (codes "OPERATION") rows)) Usage) (λ o. Ok (target_by o (target_words folder rows)))) ≡ Err Usage → IsNoTarget rows
+        else then_ok (ok_or (operation_of_word (word_at (codes "OPERATION") rows)) Usage) (λ o. Ok (target_by o (target_words folder reading rows)))) ≡ Err Usage → IsNoTarget rows
     by_word true is e = inr (inl (named (word_at (codes "OPERATION") rows) (codes "rename") is, other_names _ (words_at (codes "SOURCE") rows) (rename-unknown folder rows e)))
     by_word false is e = inl (another (word_at (codes "OPERATION") rows) (codes "rename") is, missing (operation_of_word (word_at (codes "OPERATION") rows)) _ (λ o x. cc) e)
 
     by_sorted : (b : Bool) → misplaces_sorted rows ≡ b
         → (if b then Err Usage else (if bytes_eq (word_at (codes "OPERATION") rows) (codes "rename") then rename_action folder rows
-        else then_ok (ok_or (operation_of_word (word_at (codes "OPERATION") rows)) Usage) (λ o. Ok (target_by o (target_words folder rows))))) ≡ Err Usage → IsNoTarget rows
+        else then_ok (ok_or (operation_of_word (word_at (codes "OPERATION") rows)) Usage) (λ o. Ok (target_by o (target_words folder reading rows))))) ≡ Err Usage → IsNoTarget rows
     by_sorted true is e =
         let both = misplaced (has_flag (codes "sorted") rows) (bytes_eq (word_at (codes "OPERATION") rows) (codes "add")) is in
         inr (inr (both.0, another (word_at (codes "OPERATION") rows) (codes "add") both.1))
     by_sorted false is e = by_word (bytes_eq (word_at (codes "OPERATION") rows) (codes "rename")) refl e
 
 -- of another subcommand than `arg` and `code`
-unknown : (folder : Option Text) (name : Text) (rows : List Row) → (bytes_eq name (codes "target") || (bytes_eq name (codes "kwargs") || is_other name)) ≡ true
-    → action_of folder name rows ≡ Err Usage → IsUnknown name rows
+unknown : (folder : Option Text) (reading : Reading) (name : Text) (rows : List Row) → (bytes_eq name (codes "target") || (bytes_eq name (codes "kwargs") || is_other name)) ≡ true
+    → action_of folder reading name rows ≡ Err Usage → IsUnknown name rows
 unfolding action_of other_action
-unknown folder name rows k e =
-    by_name (bytes_eq name (codes "target")) _ _ _ e k (λ b x. inl (named _ _ b, target-unknown folder rows x)) (λ e k.
+unknown folder reading name rows k e =
+    by_name (bytes_eq name (codes "target")) _ _ _ e k (λ b x. inl (named _ _ b, target-unknown folder reading rows x)) (λ e k.
     by_name (bytes_eq name (codes "kwargs")) _ _ _ e k (λ b x. inr (inl (named _ _ b, kwargs-unknown folder rows x))) (λ e k.
     by_name (bytes_eq name (codes "default-options")) _ _ _ e k (λ b x. inr (inr (inl (named _ _ b, options-unknown rows x)))) (λ e k.
     by_name (bytes_eq name (codes "command")) _ _ _ e k (λ b x. cc) (λ e k.
@@ -378,43 +380,64 @@ without false true a rest is h = refl
 without false false true rest is h = cc
 without false false false rest is h = h
 
-abbrev WrongWithin : Option Text → Text → List Row → Type 0
-WrongWithin folder name rows = IsUnknown name rows ⊎ ((is_some folder ≡ true) × (takes_folder name rows ≡ false) × (name ≢ codes "arg"))
+abbrev MisusesFollow : Reading → Text → List Row → Type 0
+MisusesFollow reading name rows = (reading ≡ Followed) × ((name ≢ codes "target") ⊎ (word_at (codes "OPERATION") rows ≢ codes "info"))
 
-by_code : (folder : Option Text) (name : Text) (rows : List Row)
+abbrev WrongWithin : Option Text → Reading → Text → List Row → Type 0
+WrongWithin folder reading name rows =
+    IsUnknown name rows ⊎ (((is_some folder ≡ true) × (takes_folder name rows ≡ false) × (name ≢ codes "arg")) ⊎ MisusesFollow reading name rows)
+
+by_code : (folder : Option Text) (reading : Reading) (name : Text) (rows : List Row)
     → (bytes_eq name (codes "target") || (bytes_eq name (codes "kwargs") || (bytes_eq name (codes "code") || is_other name))) ≡ true
-    → (b : Bool) → bytes_eq name (codes "code") ≡ b → (if b then code_action folder rows else action_of folder name rows) ≡ Err Usage → IsUnknown name rows
-by_code folder name rows k true is e = inr (inr (inr (inr (inr (inr (inr (named _ _ is, code-unknown folder rows e)))))))
-by_code folder name rows k false is e =
-    unknown folder name rows (without (bytes_eq name (codes "target")) (bytes_eq name (codes "kwargs")) (bytes_eq name (codes "code")) (is_other name) is k) e
+    → (b : Bool) → bytes_eq name (codes "code") ≡ b → (if b then code_action folder rows else action_of folder reading name rows) ≡ Err Usage → IsUnknown name rows
+by_code folder reading name rows k true is e = inr (inr (inr (inr (inr (inr (inr (named _ _ is, code-unknown folder rows e)))))))
+by_code folder reading name rows k false is e =
+    unknown folder reading name rows (without (bytes_eq name (codes "target")) (bytes_eq name (codes "kwargs")) (bytes_eq name (codes "code")) (is_other name) is k) e
 
 not-argument : (name : Text) → bytes_eq name (codes "arg") ≡ false → is_known name ≡ true
     → (bytes_eq name (codes "target") || (bytes_eq name (codes "kwargs") || (bytes_eq name (codes "code") || is_other name))) ≡ true
 not-argument name other k =
     without (bytes_eq name (codes "target")) (bytes_eq name (codes "kwargs")) (bytes_eq name (codes "arg")) (bytes_eq name (codes "code") || is_other name) other k
 
-by_place : (folder : Option Text) (name : Text) (rows : List Row) → bytes_eq name (codes "arg") ≡ false → is_known name ≡ true → (b t : Bool) → is_some folder ≡ b → takes_folder name rows ≡ t
-    → (if b && not t then Err Usage else (if bytes_eq name (codes "code") then code_action folder rows else action_of folder name rows)) ≡ Err Usage
-    → WrongWithin folder name rows
-by_place folder name rows other k true false is takes e = inr (is, takes, another name (codes "arg") other)
-by_place folder name rows other k true true is takes e = inl (by_code folder name rows (not-argument name other k) (bytes_eq name (codes "code")) refl e)
-by_place folder name rows other k false t is takes e = inl (by_code folder name rows (not-argument name other k) (bytes_eq name (codes "code")) refl e)
+by_place : (folder : Option Text) (reading : Reading) (name : Text) (rows : List Row) → bytes_eq name (codes "arg") ≡ false → is_known name ≡ true → (b t : Bool) → is_some folder ≡ b → takes_folder name rows ≡ t
+    → (if b && not t then Err Usage else (if bytes_eq name (codes "code") then code_action folder rows else action_of folder reading name rows)) ≡ Err Usage
+    → WrongWithin folder reading name rows
+by_place folder reading name rows other k true false is takes e = inr (inl (is, takes, another name (codes "arg") other))
+by_place folder reading name rows other k true true is takes e = inl (by_code folder reading name rows (not-argument name other k) (bytes_eq name (codes "code")) refl e)
+by_place folder reading name rows other k false t is takes e = inl (by_code folder reading name rows (not-argument name other k) (bytes_eq name (codes "code")) refl e)
 
-by_subcommand : (folder : Option Text) (name : Text) (rows : List Row) → is_known name ≡ true → (b : Bool) → bytes_eq name (codes "arg") ≡ b
+by_subcommand : (folder : Option Text) (reading : Reading) (name : Text) (rows : List Row) → is_known name ≡ true → (b : Bool) → bytes_eq name (codes "arg") ≡ b
     → (if b then argument_action folder rows else (if is_some folder && not (takes_folder name rows) then Err Usage
-    else (if bytes_eq name (codes "code") then code_action folder rows else action_of folder name rows))) ≡ Err Usage → WrongWithin folder name rows
-by_subcommand folder name rows k true is e = inl (inr (inr (inr (inr (inr (inr (inl (named _ _ is, argument-unknown folder rows e))))))))
-by_subcommand folder name rows k false is e = by_place folder name rows is k (is_some folder) (takes_folder name rows) refl refl e
+    else (if bytes_eq name (codes "code") then code_action folder rows else action_of folder reading name rows))) ≡ Err Usage → WrongWithin folder reading name rows
+by_subcommand folder reading name rows k true is e = inl (inr (inr (inr (inr (inr (inr (inl (named _ _ is, argument-unknown folder rows e))))))))
+by_subcommand folder reading name rows k false is e = by_place folder reading name rows is k (is_some folder) (takes_folder name rows) refl refl e
 
-within : (folder : Option Text) (name : Text) (rows : List Row) → is_known name ≡ true → action_within folder name rows ≡ Err Usage → WrongWithin folder name rows
+not-info : (name operation : Text) (t i : Bool) → bytes_eq name (codes "target") ≡ t → bytes_eq operation (codes "info") ≡ i → not (t && i) ≡ true
+    → (name ≢ codes "target") ⊎ (operation ≢ codes "info")
+not-info name operation false i is at e = inl (another name (codes "target") is)
+not-info name operation true false is at e = inr (another operation (codes "info") at)
+not-info name operation true true is at e = cc
+
+misused : (reading : Reading) (name : Text) (rows : List Row) → misplaces_follow reading name rows ≡ true → MisusesFollow reading name rows
+misused Written name rows e = cc
+misused Followed name rows e = (refl, not-info name (word_at (codes "OPERATION") rows) (bytes_eq name (codes "target")) (bytes_eq (word_at (codes "OPERATION") rows) (codes "info")) refl refl e)
+
+by_reading : (folder : Option Text) (reading : Reading) (name : Text) (rows : List Row) → is_known name ≡ true → (b : Bool) → misplaces_follow reading name rows ≡ b
+    → (if b then Err Usage else (if bytes_eq name (codes "arg") then argument_action folder rows else (if is_some folder && not (takes_folder name rows) then Err Usage
+    else (if bytes_eq name (codes "code") then code_action folder rows else action_of folder reading name rows)))) ≡ Err Usage → WrongWithin folder reading name rows
+by_reading folder reading name rows k true is e = inr (inr (misused reading name rows is))
+by_reading folder reading name rows k false is e = by_subcommand folder reading name rows k (bytes_eq name (codes "arg")) refl e
+
+within : (folder : Option Text) (reading : Reading) (name : Text) (rows : List Row) → is_known name ≡ true → action_within folder reading name rows ≡ Err Usage
+    → WrongWithin folder reading name rows
 unfolding action_within
-within folder name rows k e = by_subcommand folder name rows k (bytes_eq name (codes "arg")) refl e
+within folder reading name rows k e = by_reading folder reading name rows k (misplaces_follow reading name rows) refl e
 
 -- ---- wrong usage
 
 abbrev Wrong : List Row → Option (Text × List Row) → Type 0
 Wrong rows sub = (names_no_folder (first_of (codes "DIR") rows) ≡ true)
-    ⊎ ((name : Text) × (inner : List Row) × (sub ≡ Some (name, inner)) × ((action_within (first_of (codes "FOLDER") rows) name inner ≡ Err Usage) ⊎ TextsAreMisused rows name inner))
+    ⊎ ((name : Text) × (inner : List Row) × (sub ≡ Some (name, inner)) × ((action_within (first_of (codes "FOLDER") rows) (reading_in rows) name inner ≡ Err Usage) ⊎ TextsAreMisused rows name inner))
 
 abbrev wrong : Result Asked UsageFault
 wrong = Err Usage
@@ -429,28 +452,34 @@ by_texts : (rows : List Row) (a : Action) (b : Bool) → texts_fit a (first_of (
 by_texts rows a true is e = absurd (by_title _ (is_title (title_in rows)) e)
 by_texts rows a false is e = is
 
-not_done : (rows : List Row) (name : Text) (inner : List Row) (r : Result Action UsageFault) → action_within (first_of (codes "FOLDER") rows) name inner ≡ r → then_ok r (with_texts rows) ≡ wrong
-    → (action_within (first_of (codes "FOLDER") rows) name inner ≡ Err Usage) ⊎ TextsAreMisused rows name inner
+not_done : (rows : List Row) (name : Text) (inner : List Row) (r : Result Action UsageFault) → action_within (first_of (codes "FOLDER") rows) (reading_in rows) name inner ≡ r → then_ok r (with_texts rows) ≡ wrong
+    → (action_within (first_of (codes "FOLDER") rows) (reading_in rows) name inner ≡ Err Usage) ⊎ TextsAreMisused rows name inner
 not_done rows name inner (Ok a) is e = inr (a, is, by_texts rows a (texts_fit a (first_of (codes "FILE") rows) (is_dry rows)) refl e)
 not_done rows name inner (Err fault) is e = inl (let at : fault ≡ Usage = cc in is ∙ ap (λ (u : UsageFault). Err u) at)
 
 by_folder : (rows : List Row) (s : Text × List Row) (b : Bool) → names_no_folder (first_of (codes "DIR") rows) ≡ b
-    → (if b then Err Usage else then_ok (action_within (first_of (codes "FOLDER") rows) s.0 s.1) (with_texts rows)) ≡ wrong → Wrong rows (Some s)
+    → (if b then Err Usage else then_ok (action_within (first_of (codes "FOLDER") rows) (reading_in rows) s.0 s.1) (with_texts rows)) ≡ wrong → Wrong rows (Some s)
 by_folder rows s true is e = inl is
-by_folder rows s false is e = inr (s.0, s.1, refl, not_done rows s.0 s.1 (action_within (first_of (codes "FOLDER") rows) s.0 s.1) refl e)
+by_folder rows s false is e = inr (s.0, s.1, refl, not_done rows s.0 s.1 (action_within (first_of (codes "FOLDER") rows) (reading_in rows) s.0 s.1) refl e)
 
 split : (rows : List Row) (sub : Option (Text × List Row)) → is_some sub ≡ true → asked_from rows sub ≡ Err Usage → Wrong rows sub
 unfolding asked_from
 split rows None has e = cc
 split rows (Some s) has e = by_folder rows s (names_no_folder (first_of (codes "DIR") rows)) refl e
 
+followed : (b : Bool) → reading_of b ≡ Followed → b ≡ true
+followed true e = refl
+followed false e = cc
+
 bad_usage : (words : List Text) (name : Text) (rows : List Row) → subcommand_of program words ≡ Some (name, rows)
-    → action_within (first_of (codes "FOLDER") (matches_of program words)) name rows ≡ Err Usage
-    → IsUnknown name rows ⊎ (FolderIsMisused (matches_of program words) name rows ⊎ TextsAreMisused (matches_of program words) name rows)
+    → action_within (first_of (codes "FOLDER") (matches_of program words)) (reading_in (matches_of program words)) name rows ≡ Err Usage
+    → IsUnknown name rows ⊎ (FolderIsMisused (matches_of program words) name rows
+    ⊎ (FollowIsMisused (matches_of program words) name rows ⊎ TextsAreMisused (matches_of program words) name rows))
 bad_usage words name rows is bad =
-    elim (within (first_of (codes "FOLDER") (matches_of program words)) name rows (known words name rows is) bad) [
+    let own = matches_of program words in
+    elim (within (first_of (codes "FOLDER") own) (reading_in own) name rows (known words name rows is) bad) [
       | inl wrong ↦ inl wrong
-      | inr folder ↦ inr (inl folder)
+      | inr other ↦ elim other [ inl folder ↦ inr (inl folder) | inr follow ↦ inr (inr (inl (followed (has_flag (codes "follow") own) follow.0, follow.1))) ]
     ]
 
 pub usage-law : UsageMeansUnknown
@@ -458,5 +487,5 @@ usage-law words none e =
     let asked : asked_of words ≡ Err Usage = sym (as_taken (fault_of program words) (asked_of words) none) ∙ e in
     elim (split (matches_of program words) (subcommand_of program words) (entered_one words none) asked) [
       | inl folder ↦ inl folder
-      | inr u ↦ inr (u.0, u.1, u.2, elim u.3 [ inl bad ↦ bad_usage words u.0 u.1 u.2 bad | inr misused ↦ inr (inr misused) ])
+      | inr u ↦ inr (u.0, u.1, u.2, elim u.3 [ inl bad ↦ bad_usage words u.0 u.1 u.2 bad | inr texts ↦ inr (inr (inr texts)) ])
     ]

@@ -1,6 +1,8 @@
 -- The request of the words of `arg`, and of any subcommand in the folder that is named before it.
 use Rattle.std.specs.Prelude.{Bool, true, false, not, ◌&&◌, ◌||◌, List, [], ◌∷◌, bytes_eq, codes, if◌then◌else◌, Option, Some, None, is_some, ok_or, option_and_then, option_map, Result, Ok, Err}
 use Rattle.clap.specs.Words.{Row, Text, first_of}
+use Rattle.meson_calls.specs.declared.call.Reading.{Reading}
+use Rattle.meson_calls.specs.declared.call.Reading.TheVariants.{Written, Followed}
 use Rattle.meson_splice.specs.Patch.{then_ok}
 use Rattle.meson_steps.specs.GivenWords.{meant_by}
 use Rattle.meson_steps.specs.declared.argument.ValueName.{ValueName}
@@ -82,10 +84,16 @@ takes_folder subcommand rows =
     || ((bytes_eq subcommand (codes "target") && not (is_addition (operation_of_word (word_at (codes "OPERATION") rows))))
     || (bytes_eq subcommand (codes "code") && not (is_append (code_operation (word_at (codes "OPERATION") rows)))))
 
--- a folder is named only for these and for `arg`
-unfoldable pub action_within : Option Text → Text → List Row → Result Action UsageFault
-action_within folder subcommand rows =
-    if bytes_eq subcommand (codes "arg") then argument_action folder rows
+-- variables are followed for other words than `target ID info`
+abbrev pub misplaces_follow : Reading → Text → List Row → Bool
+misplaces_follow Written subcommand rows = false
+misplaces_follow Followed subcommand rows = not (bytes_eq subcommand (codes "target") && bytes_eq (word_at (codes "OPERATION") rows) (codes "info"))
+
+-- a folder is named only for these and for `arg`, and variables are followed for `target ID info` alone
+unfoldable pub action_within : Option Text → Reading → Text → List Row → Result Action UsageFault
+action_within folder reading subcommand rows =
+    if misplaces_follow reading subcommand rows then Err Usage
+    else (if bytes_eq subcommand (codes "arg") then argument_action folder rows
     else (if is_some folder && not (takes_folder subcommand rows) then Err Usage
     else (if bytes_eq subcommand (codes "code") then code_action folder rows
-    else action_of folder subcommand rows))
+    else action_of folder reading subcommand rows)))

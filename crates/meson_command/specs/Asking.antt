@@ -4,7 +4,9 @@ use Rattle.std.specs.Option.{option_map_or}
 use Rattle.clap.specs.Words.{Kinds, Row, Text, fault_of, first_of, matches_of, subcommand_of}
 use Rattle.clap.specs.declared.error.kind.ErrorKind.{ErrorKind}
 use Rattle.clap.specs.declared.error.kind.ErrorKind.TheVariants.{DisplayHelp, DisplayVersion}
+use Rattle.meson_calls.specs.declared.call.Reading.{Reading}
 use Rattle.meson_splice.specs.Patch.{then_ok}
+use Rattle.meson_json.specs.Targets.{reading_of}
 use Rattle.meson_json.specs.Titles.{is_title}
 use Rattle.meson_command.specs.Actions.{has_flag, word_at}
 use Rattle.meson_command.specs.Arguments.{action_within}
@@ -20,6 +22,10 @@ use Rattle.meson_command.specs.declared.fault.UsageFault.TheVariants.{Usage, Bad
 -- an empty word names no folder
 abbrev pub names_no_folder : Option Text → Bool
 names_no_folder dir = option_map_or (λ d. length d == 0) dir false
+
+-- how build files are read
+abbrev pub reading_in : List Row → Reading
+reading_in rows = reading_of (has_flag (codes "follow") rows)
 
 -- the given title, or the empty one
 abbrev pub title_in : List Row → Text
@@ -98,7 +104,7 @@ unfoldable pub asked_from : List Row → Option (Text × List Row) → Result As
 asked_from rows subcommand =
     then_ok (ok_or subcommand Usage) (λ s.
     if names_no_folder (first_of (codes "DIR") rows) then Err Usage else
-    then_ok (action_within (first_of (codes "FOLDER") rows) s.0 s.1) (with_texts rows))
+    then_ok (action_within (first_of (codes "FOLDER") rows) (reading_in rows) s.0 s.1) (with_texts rows))
 
 -- if clap takes the words, of which the first is the program's name
 abbrev pub asked_of : List Text → Result Asked UsageFault

@@ -6,7 +6,7 @@ use Rattle.clap.specs.declared.error.kind.ErrorKind.TheVariants.{DisplayHelp, Di
 use Rattle.meson_command.specs.Actions.{has_flag, options_by, word_at, words_at}
 use Rattle.meson_command.specs.Arguments.{action_within, after_meant, takes_folder, values_meant}
 use Rattle.meson_command.specs.Codes.{code_word}
-use Rattle.meson_command.specs.Asking.{asked_by, help, is_dry, names_no_folder, only_asks, only_shows, texts_fit, version, wants_json}
+use Rattle.meson_command.specs.Asking.{asked_by, help, is_dry, names_no_folder, only_asks, only_shows, reading_in, texts_fit, version, wants_json}
 use Rattle.meson_json.specs.Arguments.{change_to, keys_left_out, place_named}
 use Rattle.meson_json.specs.Codes.{blank_of}
 use Rattle.meson_json.specs.Operations.{argument_operation, code_operation, kwargs_operation, role_of}
@@ -142,15 +142,21 @@ IsUnknown subcommand rows =
 abbrev pub FolderIsMisused : List Row → Text → List Row → Type 0
 FolderIsMisused own subcommand rows = (is_some (first_of (codes "FOLDER") own) ≡ true) × (takes_folder subcommand rows ≡ false) × (subcommand ≢ codes "arg")
 
+-- `--follow` is given with other words than `target ID info`
+abbrev pub FollowIsMisused : List Row → Text → List Row → Type 0
+FollowIsMisused own subcommand rows =
+    (has_flag (codes "follow") own ≡ true) × ((subcommand ≢ codes "target") ⊎ (word_at (codes "OPERATION") rows ≢ codes "info"))
+
 -- a file of texts is named for an action that writes, or standard input would be read twice
 abbrev pub TextsAreMisused : List Row → Text → List Row → Type 0
 TextsAreMisused own subcommand rows =
-    (asked : Action) × (action_within (first_of (codes "FOLDER") own) subcommand rows ≡ Ok asked) × (texts_fit asked (first_of (codes "FILE") own) (is_dry own) ≡ false)
+    (asked : Action) × (action_within (first_of (codes "FOLDER") own) (reading_in own) subcommand rows ≡ Ok asked) × (texts_fit asked (first_of (codes "FILE") own) (is_dry own) ≡ false)
 
 -- if clap takes the words and the usage is wrong: the folder is empty, a word is unknown or not a number, `rename` has not two names, `arg` has no place or other
--- values, `--sorted` or `--after` is given with other operations, two listings are requested or one of a function without a name, or a folder or texts do not fit
+-- values, `--sorted` or `--after` is given with other operations, two listings are requested or one of a function without a name, or a folder, `--follow` or texts do not fit
 abbrev pub UsageMeansUnknown : Type 0
 UsageMeansUnknown = (words : List Text) → fault_of program words ≡ [] → asked_by words ≡ Err Usage
     → (names_no_folder (first_of (codes "DIR") (matches_of program words)) ≡ true)
     ⊎ ((name : Text) × (rows : List Row) × (subcommand_of program words ≡ Some (name, rows))
-    × (IsUnknown name rows ⊎ (FolderIsMisused (matches_of program words) name rows ⊎ TextsAreMisused (matches_of program words) name rows)))
+    × (IsUnknown name rows ⊎ (FolderIsMisused (matches_of program words) name rows
+    ⊎ (FollowIsMisused (matches_of program words) name rows ⊎ TextsAreMisused (matches_of program words) name rows))))

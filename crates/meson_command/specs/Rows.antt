@@ -1,5 +1,6 @@
 -- Command lines, each with its request.
 use Rattle.std.specs.Prelude.{◌≡◌, ℕ, ◌==◌, Bool, false, true, List, [], ◌∷◌, ◌++◌, codes, if◌then◌else◌, Some, None, Result, Ok, Err}
+use Rattle.meson_calls.specs.declared.call.Reading.TheVariants.{Written, Followed}
 use Rattle.meson_calls.specs.declared.call.Role.TheVariants as role
 use Rattle.meson_steps.specs.declared.command.Command.TheVariants as command
 use Rattle.meson_steps.specs.declared.command.Setting.TheVariants as setting
@@ -185,7 +186,7 @@ Texts =
     asks (codes "--texts t.json list") (texted no_flags (codes "t.json") (action.List false))
     × asks (codes "--texts - list --sums") (texted no_flags (codes "-") Sums)
     × asks (codes "--texts - history") (texted no_flags (codes "-") History)
-    × asks (codes "--texts=t target e info") (texted no_flags (codes "t") (Info (command.TargetInfo (anywhere (codes "e")))))
+    × asks (codes "--texts=t target e info") (texted no_flags (codes "t") (Info (command.TargetInfo (anywhere (codes "e")) Written)))
     × asks (codes "--texts t --dry-run target e rm a.c") (texted dry (codes "t") (run (command.SourcesRemove (anywhere (codes "e")) (codes "a.c" ∷ []))))
     × asks (codes "--texts - --dry-run undo") (texted dry (codes "-") Undo)
     × asks (codes "--dry-run --texts t command -") (texted dry (codes "t") (ScriptFile (codes "-") unknown.Ignored))
@@ -230,7 +231,7 @@ Listed =
 -- what is listed, which scripts are meant, help and the version
 abbrev pub Other : Type 0
 Other =
-    asks (codes "target e info a.c") (in_place (Info (command.TargetInfo (anywhere (codes "e")))))
+    asks (codes "target e info a.c") (in_place (Info (command.TargetInfo (anywhere (codes "e")) Written)))
     × asks (codes "kwargs info project / version") (in_place (Info (command.KwargsInfo role.Project (anywhere (codes "/")))))
     × asks (codes "--sourcedir d history") (there (codes "d") History)
     × asks (codes "list") (in_place (action.List false))
@@ -249,6 +250,26 @@ Other =
     × asks (codes "--title a --version undo") (Ok version)
     × asks (codes "--version now") (Ok version)
     × asks (codes "--help --version") (Ok help)
+
+-- variables are followed by `target ID info` alone
+abbrev pub Following : Type 0
+Following =
+    asks (codes "--follow target e info") (in_place (Info (command.TargetInfo (anywhere (codes "e")) Followed)))
+    × asks (codes "--json --follow tgt e info") (in_json (Info (command.TargetInfo (anywhere (codes "e")) Followed)))
+    × asks (codes "--follow --in s target e info") (in_place (Info (command.TargetInfo (record { id = codes "e"; folder = Some (codes "s") }) Followed)))
+    × asks (codes "--texts t --follow target e info") (texted no_flags (codes "t") (Info (command.TargetInfo (anywhere (codes "e")) Followed)))
+    × asks (codes "--follow target e add a.c") (Err Usage)
+    × asks (codes "--follow target e rename a.c b.c") (Err Usage)
+    × asks (codes "--follow target l add_target") (Err Usage)
+    × asks (codes "--follow kwargs info target e") (Err Usage)
+    × asks (codes "--follow arg info target e sources") (Err Usage)
+    × asks (codes "--follow list") (Err Usage)
+    × asks (codes "--follow command -") (Err Usage)
+    × asks (codes "--follow undo") (Err Usage)
+    × asks (codes "--follow --follow target e info") (Err Usage)
+    × asks (codes "--follow=true target e info") (Err Usage)
+    × asks (codes "target e info --follow") (Err Usage)
+    × asks (codes "--follow --help") (Ok help)
 
 -- what is refused, and by which fault
 abbrev pub Refused : Type 0

@@ -4,8 +4,8 @@ ghost use Rattle.std.specs.Prelude.{◌≡◌, ◌≢◌, [], Err, IfErr, IfOk, 
 ghost use Rattle.clap.specs.Words.{Row, Text as Word, found_of, rows_of, subcommand_rows_of, takes};
 ghost use Rattle.meson_json.specs.Titles.{is_title};
 ghost use Rattle.meson_command.specs.Actions.{action_of, other_action};
-ghost use Rattle.meson_command.specs.Arguments.{action_within, takes_folder};
-ghost use Rattle.meson_command.specs.Asking.{asked_by, asked_from, asked_of, flags_in, names_no_folder, no_flags, only_asks, reads_input, takes_texts, texts_fit, wants_json, without_text};
+ghost use Rattle.meson_command.specs.Arguments.{action_within, misplaces_follow, takes_folder};
+ghost use Rattle.meson_command.specs.Asking.{asked_by, asked_from, asked_of, flags_in, names_no_folder, no_flags, only_asks, reading_in, reads_input, takes_texts, texts_fit, wants_json, without_text};
 ghost use Rattle.meson_command.specs.Program.{program};
 ghost use Rattle.meson_command.specs.declared.fault.UsageFault.TheVariants.{BadTitle, OutOfMemory, Usage};
 
@@ -22,8 +22,9 @@ use crate::target::target_action;
 use crate::words::{is_set, word_or};
 use clap::ArgMatches;
 use clap::error::ErrorKind;
+use meson_calls::Reading;
 use meson_json::names::{CodeOperation, find_code_operation};
-use meson_json::target::TargetOperation;
+use meson_json::target::{TargetOperation, reading_of};
 use meson_json::{Script, UnknownMembers, is_title, owned};
 use meson_splice::Text;
 use meson_steps::command::Command;
@@ -125,15 +126,16 @@ fn other_action(
 fn action_of(
     alloc: Global,
     folder: Option<&str>,
+    reading: Reading,
     subcommand: &str,
     matches: &ArgMatches<'_>,
 ) -> Result<Action, UsageFault>
-    ensures ok { IfOk result (λ a. action_of (option_map (λ w. w.now) folder.entry) subcommand.now (rows_of (found_of matches.now)) ≡ Ok a) }
+    ensures ok { IfOk result (λ a. action_of (option_map (λ w. w.now) folder.entry) reading subcommand.now (rows_of (found_of matches.now)) ≡ Ok a) }
     ensures refused { IfErr result (λ e. e ≢ OutOfMemory
-        → action_of (option_map (λ w. w.now) folder.entry) subcommand.now (rows_of (found_of matches.now)) ≡ Err e) }
+        → action_of (option_map (λ w. w.now) folder.entry) reading subcommand.now (rows_of (found_of matches.now)) ≡ Err e) }
 {
     if subcommand == "target" {
-        target_action(alloc, folder, matches)
+        target_action(alloc, folder, reading, matches)
     } else if subcommand == "kwargs" {
         kwargs_action(alloc, folder, matches)
     } else if subcommand == "default-options" {
@@ -162,26 +164,41 @@ fn takes_folder(subcommand: &str, matches: &ArgMatches<'_>) -> bool
     subcommand == "code" && !matches!(operation, Some(CodeOperation::Append))
 }
 
-/// The request of a subcommand's words, in the folder that is named before it, if it takes one.
+/// Whether variables are to be followed for other words than `target ID info`.
+fn misplaces_follow(reading: Reading, subcommand: &str, matches: &ArgMatches<'_>) -> bool
+    ensures { result ≡ misplaces_follow reading subcommand.now (rows_of (found_of matches.now)) }
+{
+    match reading {
+        Reading::Written => false,
+        Reading::Followed => {
+            subcommand != "target" || word_or(matches, "OPERATION", "") != "info"
+        }
+    }
+}
+
+/// The request of a subcommand's words, in the folder that is named before it, and with build files read so, if it takes them.
 #[tactic(auto, unfolding(crate::specs::Arguments::action_within))]
 fn action_within(
     alloc: Global,
     folder: Option<&str>,
+    reading: Reading,
     subcommand: &str,
     matches: &ArgMatches<'_>,
 ) -> Result<Action, UsageFault>
-    ensures ok { IfOk result (λ a. action_within (option_map (λ w. w.now) folder.entry) subcommand.now (rows_of (found_of matches.now)) ≡ Ok a) }
+    ensures ok { IfOk result (λ a. action_within (option_map (λ w. w.now) folder.entry) reading subcommand.now (rows_of (found_of matches.now)) ≡ Ok a) }
     ensures refused { IfErr result (λ e. e ≢ OutOfMemory
-        → action_within (option_map (λ w. w.now) folder.entry) subcommand.now (rows_of (found_of matches.now)) ≡ Err e) }
+        → action_within (option_map (λ w. w.now) folder.entry) reading subcommand.now (rows_of (found_of matches.now)) ≡ Err e) }
 {
-    if subcommand == "arg" {
+    if misplaces_follow(reading, subcommand, matches) {
+        Err(UsageFault::Usage)
+    } else if subcommand == "arg" {
         argument_action(alloc, folder, matches)
     } else if folder.is_some() && !takes_folder(subcommand, matches) {
         Err(UsageFault::Usage)
     } else if subcommand == "code" {
         code_action(alloc, folder, matches)
     } else {
-        action_of(alloc, folder, subcommand, matches)
+        action_of(alloc, folder, reading, subcommand, matches)
     }
 }
 
@@ -195,6 +212,13 @@ fn folder(alloc: Global, dir: Option<&str>) -> Result<Option<Text>, UsageFault>
         Some(word) => Ok(Some(owned(alloc, word)?)),
         None => Ok(None),
     }
+}
+
+/// How build files are read.
+fn reading_in(matches: &ArgMatches<'_>) -> Reading
+    ensures { result ≡ reading_in (rows_of (found_of matches.now)) }
+{
+    reading_of(is_set(matches, "follow"))
 }
 
 /// Whether it changes nothing: help, the version, a listing, or what an info command reports.
@@ -283,7 +307,8 @@ pub(crate) fn asked_from(alloc: Global, matches: &ArgMatches<'_>) -> Result<Aske
         return Err(UsageFault::Usage);
     };
     let dir = folder(alloc, matches.get_str("DIR"))?;
-    let action = action_within(alloc, matches.get_str("FOLDER"), subcommand, words)?;
+    let reading = reading_in(matches);
+    let action = action_within(alloc, matches.get_str("FOLDER"), reading, subcommand, words)?;
     let flags = flags_in(matches);
     let texts = texts_for(alloc, &action, matches.get_str("FILE"), flags.dry_run)?;
     let word = word_or(matches, "TEXT", "");
@@ -319,11 +344,11 @@ fn shown(alloc: Global, action: Action) -> Asked
 
 /// The request of the words of a command line, of which the first is the program's name. They are those of the Rewriter page of the Meson manual; `undo`,
 /// `redo`, `history`, `list`, `unset`, `--title`, `--dry-run`, `--json`, `--explain`, `--exit-code`, `--no-log`, `--texts`, `--strict`, `--subdir`,
-/// `--type`, `--sorted`, `arg`, `code` and `--in` are this program's own. Values, ids and names are passed on as given.
+/// `--type`, `--sorted`, `arg`, `code`, `--in` and `--follow` are this program's own. Values, ids and names are passed on as given.
 ///
 /// # Errors
 /// The first of these faults, in this order. A word is missing, unknown or one too many, a number or a place is not valid, two listings are requested or one of
-/// a function without a name, the folder is empty, or `--in` goes with words that take no folder. In words that are names with values, the last name has no
+/// a function without a name, the folder is empty, `--follow` goes with other words than `target ID info`, or `--in` with words that take no folder. In words that are names with values, the last name has no
 /// value. A name is repeated. The operation is not done here. A value of `arg` is not code. Its values are more or fewer than its operation takes, or
 /// it does not take `--after` or `--sorted`. The code of `code` is not statements.
 /// Texts are named for what writes, or standard input would be read twice. The title is not valid. And out of memory, at any time.

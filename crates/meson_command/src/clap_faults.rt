@@ -21,7 +21,7 @@ fn value_of(option: &str) -> Option<&'static str> {
         "--texts" => Some(" FILE"),
         "--in" => Some(" FOLDER"),
         "--dry-run" | "--json" | "--explain" | "--exit-code" | "--no-log" => Some(""),
-        "--verbose" | "-V" => Some(""),
+        "--follow" | "--verbose" | "-V" => Some(""),
         _ => None,
     }
 }

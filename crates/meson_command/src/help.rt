@@ -30,6 +30,10 @@ pub(crate) const IN: &str = "\
 With target, kwargs, arg or code: search the build
 file of this folder alone";
 
+pub(crate) const FOLLOW: &str = "\
+With target ID info: follow variables as Meson
+evaluates the build files";
+
 pub(crate) const DRY_RUN: &str = "Show the changes as a unified diff, and write nothing";
 
 pub(crate) const ANSWER_JSON: &str = "Print what is done, or the refusal, as one line of JSON";
@@ -54,7 +58,7 @@ pub(crate) const TARGET: &str = "Edit, list, add or remove a target";
 
 pub(crate) const BELOW_TARGET: &str = "\
 Options of the program, before the subcommand (see meson_rewrite --help):
-  --sourcedir DIR, --in FOLDER, --title TEXT, --dry-run, --json
+  --sourcedir DIR, --in FOLDER, --follow, --title TEXT, --dry-run, --json
 
 Operations:
   add, rm                          add sources, remove sources
@@ -82,7 +86,8 @@ Examples:
   meson_rewrite target moon add_target moon.c --subdir src --type executable
   meson_rewrite target make_tables rm_target
   meson_rewrite --in src target tide add moon.c
-  meson_rewrite target harbor info";
+  meson_rewrite target harbor info
+  meson_rewrite --follow target tide info";
 
 pub(crate) const SUBDIR: &str = "Folder of a new target [default: that of the root file]";
 

@@ -319,6 +319,7 @@ fn own_words<'h>(alloc: Global) -> Result<Command<'h>, AllocError>
         .disable_help_subcommand(true);
     let program = with_short_option(alloc, Ok(bare), "DIR", "sourcedir", 's', help::DIR);
     let program = with_option(alloc, program, "FOLDER", "in", help::IN);
+    let program = with_flag(alloc, program, "follow", "follow", help::FOLLOW);
     let program = with_option(alloc, program, "TEXT", "title", help::TITLE);
     let program = with_flag(alloc, program, "dry-run", "dry-run", help::DRY_RUN);
     let program = with_flag(alloc, program, "json", "json", help::ANSWER_JSON);

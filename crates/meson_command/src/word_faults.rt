@@ -202,6 +202,14 @@ fn takes_folder(subcommand: Option<Subcommand>, words: &ArgMatches<'_>) -> bool 
     }
 }
 
+/// Whether variables may be followed for the words of a subcommand.
+fn takes_follow(subcommand: Option<Subcommand>, words: &ArgMatches<'_>) -> bool {
+    match subcommand {
+        Some(Subcommand::Target) => word_or(words, "OPERATION", "") == "info",
+        _ => false,
+    }
+}
+
 /// Explains words that are wrong usage.
 fn explain_usage(
     alloc: Global,
@@ -213,6 +221,10 @@ fn explain_usage(
     if let Some("") = matches.get_str("DIR") {
         remarks.note_words(alloc, "--sourcedir is empty")?;
         return remarks.help_words(alloc, "leave it out for the working folder");
+    }
+    if is_set(matches, "follow") && !takes_follow(subcommand, words) {
+        remarks.note_words(alloc, "--follow is given with words that do not take it")?;
+        return remarks.help_words(alloc, "--follow goes with target ID info alone");
     }
     if matches.get_str("FOLDER").is_some() && !takes_folder(subcommand, words) {
         remarks.note_words(alloc, "--in is given with words that take no folder")?;

@@ -5,6 +5,7 @@ use Rattle.serde_json.specs.Events.{items_len}
 use Rattle.serde_json.specs.Read.{read}
 use Rattle.meson_splice.specs.declared.history.History.{History}
 use Rattle.meson_splice.specs.declared.splice.Splice.{Splice}
+use Rattle.meson_calls.specs.declared.call.Reading.TheVariants.{Written, Followed}
 use Rattle.meson_calls.specs.declared.call.Role.TheVariants as role
 use Rattle.meson_steps.specs.declared.argument.Callee.{Callee}
 use Rattle.meson_steps.specs.declared.argument.Callee.TheVariants as callee
@@ -56,10 +57,28 @@ TargetEntries =
     (command.TargetAdd (codes "l") (codes "jar") (codes "s") (codes "a.c" ∷ []))
     × stands_for (codes "[{'type':'target','target':'l','operation':'target_add'}]") (command.TargetAdd (codes "l") (codes "executable") [] [])
     × stands_for (codes "[{'type':'target','target':'l','operation':'target_rm','kind':1}]") (command.TargetRemove (anywhere (codes "l")))
-    × stands_for (codes "[{'type':'x','target':'e','operation':'info','type':'target'}]") (command.TargetInfo (anywhere (codes "e")))
+    × stands_for (codes "[{'type':'x','target':'e','operation':'info','type':'target'}]") (command.TargetInfo (anywhere (codes "e")) Written)
     × stands_for (codes "[{'type':'target','target':'e','operation':'src_add','in':'s'}]") (command.SourcesAdd (record { id = codes "e"; folder = Some (codes "s") }) [])
     × stands_for (codes "[{'type':'target','target':'l','operation':'target_add','in':1}]") (command.TargetAdd (codes "l") (codes "executable") [] [])
     × gives (codes "[{'type':'target','target':'e','operation':'info','in':1}]") (Err (BadField 0 (codes "in")))
+
+-- `follow` is a member of `info` alone
+abbrev pub FollowEntries : Type 0
+FollowEntries =
+    stands_for (codes "[{'type':'target','target':'e','operation':'info','follow':true}]") (command.TargetInfo (anywhere (codes "e")) Followed)
+    × stands_for (codes "[{'type':'target','target':'e','operation':'info','follow':false}]") (command.TargetInfo (anywhere (codes "e")) Written)
+    × stands_for (codes "[{'type':'target','target':'e','operation':'info','follow':true,'in':'s'}]")
+    (command.TargetInfo (record { id = codes "e"; folder = Some (codes "s") }) Followed)
+    × gives (codes "[{'type':'target','target':'e','operation':'info','follow':'true'}]") (Err (BadField 0 (codes "follow")))
+    × gives (codes "[{'type':'target','target':'e','operation':'info','follow':null}]") (Err (BadField 0 (codes "follow")))
+    × gives (codes "[{'type':'target','target':'e','operation':'info','follow':1,'in':1}]") (Err (BadField 0 (codes "in")))
+    × stands_for (codes "[{'type':'target','target':'e','operation':'src_add','follow':true}]") (command.SourcesAdd (anywhere (codes "e")) [])
+    × stands_for (codes "[{'type':'target','target':'e','operation':'target_rm','follow':1}]") (command.TargetRemove (anywhere (codes "e")))
+    × gives_known (codes "[{'type':'target','target':'e','operation':'info','follow':true}]") (Ok (command.TargetInfo (anywhere (codes "e")) Followed ∷ []))
+    × gives_known (codes "[{'type':'target','target':'e','operation':'info','follow':false}]") (Ok (command.TargetInfo (anywhere (codes "e")) Written ∷ []))
+    × gives_known (codes "[{'type':'target','target':'e','operation':'src_add','follow':true}]") (Err (UnknownMember 0 (codes "follow")))
+    × gives_known (codes "[{'type':'target','target':'e','operation':'rename','sources':['a.c','b.c'],'follow':true}]") (Err (UnknownMember 0 (codes "follow")))
+    × gives_known (codes "[{'type':'kwargs','function':'target','id':'e','operation':'info','follow':true}]") (Err (UnknownMember 0 (codes "follow")))
 
 -- keys and options in the order of their bytes
 abbrev pub ArgumentEntries : Type 0

@@ -12,7 +12,7 @@ use Rattle.meson_json.specs.Known.{unknown_in}
 use Rattle.meson_json.specs.Members.{member_text}
 use Rattle.meson_json.specs.Operations.{argument_operation, code_operation, entry_type, target_operation, kwargs_operation, options_operation, role_of}
 use Rattle.meson_json.specs.Settings.{given_value, setting_of, option_value}
-use Rattle.meson_json.specs.Targets.{renaming_of, target_command}
+use Rattle.meson_json.specs.Targets.{reading_of, renaming_of, target_command}
 use Rattle.meson_steps.specs.declared.argument.Search.{Search}
 use Rattle.meson_steps.specs.declared.argument.ValueName.{ValueName}
 use Rattle.meson_steps.specs.declared.command.CodePlace.{CodePlace}
@@ -21,6 +21,8 @@ use Rattle.meson_steps.specs.declared.command.Command.{Command}
 use Rattle.meson_steps.specs.declared.command.Command.TheVariants as command
 use Rattle.meson_steps.specs.declared.given.Given.{Given}
 use Rattle.meson_calls.specs.declared.call.CallName.{CallName}
+use Rattle.meson_calls.specs.declared.call.Reading.{Reading}
+use Rattle.meson_calls.specs.declared.call.Reading.TheVariants.{Written}
 use Rattle.meson_calls.specs.declared.call.Role.{Role}
 use Rattle.meson_json.specs.declared.target.TargetMembers.{TargetMembers}
 use Rattle.meson_json.specs.declared.target.TargetOperation.{TargetOperation}
@@ -76,6 +78,11 @@ abbrev pub target_sorted : ℕ → TargetOperation → Data → Result Bool Scri
 target_sorted i target.SourcesAdd d = flag_at i (codes "sorted") d
 target_sorted i operation d = Ok false
 
+-- how the sources of a target are read; only the report of them reads it
+abbrev pub target_reading : ℕ → TargetOperation → Data → Result Reading ScriptFault
+target_reading i target.Info d = then_ok (flag_at i (codes "follow") d) (λ follow. Ok (reading_of follow))
+target_reading i operation d = Ok Written
+
 unfoldable pub target_members : ℕ → TargetOperation → Data → Result TargetMembers ScriptFault
 target_members i operation d =
     then_ok (required_text i (codes "target") d) (λ target.
@@ -84,7 +91,8 @@ target_members i operation d =
     then_ok (given as_str i (codes "target_type") (codes "executable") (get (codes "target_type") d)) (λ kind.
     then_ok (target_folder i operation d) (λ folder.
     then_ok (target_sorted i operation d) (λ sorted.
-    Ok (record { target = target; folder = folder; sources = sources; subdir = subdir; target_kind = kind; sorted = sorted })))))))
+    then_ok (target_reading i operation d) (λ reading.
+    Ok (record { target = target; folder = folder; sources = sources; subdir = subdir; target_kind = kind; sorted = sorted; reading = reading }))))))))
 
 -- `rename`: the sources are the old name and the new one
 unfoldable pub rename_entry : ℕ → Data → Result Command ScriptFault

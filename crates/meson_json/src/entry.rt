@@ -3,7 +3,7 @@
 ghost use Rattle.std.specs.Prelude.{◌≡◌, ◌≢◌, Err, IfErr, IfOk, Ok};
 ghost use Rattle.serde_json.specs.View.{members_view, view};
 ghost use Rattle.meson_json.specs.Operations.{kwargs_operation};
-ghost use Rattle.meson_json.specs.Scripts.{entry_of, kwargs_asked, kwargs_command, kwargs_entry, options_command, options_entry, rename_entry, role_at, target_entry, target_folder, target_members, target_sorted};
+ghost use Rattle.meson_json.specs.Scripts.{entry_of, kwargs_asked, kwargs_command, kwargs_entry, options_command, options_entry, rename_entry, role_at, target_entry, target_folder, target_members, target_reading, target_sorted};
 ghost use Rattle.meson_json.specs.declared.fault.ScriptFault.TheVariants.{OutOfMemory};
 
 use crate::code_entry::code_entry;
@@ -16,9 +16,9 @@ use crate::names::{
     EntryType, KwargsOperation, OptionsOperation, find_kwargs_operation, find_options_operation,
     find_role, find_target_operation, find_type,
 };
-use crate::target::{TargetMembers, TargetOperation, renaming_of, target_command};
+use crate::target::{TargetMembers, TargetOperation, reading_of, renaming_of, target_command};
 use crate::value_entry::argument_entry;
-use meson_calls::{CallName, Role};
+use meson_calls::{CallName, Reading, Role};
 use meson_splice::Text;
 use meson_steps::command::Command;
 use serde_json::{Map, Value};
@@ -66,6 +66,27 @@ fn target_sorted(
     }
 }
 
+/// How the sources of the target of an entry of type `target` are read. Only their report reads it.
+fn target_reading(
+    alloc: Global,
+    index: usize,
+    operation: TargetOperation,
+    entry: &Value,
+) -> Result<Reading, ScriptFault>
+    ensures ok { IfOk result (λ r. target_reading index operation (view entry.now) ≡ Ok r) }
+    ensures refused { IfErr result (λ e. e ≢ OutOfMemory → target_reading index operation (view entry.now) ≡ Err e) }
+{
+    match operation {
+        TargetOperation::Info => Ok(reading_of(flag_at(alloc, index, entry, "follow")?)),
+        TargetOperation::SourcesAdd => Ok(Reading::Written),
+        TargetOperation::SourcesRemove => Ok(Reading::Written),
+        TargetOperation::TargetAdd => Ok(Reading::Written),
+        TargetOperation::TargetRemove => Ok(Reading::Written),
+        TargetOperation::ExtraAdd => Ok(Reading::Written),
+        TargetOperation::ExtraRemove => Ok(Reading::Written),
+    }
+}
+
 #[tactic(auto, unfolding(crate::specs::Scripts::target_members))]
 fn target_members(
     alloc: Global,
@@ -83,6 +104,7 @@ fn target_members(
         target_kind: text_or(alloc, index, entry, "target_type", "executable")?,
         folder: target_folder(alloc, index, operation, entry)?,
         sorted: target_sorted(alloc, index, operation, entry)?,
+        reading: target_reading(alloc, index, operation, entry)?,
     })
 }
 

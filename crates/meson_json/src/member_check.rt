@@ -76,9 +76,8 @@ fn is_known(command: &Command, name: &str) -> bool
         Command::TargetAdd { .. } => {
             name == "target" || name == "sources" || name == "subdir" || name == "target_type"
         }
-        Command::TargetRemove { .. } | Command::TargetInfo { .. } => {
-            name == "target" || name == "in"
-        }
+        Command::TargetRemove { .. } => name == "target" || name == "in",
+        Command::TargetInfo { .. } => name == "target" || name == "in" || name == "follow",
         Command::KwargsSet { .. }
         | Command::KwargsDelete { .. }
         | Command::KwargsAdd { .. }

@@ -70,7 +70,8 @@ fn members_of(entry_type: &str, operation: &str) -> Choice {
                 "target_type",
             ]
         }
-        ("target", "target_rm" | "info") => &["type", "operation", "target", "in"],
+        ("target", "target_rm") => &["type", "operation", "target", "in"],
+        ("target", "info") => &["type", "operation", "target", "in", "follow"],
         ("target", "src_add") => &["type", "operation", "target", "sources", "in", "sorted"],
         ("target", _) => &["type", "operation", "target", "sources", "in"],
         ("kwargs", "info") => &["type", "operation", "function", "id", "in"],
@@ -155,7 +156,7 @@ fn value_of(entry: &Value, member: &str) -> &'static str {
         "function" => "one of project, target, dependency",
         "kwargs" => "an object, whose values are texts, true, false or arrays of texts",
         "options" => "an object, whose values are texts, true, false or whole numbers",
-        "sorted" => "true or false",
+        "sorted" | "follow" => "true or false",
         _ => "a text",
     }
 }

@@ -1,9 +1,9 @@
 //! Requests on a target, by a script or on the command line.
 
 ghost use Rattle.std.specs.Prelude.{◌≡◌};
-ghost use Rattle.meson_json.specs.Targets.{renaming_of, target_command};
+ghost use Rattle.meson_json.specs.Targets.{reading_of, renaming_of, target_command};
 
-use meson_calls::CallName;
+use meson_calls::{CallName, Reading};
 use meson_splice::{Many, Text};
 use meson_steps::command::Command;
 
@@ -30,6 +30,19 @@ pub struct TargetMembers {
     pub target_kind: Text,
     /// Whether sources are added each in its place.
     pub sorted: bool,
+    /// How the sources of the target are read where they are reported.
+    pub reading: Reading,
+}
+
+/// How build files are read, by whether variables are to be followed.
+pub fn reading_of(follow: bool) -> Reading
+    ensures { result ≡ reading_of follow }
+{
+    if follow {
+        Reading::Followed
+    } else {
+        Reading::Written
+    }
 }
 
 /// The command of an operation on a target. A new target has no folder that is searched.
@@ -43,6 +56,7 @@ pub fn target_command(operation: TargetOperation, members: TargetMembers) -> Com
         subdir,
         target_kind,
         sorted,
+        reading,
     } = members;
     match operation {
         TargetOperation::SourcesAdd if sorted => Command::SourcesAddSorted {
@@ -76,6 +90,7 @@ pub fn target_command(operation: TargetOperation, members: TargetMembers) -> Com
         },
         TargetOperation::Info => Command::TargetInfo {
             target: CallName { id, folder },
+            reading,
         },
     }
 }
