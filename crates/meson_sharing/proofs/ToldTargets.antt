@@ -1,6 +1,6 @@
 -- The targets of a project, and what is reported of the sources of one.
 use Rattle.std.proofs.Common.{◌≡◌, ℕ, List, [], ◌∷◌, ◌++◌, flat_map, map, refl, ap, ap₂, ◌∙◌}
-use Rattle.std.specs.Prelude.{Bool, true, false, if◌then◌else◌, Option, Some, None, option_map}
+use Rattle.std.specs.Prelude.{Bool, true, false, if◌then◌else◌, Option, Some, None, option_and_then, option_map}
 use Rattle.std.specs.List.{cons_option, filter_map}
 use Rattle.meson_lex.specs.declared.kinds.Span.{Span}
 use Rattle.meson_syntax.specs.Tree.{evaluate, assign, selection, iteration, breaks, continues}
@@ -15,7 +15,7 @@ use Rattle.meson_following.specs.Following.{Item, Mark, known, opaque, empty, fo
 use Rattle.meson_sharing.specs.CodeTargets.{Target, sharing_names, target_of, targets_of_note}
 use Rattle.meson_sharing.specs.CodeTold.{item_by, items_by, shared_with, sharers_by}
 use Rattle.meson_sharing.specs.Sharing.{or_none, sharer, sharers, ways_of_target}
-use Rattle.meson_sharing.specs.Told.{Told, ToldItem, last_of, shared_by, told, told_item, told_mark}
+use Rattle.meson_sharing.specs.Told.{Told, ToldItem, last_of, shared_by, told, told_item, told_mark, variable_of}
 use Rattle.meson_sharing.proofs.OwnMakers.{closed}
 
 -- ---- targets
@@ -67,7 +67,9 @@ module _ (p : Project Span) (c : Placed (Call Span)) where
     shared_is (Some m) = sharers_are m
 
     item_is : (i : Item Span) → item_by p c.place followed ways targets i ≡ told_item p c i
-    item_is i = let of : Option (List (List ℕ)) → ToldItem Span = λ s. record { item = i; shared = s } in ap of (shared_is (last_of i.way.through))
+    item_is i =
+        let of : Option (List (List ℕ)) → ToldItem Span = λ s. record { item = i; variable = option_and_then (variable_of p) (last_of i.way.through); shared = s } in
+        ap of (shared_is (last_of i.way.through))
 
     items_are : (ms : List (Mark Span)) → items_by p c.place followed ways targets ms ≡ filter_map (told_mark p c) ms
     items_are [] = refl

@@ -1,5 +1,5 @@
 -- What the code tells of the sources of a target.
-use Rattle.std.specs.Prelude.{◌≡◌, ℕ, List, [], map, MatchOption, ⊤, false, Option, Some, None}
+use Rattle.std.specs.Prelude.{◌≡◌, ℕ, List, [], map, MatchOption, ⊤, false, Option, Some, None, option_and_then}
 use Rattle.std.specs.List.{filter_map}
 use Rattle.meson_lex.specs.declared.kinds.Span.{Span}
 use Rattle.meson_calls.specs.declared.call.CallRef.{CallRef}
@@ -13,10 +13,10 @@ use Rattle.meson_sharing.specs.declared.told.ToldItem as code_item
 use Rattle.meson_sharing.specs.CodeOwning.{is_closed_by}
 use Rattle.meson_sharing.specs.CodeTargets.{Target, sharing_names, target_view}
 use Rattle.meson_sharing.specs.Sharing.{or_none}
-use Rattle.meson_sharing.specs.Told.{Told, ToldItem, last_of}
+use Rattle.meson_sharing.specs.Told.{Told, ToldItem, last_of, variable_of}
 
 abbrev pub told_item_view : code_item.ToldItem → ToldItem Span
-told_item_view i = record { item = item_view i.item; shared = i.shared }
+told_item_view i = record { item = item_view i.item; variable = i.variable; shared = i.shared }
 
 abbrev pub told_view : code.Told → Told Span
 told_view t = record { items = map told_item_view t.items.items; unknown = t.unknown }
@@ -31,7 +31,7 @@ module _ (p : Project Span) (call : CallRef) (followed ways : List CallRef) (tar
   shared_with (Some m) = sharers_by m
 
   abbrev pub item_by : Item Span → ToldItem Span
-  item_by i = record { item = i; shared = shared_with (last_of i.way.through) }
+  item_by i = record { item = i; variable = option_and_then (variable_of p) (last_of i.way.through); shared = shared_with (last_of i.way.through) }
 
   abbrev pub mark_by : Mark Span → Option (ToldItem Span)
   mark_by (known i) = Some (item_by i)
@@ -57,6 +57,14 @@ module _ (s : Sharing) where
   abbrev pub items_with : List (Mark Span) → List (ToldItem Span)
   items_with = items_by (followed_project s.follower) s.call.now s.followed.now s.ways.now (map target_view s.targets.now)
 
-  -- it is right, if there is one
+  -- the variable in whose value something is that was met through this one, if it was met through one
+  abbrev pub variable_with : Option CallRef → Option (List ℕ)
+  variable_with m = option_and_then (variable_of (followed_project s.follower)) m
+
+  -- it is right
+  abbrev pub IsAnswered : Answer → Type 0
+  IsAnswered b = (b.variable ≡ variable_of (followed_project s.follower) b.maker) × (b.shared ≡ sharers_with b.maker)
+
+  -- so it is, if there is one
   abbrev pub IsAnswer : Option Answer → Type 0
-  IsAnswer a = MatchOption a ⊤ (λ b. b.shared ≡ sharers_with b.maker)
+  IsAnswer a = MatchOption a ⊤ IsAnswered

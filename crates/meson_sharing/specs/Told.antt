@@ -1,15 +1,19 @@
 -- What is reported of the sources of a target, where variables are followed.
-use Rattle.std.specs.Prelude.{ℕ, ◌-◌, Bool, true, false, List, [], length, slice_get, count_by, Option, Some, None}
+use Rattle.std.specs.Prelude.{ℕ, ◌-◌, Bool, true, false, List, [], ◌∷◌, length, slice_get, count_by, Option, Some, None, option_and_then}
 use Rattle.std.specs.List.{filter_map}
 use Rattle.meson_calls.specs.declared.call.CallRef.{CallRef}
+use Rattle.meson_calls.specs.CallPlaces.{call_at}
 use Rattle.meson_calls.specs.Calls.{Call}
+use Rattle.meson_calls.specs.Parts.{parts}
 use Rattle.meson_calls.specs.Project.{Project, Placed}
 use Rattle.meson_following.specs.Following.{Item, Mark, known, opaque, empty, follow_marks}
-use Rattle.meson_sharing.specs.Sharing.{sharers}
+use Rattle.meson_sharing.specs.Sharing.{name_of_part, sharers}
 
--- An item, and the names of the other targets that get it: `None` where no other target gets it, but something that is no target.
+-- An item, the variable in whose value it is, if it is in one, and the names of the other targets that get it: `None` where no other target gets it, but
+-- something that is no target.
 pub record ToldItem (S : Type 0) : Type 0 where
   pub item : Item S
+  pub variable : Option (List ℕ)
   pub shared : Option (List (List ℕ))
 
 -- the items that are met, in order, and how many things are met that are not known
@@ -21,13 +25,22 @@ pub record Told (S : Type 0) : Type 0 where
 abbrev pub last_of : List CallRef → Option CallRef
 last_of ms = slice_get ms (length ms - 1)
 
+-- the first of the names that there are
+abbrev pub first_name : {X : Type 0} → (X → Option (List ℕ)) → List X → Option (List ℕ)
+first_name name xs = slice_get (filter_map name xs) 0
+
+-- the variable to which the value of a maker is assigned
+abbrev pub variable_of : {S : Type 0} → Project S → CallRef → Option (List ℕ)
+variable_of p m = first_name (name_of_part (m ∷ [])) (parts p)
+
 -- what is in the call itself goes to its target alone
 abbrev pub shared_by : {S : Type 0} → Project S → Placed (Call S) → Option CallRef → Option (List (List ℕ))
 shared_by p c None = Some []
 shared_by p c (Some m) = sharers p c m
 
 abbrev pub told_item : {S : Type 0} → Project S → Placed (Call S) → Item S → ToldItem S
-told_item p c i = record { item = i; shared = shared_by p c (last_of i.way.through) }
+told_item p c i =
+    record { item = i; variable = option_and_then (variable_of p) (last_of i.way.through); shared = shared_by p c (last_of i.way.through) }
 
 abbrev pub told_mark : {S : Type 0} → Project S → Placed (Call S) → Mark S → Option (ToldItem S)
 told_mark p c (known i) = Some (told_item p c i)
@@ -42,3 +55,11 @@ is_opaque (empty q w) = false
 -- of the target of a call
 abbrev pub told : {S : Type 0} → Project S → Placed (Call S) → Told S
 told p c = record { items = filter_map (told_mark p c) (follow_marks p c); unknown = count_by is_opaque (follow_marks p c) }
+
+-- of the call at a place; nothing where none stands there
+abbrev pub told_if : {S : Type 0} → Project S → Option (Placed (Call S)) → Told S
+told_if p None = record { items = []; unknown = 0 }
+told_if p (Some c) = told p c
+
+abbrev pub told_at : {S : Type 0} → Project S → CallRef → Told S
+told_at p q = told_if p (call_at p q)

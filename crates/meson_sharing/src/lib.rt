@@ -7,6 +7,7 @@ mod takers;
 mod targets;
 mod told;
 mod uses;
+mod variable;
 mod ways;
 
 pub use owning::{is_own, is_unshared};

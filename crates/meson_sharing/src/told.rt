@@ -1,19 +1,19 @@
 //! What is reported of the sources of a target, where variables are followed.
 
-ghost use Rattle.std.specs.Prelude.{◌≡◌, ◌++◌, ◌∷◌, [], IfOk, OnOk, count_by, map, option_map};
+ghost use Rattle.std.specs.Prelude.{◌≡◌, ◌++◌, ◌∷◌, [], IfOk, OnOk, count_by, map};
 ghost use Rattle.std.specs.List.{cons_option};
-ghost use Rattle.meson_calls.specs.CallPlaces.{call_at};
 ghost use Rattle.meson_calls.specs.ChosenNotes.{Source, placed_call};
 ghost use Rattle.meson_calls.specs.GoodLists.{GoodListing};
 ghost use Rattle.meson_calls.specs.Loading.{IsProject, loaded_from};
 ghost use Rattle.meson_syntax.specs.View.{list_view};
 ghost use Rattle.meson_following.specs.CodeFollowing.{followed_project, item_view, mark_view};
 ghost use Rattle.meson_sharing.specs.CodeTold.{IsAnswer, items_with, item_with, mark_with, sharers_with, told_item_view, told_view};
-ghost use Rattle.meson_sharing.specs.Told.{is_opaque, told};
+ghost use Rattle.meson_sharing.specs.Told.{is_opaque, told, told_at, variable_of};
 
 use crate::owning::is_closed_by;
 use crate::takers::ways_of_sources;
 use crate::targets::{Target, sharing_names, targets_of};
+use crate::variable::variable_of;
 use meson_calls::CallRef;
 use meson_calls::place::copy_place;
 use meson_following::makers::is_same_place;
@@ -26,6 +26,8 @@ use std::alloc::{AllocError, Global};
 #[derive(Debug, Drop)]
 pub struct ToldItem {
     pub item: Item,
+    /// The variable in whose value it is; `None` where it is in the call itself.
+    pub variable: Option<Text>,
     /// The names of the other targets that get it, in file order and source order; `None` where none does, but something that is no target.
     pub shared: Option<Many<Text>>,
 }
@@ -38,10 +40,11 @@ pub struct Told {
     pub unknown: usize,
 }
 
-/// A maker, and which other targets get what is in its value.
+/// A maker, the variable to which its value is assigned, and which other targets get what is in it.
 #[derive(Drop)]
 pub(crate) struct Answer {
     pub maker: CallRef,
+    pub variable: Option<Text>,
     pub shared: Option<Many<Text>>,
 }
 
@@ -64,6 +67,16 @@ fn copy_texts(alloc: Global, names: &[Text]) -> Result<Vec<Text>, AllocError>
         all.push(name.clone()?)?;
     }
     Ok(all)
+}
+
+/// An equal name, if there is one.
+fn copy_name(name: &Option<Text>) -> Result<Option<Text>, AllocError>
+    ensures { IfOk result (λ copy. copy ≡ name.now) }
+{
+    match name {
+        Some(name) => Ok(Some(name.clone()?)),
+        None => Ok(None),
+    }
 }
 
 /// Equal names, if there are some.
@@ -107,16 +120,22 @@ impl Sharing<'_> {
     fn answer(&self, maker: &CallRef, last: Option<Answer>) -> Result<Answer, AllocError>
         requires project { IsProject (loaded_from self.now.follower.files.now self.now.follower.trees.now) }
         requires last { IsAnswer self.now last }
-        ensures { IfOk result (λ a. (a.maker ≡ maker.now) × (a.shared ≡ sharers_with self.now maker.now)) }
+        ensures { IfOk result (λ a. (a.maker ≡ maker.now) × (a.variable ≡ variable_of (followed_project self.now.follower) maker.now)
+            × (a.shared ≡ sharers_with self.now maker.now)) }
     {
         if let Some(answer) = last {
             if is_same_place(&answer.maker, maker) {
                 return Ok(answer);
             }
         }
+        let variable = variable_of(&self.follower, maker)?;
         let shared = self.sharers(maker)?;
         let maker = copy_place(self.follower.alloc, maker)?;
-        Ok(Answer { maker, shared })
+        Ok(Answer {
+            maker,
+            variable,
+            shared,
+        })
     }
 
     /// Takes an item with the names of the other targets that get it, and returns the last answer.
@@ -133,13 +152,21 @@ impl Sharing<'_> {
     {
         let alloc = self.follower.alloc;
         let Some(maker) = item.way.through.as_slice().last() else {
-            let shared = Some(Many::new(alloc));
-            items.push(ToldItem { item, shared })?;
+            items.push(ToldItem {
+                item,
+                variable: None,
+                shared: Some(Many::new(alloc)),
+            })?;
             return Ok(last);
         };
         let answer = self.answer(maker, last)?;
+        let variable = copy_name(&answer.variable)?;
         let shared = copy_names(alloc, &answer.shared)?;
-        items.push(ToldItem { item, shared })?;
+        items.push(ToldItem {
+            item,
+            variable,
+            shared,
+        })?;
         Ok(Some(answer))
     }
 
@@ -203,23 +230,27 @@ fn tell_of<'t>(
     Ok(Told { items, unknown })
 }
 
-/// What is reported of the sources of the target that the call at a place makes: each that an evaluation may give it, in the order in which they are met; `None`
-/// where no call stands there.
+/// What is reported of the sources of the target that the call at a place makes: each that an evaluation may give it, in the order in which they are met.
+/// Nothing is reported where no call stands there.
 ///
 /// # Errors
 /// Out of memory.
-pub fn tell_sources(follower: &Follower<'_>, call: &CallRef) -> Result<Option<Told>, AllocError>
+pub fn tell_sources(follower: &Follower<'_>, call: &CallRef) -> Result<Told, AllocError>
     requires { IsProject (loaded_from follower.now.files.now follower.now.trees.now) }
-    ensures { IfOk result (λ t. option_map told_view t ≡ option_map (told (followed_project follower.now)) (call_at (followed_project follower.now) call.now)) }
+    ensures { IfOk result (λ t. told_view t ≡ told_at (followed_project follower.now) call.now) }
 {
+    let nothing = Told {
+        items: Vec::new(follower.alloc),
+        unknown: 0,
+    };
     let Some(value) = follower.value_at(call) else {
-        return Ok(None);
+        return Ok(nothing);
     };
     match value.expr {
         Expr::Call { arguments, .. } => {
             let told = tell_of(follower, call, value.source, arguments)?;
-            Ok(Some(told))
+            Ok(told)
         }
-        _ => Ok(None),
+        _ => Ok(nothing),
     }
 }

@@ -6,7 +6,7 @@ use Rattle.meson_calls.specs.Project.{placed}
 use Rattle.meson_calls.proofs.Nested.{call_view}
 use Rattle.meson_following.specs.CodeFollowing.{followed_project}
 use Rattle.meson_following.proofs.GoodNodes.{call_good}
-use Rattle.meson_sharing.specs.Told.{told}
+use Rattle.meson_sharing.specs.Told.{told_if}
 use Rattle.meson_sharing.proofs.told.tell_sources.Goals as goal
 
 pub tell_of-requires-clause-good : goal.tell_of-requires-clause-good
@@ -22,5 +22,5 @@ returns-in_ok-told-in-Call c =
     let it = c.in-Call in
     let source = c.in-Some.value.source.now in
     let view = ap (expr_view source) it.is ∙ call_view source it.span it.name it.arguments in
-    ap Some (c.in_ok-told-in-Call.ensures (text_at source it.name))
-    ∙ ap (λ e. option_map (told p) (option_map (placed call) (option_and_then call_of e))) (sym (ap Some view) ∙ c.in-Some.ensures.value)
+    c.in_ok-told-in-Call.ensures (text_at source it.name)
+    ∙ ap (λ e. told_if p (option_map (placed call) (option_and_then call_of e))) (sym (ap Some view) ∙ c.in-Some.ensures.value)
