@@ -2,7 +2,7 @@
 use Rattle.std.specs.Prelude.{◌≡◌, ℕ, List, [], ◌∷◌, map, codes, if◌then◌else◌, Option, Some, None, Ok, Err}
 use Rattle.std.specs.List.{filter_map}
 use Rattle.std.specs.Option.{option_map_or}
-use Rattle.serde_json.specs.Data.{Data, string, array, object, Members, no_members, member, put}
+use Rattle.serde_json.specs.Data.{Data, boolean, string, array, object, Members, no_members, member, put}
 use Rattle.serde_json.specs.Find.{as_object}
 use Rattle.serde_json.specs.View.{items_of}
 use Rattle.meson_lex.specs.declared.kinds.Span.{Span}
@@ -11,6 +11,8 @@ use Rattle.meson_syntax.specs.Tree.{Expression, call, Argument, named, Listing}
 use Rattle.meson_edit.specs.Edits.{elements}
 use Rattle.meson_edit.specs.Standing.{expression_span}
 use Rattle.meson_calls.specs.declared.call.CallRef.{CallRef}
+use Rattle.meson_calls.specs.declared.call.Reading.{Reading}
+use Rattle.meson_calls.specs.declared.call.Reading.TheVariants.{Written, Followed}
 use Rattle.meson_calls.specs.declared.call.Role.{Role}
 use Rattle.meson_calls.specs.declared.refusal.Refusal.{Refusal}
 use Rattle.meson_calls.specs.Finding.{the_call}
@@ -18,6 +20,7 @@ use Rattle.meson_calls.specs.Keys.{is_key}
 use Rattle.meson_calls.specs.Loading.{Loaded, name_of_file, project}
 use Rattle.meson_calls.specs.Project.{expression_at}
 use Rattle.meson_variables.specs.declared.source.SourceItem.{SourceItem}
+use Rattle.meson_sharing.specs.Told.{Told, ToldItem}
 use Rattle.meson_steps.specs.declared.argument.ValueName.{ValueName}
 use Rattle.meson_steps.specs.declared.command.Command.{Command}
 use Rattle.meson_steps.specs.declared.command.Command.TheVariants as command
@@ -25,9 +28,10 @@ use Rattle.meson_details.specs.declared.details.Head.{Head}
 use Rattle.meson_details.specs.declared.details.Shown.{Shown}
 use Rattle.meson_details.specs.Details.{head, keywords}
 use Rattle.meson_listing.specs.Entries.{call_data, target_data, text_or_null}
+use Rattle.meson_listing.specs.Followed.{folder_data, names_or_null, target_with}
 use Rattle.meson_listing.specs.Values.{value_data}
 use Rattle.meson_plan.specs.declared.details.TargetDetails.{TargetDetails}
-use Rattle.meson_plan.specs.Details.{AreDetails, NoTarget, place_found, target_place}
+use Rattle.meson_plan.specs.Details.{AreDetails, NoTarget, place_found, target_place, told_sources}
 use Rattle.meson_plan.specs.Values.{the_value}
 use Rattle.meson_plan.specs.declared.values.FoundValue.{FoundValue}
 use Rattle.meson_inventory.specs.Placed.{character_at, count, line_at}
@@ -85,12 +89,35 @@ placed_target_data files span t =
     (put (codes "sources") (placed_items_data files t.sources.items) (put (codes "extra_files") (placed_items_data files t.extra_files.items) ms)))
     (target_data files t.place.file t.head t.sources t.extra_files)
 
+-- a source that is followed
+abbrev pub placed_told_data : List File → ToldItem Span → Data
+placed_told_data files t =
+    object (member (codes "at") (count t.item.stands.from) (member (codes "character") (character_at files t.item.place.file t.item.stands.from)
+    (member (codes "end") (offset_data files t.item.place.file t.item.stands.to) (member (codes "file") (string (name_of_file t.item.place.file files))
+    (member (codes "folder") (folder_data files t.item.way.files) (member (codes "line") (line_at files t.item.place.file t.item.stands.from)
+    (member (codes "shared") (names_or_null t.shared) (member (codes "sure") (boolean t.item.way.sure)
+    (member (codes "value") (string t.item.text) (member (codes "variable") (text_or_null t.variable) no_members))))))))))
+
+abbrev pub placed_tolds_data : List File → List (ToldItem Span) → Data
+placed_tolds_data files ts = array (items_of (map (placed_told_data files) ts))
+
+-- the listing of a target whose call spans that and whose variables are followed, with positions
+abbrev pub placed_followed_data : List File → Span → TargetDetails → Told Span → Data
+placed_followed_data files span t told =
+    with_members (λ ms. with_position files t.place.file span (put (codes "extra_files") (placed_items_data files t.extra_files.items) ms))
+    (target_with files t.place.file t.head (placed_tolds_data files told.items) told.unknown t.extra_files)
+
+-- the listing of a target, as its sources are read
+abbrev pub placed_by : Loaded → Reading → TargetDetails → Data
+placed_by l Written t = placed_target_data l.files (span_at l t.place) t
+placed_by l Followed t = placed_followed_data l.files (span_at l t.place) t (told_sources l t.place)
+
 -- it is that of the one target that the id names
-pub record IsTargetInfo (l : Loaded) (name : CallName) (info : Data) : Type 0 where
+pub record IsTargetInfo (l : Loaded) (reading : Reading) (name : CallName) (info : Data) : Type 0 where
   pub told : TargetDetails
   pub is_place : target_place (project l) name ≡ Ok told.place
   pub are_details : AreDetails (project l) told.place told
-  pub is : info ≡ placed_target_data l.files (span_at l told.place) told
+  pub is : info ≡ placed_by l reading told
 
 -- why it reports nothing, except out of memory: the id names no target or more than one, or `sources:` or `extra_files:` is there twice
 abbrev pub HasNoTargetInfo : Loaded → CallName → Refusal → Type 0
@@ -163,17 +190,17 @@ HasNoValueInfo l n why = the_value l n ≡ Err why
 
 -- what a command reports, if it is an info command
 abbrev pub IsInfo : Loaded → Command → Option Data → Type 0
-IsInfo l (command.TargetInfo id) (Some info) = IsTargetInfo l id info
+IsInfo l (command.TargetInfo id reading) (Some info) = IsTargetInfo l reading id info
 IsInfo l (command.KwargsInfo role id) (Some info) = IsCallInfo l role id info
 IsInfo l (command.ArgumentInfo name) (Some info) = IsValueInfo l name info
-IsInfo l (command.TargetInfo id) None = ⊥
+IsInfo l (command.TargetInfo id reading) None = ⊥
 IsInfo l (command.KwargsInfo role id) None = ⊥
 IsInfo l (command.ArgumentInfo name) None = ⊥
 IsInfo l _ info = info ≡ None
 
 -- why it reports nothing, except out of memory
 abbrev pub HasNoInfo : Loaded → Command → Refusal → Type 0
-HasNoInfo l (command.TargetInfo id) why = HasNoTargetInfo l id why
+HasNoInfo l (command.TargetInfo id reading) why = HasNoTargetInfo l id why
 HasNoInfo l (command.KwargsInfo role id) why = HasNoCallInfo l role id why
 HasNoInfo l (command.ArgumentInfo name) why = HasNoValueInfo l name why
 HasNoInfo l _ why = ⊥

@@ -13,6 +13,7 @@ ghost use Rattle.meson_calls.specs.Strings.{AreGood};
 ghost use Rattle.meson_inventory.specs.Info.{HasNoCallInfo, HasNoInfo, HasNoTargetInfo, HasNoValueInfo, IsCallInfo, IsInfo, IsTargetInfo, IsValueInfo, keyword_place, keyword_place_data, offset_data, placed_item_data, placed_items_data, placed_kwargs_data, placed_target_data, places_data, put_places, range_data, with_members, with_position};
 ghost use Rattle.meson_calls.specs.Searching.{name_at};
 
+use crate::followed::followed_value;
 use crate::placed::offset_members;
 use crate::position_counter::PositionCounter;
 use meson_calls::BorrowedName;
@@ -24,7 +25,8 @@ use meson_lex::Span;
 use meson_listing::entries::{file_name, spot_members, text_or_null};
 use meson_listing::{call_object, target_object, value_object};
 use meson_plan::{
-    Command, Project, Refusal, Role, SourceItem, TargetDetails, ValueName, find_value,
+    Command, Project, Reading, Refusal, Role, SourceItem, TargetDetails, ValueName, find_value,
+    told_sources,
 };
 use meson_splice::{FileSet, Text};
 use meson_syntax::Arg;
@@ -40,7 +42,7 @@ pub(crate) struct KeywordPlace {
 }
 
 /// Puts where a part of a file begins and ends into the members of an object.
-fn put_position(
+pub(crate) fn put_position(
     alloc: Global,
     positions: &mut PositionCounter<'_>,
     file: usize,
@@ -79,7 +81,7 @@ fn item_value(
 }
 
 /// Sources or extra files, with their places.
-fn items_value(alloc: Global, files: &FileSet, items: &[SourceItem]) -> Result<Value, AllocError>
+pub(crate) fn items_value(alloc: Global, files: &FileSet, items: &[SourceItem]) -> Result<Value, AllocError>
     ensures { IfOk result (λ v. view v ≡ placed_items_data files.now items.now) }
 {
     let mut positions = PositionCounter::new(files);
@@ -91,7 +93,7 @@ fn items_value(alloc: Global, files: &FileSet, items: &[SourceItem]) -> Result<V
 }
 
 /// The members of an object; the value back if it is not one.
-fn members_of(value: Value) -> Result<Map<String, Value>, Value>
+pub(crate) fn members_of(value: Value) -> Result<Map<String, Value>, Value>
     ensures members { IfOk result (λ m. as_object (view value) ≡ Some (members_view m.entries)) }
     ensures other { IfErr result (λ other. (view other ≡ view value) × (as_object (view value) ≡ None)) }
 {
@@ -130,8 +132,8 @@ fn target_value(
     Ok(Value::Object(members))
 }
 
-/// What `info` reports of a target, with the position of its call, of each source and of each extra file. Lines are counted from 0, characters in UTF-16
-/// code units.
+/// What `info` reports of a target, with the position of its call, of each source, as they are read, and of each extra file. Lines are counted from 0,
+/// characters in UTF-16 code units.
 ///
 /// # Errors
 /// There is no such target or more than one, or it has `sources:` or `extra_files:` twice, or out of memory.
@@ -139,14 +141,23 @@ pub fn placed_info_target(
     alloc: Global,
     project: &Project,
     name: BorrowedName<'_>,
+    reading: Reading,
 ) -> Result<Value, Refusal>
-    ensures listed { IfOk result (λ v. IsTargetInfo project.now (name_at name.entry) (view v)) }
+    ensures listed { IfOk result (λ v. IsTargetInfo project.now reading (name_at name.entry) (view v)) }
     ensures refused { IfRefused result (HasNoTargetInfo project.now (name_at name.entry)) }
 {
     project.reads();
     let details = project.target_details(alloc, name)?;
     let called = call_at(project.files(), project.trees(), &details.place);
-    Ok(target_value(alloc, project.files(), called.span, details)?)
+    let files = project.files();
+    let info = match reading {
+        Reading::Written => target_value(alloc, files, called.span, details)?,
+        Reading::Followed => {
+            let told = told_sources(alloc, project, &details.place)?;
+            followed_value(alloc, files, called.span, details, told)?
+        }
+    };
+    Ok(info)
 }
 
 /// Where the name and the value of an argument are, if commands change it in such a call.
@@ -366,8 +377,9 @@ pub fn placed_info(
     ensures refused { IfRefused result (HasNoInfo project.now command.now) }
 {
     match command {
-        Command::TargetInfo { target } => {
-            Ok(Some(placed_info_target(alloc, project, target.as_name())?))
+        Command::TargetInfo { target, reading } => {
+            let info = placed_info_target(alloc, project, target.as_name(), *reading)?;
+            Ok(Some(info))
         }
         Command::KwargsInfo { role, name } => {
             Ok(Some(placed_info_kwargs(alloc, project, *role, name.as_name())?))

@@ -3,6 +3,7 @@
 #![tactic(auto)]
 
 pub mod assignments;
+mod followed;
 pub mod holdings;
 mod info;
 mod inventory;

@@ -1,3 +1,4 @@
 pub mod Names
+mod FolderNames
 mod Puts
 mod Rising

@@ -56,6 +56,14 @@ keywords_data pairs = object (put_each no_members pairs)
 
 -- ---- whole listings, of a call in the file of this number
 
+-- without the sources
+abbrev pub target_members : List File → ℕ → Head → Sources → Members
+target_members files file head extra =
+    member (codes "at") (number (unsigned head.at)) (member (codes "extra_files") (items_data files extra.items)
+    (member (codes "file") (string (name_of_file file files)) (member (codes "function") (string head.function)
+    (member (codes "hidden") (boolean head.hidden) (member (codes "name") (text_or_null head.name)
+    (member (codes "opaque_extra_files") (number (unsigned extra.opaque)) no_members))))))
+
 unfoldable pub target_data : List File → ℕ → Head → Sources → Sources → Data
 target_data files file head sources extra =
     object (member (codes "at") (number (unsigned head.at)) (member (codes "extra_files") (items_data files extra.items)

@@ -91,7 +91,7 @@ fn id_value(alloc: Global, name: Text) -> Result<Value, AllocError>
     json!(in alloc; {"id": name})
 }
 
-fn texts_value(alloc: Global, texts: Many<Text>) -> Result<Value, AllocError>
+pub(crate) fn texts_value(alloc: Global, texts: Many<Text>) -> Result<Value, AllocError>
     ensures { IfOk result (λ v. view v ≡ texts_data texts) }
 {
     let mut list = Vec::new(alloc);

@@ -2,9 +2,11 @@
 #![tactic(auto)]
 
 pub mod entries;
+mod followed;
 pub mod laws;
 mod objects;
 mod values;
 
+pub use followed::{followed_object, put_told, target_with};
 pub use objects::{call_object, target_object};
 pub use values::value_object;

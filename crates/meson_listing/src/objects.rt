@@ -3,7 +3,7 @@
 ghost use Rattle.std.specs.Prelude.{◌≡◌, IfOk, OnOk, codes};
 ghost use Rattle.serde_json.specs.Data.{boolean, member, no_members, number, object, put as with_member, string, unsigned};
 ghost use Rattle.serde_json.specs.View.{members_view, view};
-ghost use Rattle.meson_listing.specs.Entries.{call_data, items_data, target_data};
+ghost use Rattle.meson_listing.specs.Entries.{call_data, items_data, target_data, target_members};
 
 use crate::entries::{file_name, items_value, keywords_value, spot_members, text_or_null};
 use meson_details::{Head, Shown};
@@ -65,6 +65,30 @@ fn put_sources(
     put(members, alloc, opaque_key, Value::from(sources.opaque))
 }
 
+/// What a listing says of a target whose call is in the file of this number, but of its sources.
+pub(crate) fn target_members(
+    alloc: Global,
+    files: &FileSet,
+    file: usize,
+    head: Head,
+    extra: Sources,
+) -> Result<Map<String, Value>, AllocError>
+    ensures { IfOk result (λ m. members_view m.entries ≡ target_members files.now file head extra) }
+{
+    let file = file_name(files, file);
+    let mut members = head_members(alloc, head.at, file, head.function, head.hidden)?;
+    put(&mut members, alloc, "name", text_or_null(head.name))?;
+    put_sources(
+        alloc,
+        &mut members,
+        "extra_files",
+        "opaque_extra_files",
+        files,
+        extra,
+    )?;
+    Ok(members)
+}
+
 /// The listing of a target whose call is in the file of this number.
 ///
 /// # Errors
@@ -80,17 +104,7 @@ pub fn target_object(
 ) -> Result<Value, AllocError>
     ensures { IfOk result (λ v. view v ≡ target_data files.now file head sources extra) }
 {
-    let file = file_name(files, file);
-    let mut members = head_members(alloc, head.at, file, head.function, head.hidden)?;
-    put(&mut members, alloc, "name", text_or_null(head.name))?;
-    put_sources(
-        alloc,
-        &mut members,
-        "extra_files",
-        "opaque_extra_files",
-        files,
-        extra,
-    )?;
+    let mut members = target_members(alloc, files, file, head, extra)?;
     put_sources(
         alloc,
         &mut members,

@@ -4,7 +4,7 @@ use crate::rows::Row;
 use crate::trial::{Call, Fault, Wrong, each_growth_refused, grows_less};
 use meson_inventory::{project_lines, project_object};
 use meson_plan::{
-    BorrowedName, CallRef, Done, LoadFault, Project, Refusal, Role, Sources, Unloaded,
+    BorrowedName, CallRef, Done, LoadFault, Project, Reading, Refusal, Role, Sources, Unloaded,
 };
 use meson_script::{Script, info_kwargs, info_target};
 use meson_splice::FileSet;
@@ -156,7 +156,29 @@ impl Call for ListTarget {
             id: given.id.as_str(),
             folder: None,
         };
-        info_target(alloc, &given.project, name)
+        info_target(alloc, &given.project, name, Reading::Written)
+    }
+}
+
+enum FollowTarget {}
+
+impl Call for FollowTarget {
+    type Given = Naming;
+
+    type Value = Value;
+
+    type Fault = Refusal;
+
+    fn given(alloc: Global, row: Row<'_>) -> Option<Naming> {
+        ListTarget::given(alloc, row)
+    }
+
+    fn make(alloc: Global, given: &mut Naming) -> Result<Value, Refusal> {
+        let name = BorrowedName {
+            id: given.id.as_str(),
+            folder: None,
+        };
+        info_target(alloc, &given.project, name, Reading::Followed)
     }
 }
 
@@ -270,6 +292,11 @@ fn performs(rt: HostRuntime) -> Result<(), Wrong> {
 #[test]
 fn lists_a_target(rt: HostRuntime) -> Result<(), Wrong> {
     each_growth_refused::<ListTarget>(rt.alloc())
+}
+
+#[test]
+fn lists_a_followed_target(rt: HostRuntime) -> Result<(), Wrong> {
+    each_growth_refused::<FollowTarget>(rt.alloc())
 }
 
 #[test]

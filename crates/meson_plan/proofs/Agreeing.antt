@@ -12,6 +12,7 @@ use Rattle.meson_syntax.specs.declared.tree.Parsed.{Parsed}
 use Rattle.meson_syntax.specs.Reads.{max_len}
 use Rattle.meson_syntax.specs.Tree.{Expression, call, Plain}
 use Rattle.meson_calls.specs.declared.call.CallRef.{CallRef}
+use Rattle.meson_calls.specs.declared.call.Reading.{Reading}
 use Rattle.meson_calls.specs.declared.call.Role.{Role}
 use Rattle.meson_calls.specs.declared.call.Role.TheVariants as role
 use Rattle.meson_variables.specs.declared.source.Sources.{Sources}
@@ -40,13 +41,13 @@ use Rattle.meson_details.specs.Details.{head, head_of, keywords, keywords_of_cal
 use Rattle.meson_plan.specs.Performing.{MayRefuse, Performs, unplanned, deep, large}
 use Rattle.meson_details.specs.Once.{call_told}
 use Rattle.meson_plan.specs.Planning.{Means, call_asked, target_told}
-use Rattle.meson_listing.specs.Entries.{call_data, target_data}
+use Rattle.meson_listing.specs.Entries.{call_data}
 use Rattle.meson_listing.specs.Values.{value_data}
 use Rattle.meson_places.proofs.ValuesThere.{values_are_there}
 use Rattle.meson_places.specs.NamedValues.{value_place}
 use Rattle.meson_plan.specs.ListingLaws.{CallsAgree, CallsListed, DoesNothing, IsListedAs, TargetsAgree, TargetsListed, ValuesListed, no_steps}
 use Rattle.meson_plan.specs.Listing as listing
-use Rattle.meson_plan.specs.Listing.{kwargs_listing, or_not_found, target_at, target_listing, value_listing}
+use Rattle.meson_plan.specs.Listing.{kwargs_listing, or_not_found, target_at, target_by, target_listing, value_listing}
 use Rattle.meson_plan.specs.Values.{found_at, found_in}
 
 -- ---- the call that is found has a head
@@ -83,14 +84,15 @@ module _ (l : Loaded) (c : Placed (Call Span)) (at : CallAt (project l) c) where
 
   -- ---- a target
 
-  abbrev data_of : Sources → Sources → Data
-  data_of = target_data l.files c.place.file its_head.told
+  module _ (reading : Reading) where
+    abbrev data_of : Sources → Sources → Data
+    data_of = target_by l reading c.place its_head.told
 
-  target_is : target_at l c.place ≡ Some (then_ok (sources_of_call p c) (λ is. then_ok (extra_of_call p c) (λ xs. Ok (data_of is xs))))
-  target_is =
-      ap (option_and_then (λ h. option_and_then (λ s. option_map (λ x. then_ok s (λ is. then_ok x (λ xs. Ok (target_data l.files c.place.file h is xs)))) (extra_files p c.place)) (sources p c.place))) head_is
-      ∙ ap (option_and_then (λ s. option_map (λ x. then_ok s (λ is. then_ok x (λ xs. Ok (data_of is xs)))) (extra_files p c.place))) sources_are
-      ∙ ap (option_map (λ x. then_ok (sources_of_call p c) (λ is. then_ok x (λ xs. Ok (data_of is xs))))) extras_are
+    target_is : target_at l reading c.place ≡ Some (then_ok (sources_of_call p c) (λ is. then_ok (extra_of_call p c) (λ xs. Ok (data_of is xs))))
+    target_is =
+        ap (option_and_then (λ h. option_and_then (λ s. option_map (λ x. then_ok s (λ is. then_ok x (λ xs. Ok (target_by l reading c.place h is xs)))) (extra_files p c.place)) (sources p c.place))) head_is
+        ∙ ap (option_and_then (λ s. option_map (λ x. then_ok s (λ is. then_ok x (λ xs. Ok (data_of is xs)))) (extra_files p c.place))) sources_are
+        ∙ ap (option_map (λ x. then_ok (sources_of_call p c) (λ is. then_ok x (λ xs. Ok (data_of is xs))))) extras_are
 
   -- ---- keyword arguments
 
@@ -117,15 +119,15 @@ found_then (Ok c) told meant same = same c refl
 found_then (Err e) told meant same = refl
 
 pub targets_agree : TargetsAgree
-targets_agree l id = found_then (the_call (project l) role.Target id) _ _ (λ c found. here c (role_found (project l) role.Target id c found).at)
+targets_agree l reading id = found_then (the_call (project l) role.Target id) _ _ (λ c found. here c (role_found (project l) role.Target id c found).at)
   where
-    here : (c : Placed (Call Span)) → CallAt (project l) c → no_steps (or_not_found (target_at l c.place)) ≡ target_told c.it
+    here : (c : Placed (Call Span)) → CallAt (project l) c → no_steps (or_not_found (target_at l reading c.place)) ≡ target_told c.it
     here c at =
         let extra = keyword extra_key c.it in
         let h = (has_head at.value c.it at.is_call).told in
-        ap (λ o. no_steps (or_not_found o)) (target_is l c at)
+        ap (λ o. no_steps (or_not_found o)) (target_is l c at reading)
         ∙ once_then sources_key (keyword sources_key c.it) (sources_of_marks c.place (source_marks (project l) c)) _ (then_ok (once extra_key extra tt) (λ (u : Unit {0}). Ok []))
-        (once_then extra_key extra (sources_of_marks c.place (extra_marks (project l) c)) (λ xs. Ok (target_data l.files c.place.file h (sources_of_marks c.place (source_marks (project l) c)) xs)) (Ok []) refl)
+        (once_then extra_key extra (sources_of_marks c.place (extra_marks (project l) c)) (λ xs. Ok (target_by l reading c.place h (sources_of_marks c.place (source_marks (project l) c)) xs)) (Ok []) refl)
 
 pub calls_agree : CallsAgree
 calls_agree l r id = found_then (the_call (project l) r id) _ _ (λ c found. here c (role_found (project l) r id c found).at)
@@ -207,7 +209,8 @@ listed_as l c x means agree = record {
         absurd (not_small (subst AreSmall (sym (nothing_made l.files made.files made.steps made.splices made.bytes made.are_done (none_meant x made.steps (agree (Ok made.steps) made.are_planned)))) (parsed_small l.files l.parsed whole.parsed)))
 
 pub targets_listed : TargetsListed
-targets_listed l id = listed_as l (command.TargetInfo id) (target_listing l id) (sym (targets_agree l id)) (λ m is. targets_agree l id ∙ is)
+targets_listed l reading id =
+    listed_as l (command.TargetInfo id reading) (target_listing l reading id) (sym (targets_agree l reading id)) (λ m is. targets_agree l reading id ∙ is)
 
 pub calls_listed : CallsListed
 calls_listed l r id = listed_as l (command.KwargsInfo r id) (kwargs_listing l r id) (sym (calls_agree l r id)) (λ m is. calls_agree l r id ∙ is)

@@ -2,6 +2,7 @@
 use Rattle.std.proofs.Common.{◌≡◌, ℕ, List, [], ◌∷◌, Ok, Err, sym, ap, ◌∙◌}
 use Rattle.serde_json.specs.Data.{Data}
 use Rattle.meson_splice.specs.Patch.{then_ok}
+use Rattle.meson_calls.specs.declared.call.Reading.{Reading}
 use Rattle.meson_calls.specs.declared.call.Role.{Role}
 use Rattle.meson_calls.specs.declared.refusal.Refusal.{Refusal}
 use Rattle.meson_calls.specs.Loading.{Loaded}
@@ -13,8 +14,8 @@ use Rattle.meson_plan.specs.Performing.{MayRefuse, unplanned}
 use Rattle.meson_plan.proofs.Agreeing.{calls_agree, targets_agree, values_agree}
 use Rattle.meson_calls.specs.declared.call.CallName.{CallName}
 
-pub target-refused : (l : Loaded) (id : CallName) (e : Refusal) → target_listing l id ≡ Err e → MayRefuse l (command.TargetInfo id) e
-target-refused l id e is = unplanned e (sym (targets_agree l id) ∙ ap no_steps is)
+pub target-refused : (l : Loaded) (reading : Reading) (id : CallName) (e : Refusal) → target_listing l reading id ≡ Err e → MayRefuse l (command.TargetInfo id reading) e
+target-refused l reading id e is = unplanned e (sym (targets_agree l reading id) ∙ ap no_steps is)
 
 pub call-refused : (l : Loaded) (r : Role) (id : CallName) (e : Refusal) → kwargs_listing l r id ≡ Err e → MayRefuse l (command.KwargsInfo r id) e
 call-refused l r id e is = unplanned e (sym (calls_agree l r id) ∙ ap no_steps is)
@@ -22,5 +23,5 @@ call-refused l r id e is = unplanned e (sym (calls_agree l r id) ∙ ap no_steps
 pub value-refused : (l : Loaded) (n : ValueName) (e : Refusal) → value_listing l n ≡ Err e → MayRefuse l (command.ArgumentInfo n) e
 value-refused l n e is = unplanned e (sym (values_agree l n) ∙ ap no_steps is)
 
-pub target-told : (l : Loaded) (id : CallName) (d : Data) → target_listing l id ≡ Ok d → told l (command.TargetInfo id) ≡ Ok (d ∷ [])
-target-told l id d is = ap (λ listing. then_ok listing (λ d. Ok (d ∷ []))) is
+pub target-told : (l : Loaded) (reading : Reading) (id : CallName) (d : Data) → target_listing l reading id ≡ Ok d → told l (command.TargetInfo id reading) ≡ Ok (d ∷ [])
+target-told l reading id d is = ap (λ listing. then_ok listing (λ d. Ok (d ∷ []))) is

@@ -7,9 +7,11 @@ use Rattle.meson_calls.specs.declared.call.Role.TheVariants.{Target}
 use Rattle.meson_calls.specs.declared.refusal.Refusal.{Refusal}
 use Rattle.meson_calls.specs.Calls.{Call}
 use Rattle.meson_calls.specs.Finding.{the_call}
+use Rattle.meson_calls.specs.Loading.{Loaded, project}
 use Rattle.meson_calls.specs.Project.{Project, Placed}
 use Rattle.meson_variables.specs.declared.source.Sources.{Sources}
 use Rattle.meson_variables.specs.TargetSources.{sources}
+use Rattle.meson_sharing.specs.Told.{Told, told_at}
 use Rattle.meson_sources.specs.Extras.{extra_files}
 use Rattle.meson_details.specs.Details.{head}
 use Rattle.meson_plan.specs.declared.details.TargetDetails.{TargetDetails}
@@ -29,6 +31,10 @@ pub record AreDetails (p : Project Span) (place : CallRef) (told : TargetDetails
   pub is_head : head p place ≡ Some told.head
   pub are_sources : sources p place ≡ Some (Ok told.sources)
   pub are_extra : extra_files p place ≡ Some (Ok told.extra_files)
+
+-- what is reported of the sources of the target at a place, where variables are followed
+abbrev pub told_sources : Loaded → CallRef → Told Span
+told_sources l place = told_at (project l) place
 
 -- one of two keyword arguments is there twice, the sources first
 pub data NoDetails (p : Project Span) (place : CallRef) : Refusal → Type 0 where

@@ -4,6 +4,7 @@ use Rattle.serde_json.specs.Data.{Data}
 use Rattle.meson_lex.specs.declared.kinds.Span.{Span}
 use Rattle.meson_splice.specs.Patch.{then_ok}
 use Rattle.meson_syntax.specs.Tree.{Argument, plain, named, pair, Expression}
+use Rattle.meson_calls.specs.declared.call.Reading.{Reading}
 use Rattle.meson_calls.specs.declared.call.Role.{Role}
 use Rattle.meson_calls.specs.declared.refusal.Refusal.{Refusal}
 use Rattle.meson_calls.specs.Loading.{Loaded, IsProject, project}
@@ -26,7 +27,7 @@ abbrev pub no_steps : Result Data Refusal → Result (List Step) Refusal
 no_steps listing = then_ok listing (λ d. Ok [])
 
 abbrev pub TargetsAgree : Type 0
-TargetsAgree = (l : Loaded) (name : CallName) → no_steps (target_listing l name) ≡ planned (project l) (command.TargetInfo name)
+TargetsAgree = (l : Loaded) (reading : Reading) (name : CallName) → no_steps (target_listing l reading name) ≡ planned (project l) (command.TargetInfo name reading)
 
 abbrev pub CallsAgree : Type 0
 CallsAgree = (l : Loaded) (r : Role) (name : CallName) → no_steps (kwargs_listing l r name) ≡ planned (project l) (command.KwargsInfo r name)
@@ -44,7 +45,7 @@ pub record IsListedAs (l : Loaded) (c : Command) (listing : Result Data Refusal)
   pub refused : (e : Refusal) → MayRefuse l c e → IsProject l → listing ≡ Err e
 
 abbrev pub TargetsListed : Type 0
-TargetsListed = (l : Loaded) (name : CallName) → IsListedAs l (command.TargetInfo name) (target_listing l name)
+TargetsListed = (l : Loaded) (reading : Reading) (name : CallName) → IsListedAs l (command.TargetInfo name reading) (target_listing l reading name)
 
 abbrev pub CallsListed : Type 0
 CallsListed = (l : Loaded) (r : Role) (name : CallName) → IsListedAs l (command.KwargsInfo r name) (kwargs_listing l r name)

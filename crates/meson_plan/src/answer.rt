@@ -67,9 +67,9 @@ impl Project {
     {
         self.reads();
         match command {
-            Command::TargetInfo { target } => {
+            Command::TargetInfo { target, reading } => {
                 self.keep(alloc)?;
-                let listing = info_target(alloc, self, target.as_name())?;
+                let listing = info_target(alloc, self, target.as_name(), *reading)?;
                 let answer = listed(alloc, listing)?;
                 Ok(answer)
             }

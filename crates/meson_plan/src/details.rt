@@ -1,20 +1,25 @@
 //! What is reported of a target.
 
-ghost use Rattle.std.specs.Prelude.{IfOk, IsTrue};
+ghost use Rattle.std.specs.Prelude.{◌≡◌, IfOk, IsTrue};
 ghost use Rattle.meson_calls.specs.Loading.{AreParsed};
 ghost use Rattle.meson_variables.specs.CodeVariables.{AreVariables, project_of};
 ghost use Rattle.meson_calls.specs.Refusals.{IfRefused};
 ghost use Rattle.meson_calls.specs.Roles.{is_target};
-ghost use Rattle.meson_plan.specs.Details.{AreDetails, NoDetails};
+ghost use Rattle.meson_sharing.specs.CodeTold.{told_view};
+ghost use Rattle.meson_plan.specs.Details.{AreDetails, NoDetails, told_sources};
 
+use crate::project::Project;
 use meson_calls::{CallRef, Refusal};
 use meson_details::Head;
 use meson_details::called::call_at;
 use meson_details::showing::head_of;
+use meson_following::Follower;
+use meson_sharing::{Told, tell_sources};
 use meson_sources::extra_files::extra_files_of;
 use meson_variables::Sources;
 use meson_variables::target_sources::sources_at;
 use meson_variables::variables::Variables;
+use std::alloc::{AllocError, Global};
 
 /// A target: the place of its call, and what is reported of it.
 #[derive(Drop)]
@@ -50,4 +55,20 @@ pub(crate) fn details_at(
         sources,
         extra_files,
     })
+}
+
+/// What is reported of the sources of the target whose call is at a place, where variables are followed. Nothing is reported where no call stands there.
+///
+/// # Errors
+/// Out of memory.
+pub fn told_sources(alloc: Global, project: &Project, call: &CallRef) -> Result<Told, AllocError>
+    ensures { IfOk result (λ told. told_view told ≡ told_sources project.now call.now) }
+{
+    project.reads();
+    let follower = Follower {
+        alloc,
+        files: project.files(),
+        trees: project.trees(),
+    };
+    tell_sources(&follower, call)
 }

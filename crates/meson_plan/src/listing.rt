@@ -6,16 +6,16 @@ ghost use Rattle.meson_calls.specs.Refusals.{RefusedAs};
 ghost use Rattle.meson_calls.specs.Searching.{name_at};
 ghost use Rattle.meson_plan.specs.Listing.{kwargs_listing, target_listing, value_listing};
 
-use crate::details::TargetDetails;
+use crate::details::{TargetDetails, told_sources};
 use crate::project::Project;
 use crate::values::find_value;
-use meson_calls::{BorrowedName, Refusal, Role};
-use meson_listing::{call_object, target_object, value_object};
+use meson_calls::{BorrowedName, Reading, Refusal, Role};
+use meson_listing::{call_object, followed_object, target_object, value_object};
 use meson_steps::argument::ValueName;
 use serde_json::Value;
 use std::alloc::Global;
 
-/// What is reported of a target: its head, its sources and its extra files.
+/// What is reported of a target: its head, its sources as they are read, and its extra files.
 ///
 /// # Errors
 /// The folder has no build file. Or there is no such target or more than one, or it has `sources:` or `extra_files:` twice, or out of memory.
@@ -23,9 +23,10 @@ pub fn info_target(
     alloc: Global,
     project: &Project,
     name: BorrowedName<'_>,
+    reading: Reading,
 ) -> Result<Value, Refusal>
-    ensures listed { IfOk result (λ v. target_listing project.now (name_at name.entry) ≡ Ok (view v)) }
-    ensures refused { RefusedAs result (target_listing project.now (name_at name.entry)) }
+    ensures listed { IfOk result (λ v. target_listing project.now reading (name_at name.entry) ≡ Ok (view v)) }
+    ensures refused { RefusedAs result (target_listing project.now reading (name_at name.entry)) }
 {
     let TargetDetails {
         place,
@@ -34,7 +35,14 @@ pub fn info_target(
         extra_files,
     } = project.target_details(alloc, name)?;
     let files = project.files();
-    Ok(target_object(alloc, files, place.file, head, sources, extra_files)?)
+    let listing = match reading {
+        Reading::Written => target_object(alloc, files, place.file, head, sources, extra_files)?,
+        Reading::Followed => {
+            let told = told_sources(alloc, project, &place)?;
+            followed_object(alloc, files, place.file, head, told, extra_files)?
+        }
+    };
+    Ok(listing)
 }
 
 /// What is reported of a call of a role: its head, and the values of its keyword arguments that commands change.

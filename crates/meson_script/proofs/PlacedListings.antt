@@ -9,6 +9,8 @@ use Rattle.meson_lex.specs.declared.kinds.Span.{Span}
 use Rattle.meson_splice.specs.Patch.{then_ok}
 use Rattle.meson_splice.specs.declared.file_set.File.{File}
 use Rattle.meson_calls.specs.declared.call.CallRef.{CallRef}
+use Rattle.meson_calls.specs.declared.call.Reading.{Reading}
+use Rattle.meson_calls.specs.declared.call.Reading.TheVariants.{Written, Followed}
 use Rattle.meson_calls.specs.declared.call.Role.{Role}
 use Rattle.meson_calls.specs.declared.call.Role.TheVariants as role
 use Rattle.meson_calls.specs.declared.refusal.Refusal.{Refusal}
@@ -20,6 +22,7 @@ use Rattle.meson_calls.specs.Project as calls
 use Rattle.meson_variables.specs.TargetSources.{sources}
 use Rattle.meson_variables.specs.declared.source.SourceItem.{SourceItem}
 use Rattle.meson_variables.specs.declared.source.Sources.{Sources}
+use Rattle.meson_sharing.specs.Told.{Told, ToldItem}
 use Rattle.meson_sources.specs.Extras.{extra_files}
 use Rattle.meson_details.specs.Details.{head, keywords}
 use Rattle.meson_details.specs.declared.details.Head.{Head}
@@ -28,19 +31,20 @@ use Rattle.meson_steps.specs.declared.argument.ValueName.{ValueName}
 use Rattle.meson_steps.specs.declared.command.Command.{Command}
 use Rattle.meson_steps.specs.declared.command.Command.TheVariants as command
 use Rattle.meson_listing.specs.Entries.{call_data, target_data}
+use Rattle.meson_listing.specs.Followed.{target_with}
 use Rattle.meson_listing.specs.Values.{value_data}
 use Rattle.meson_plan.specs.Details as details
-use Rattle.meson_plan.specs.Details.{no_extra, no_sources, place_found, untold}
-use Rattle.meson_plan.specs.Listing.{asks, call_listing, kwargs_listing, or_not_found, target_at, target_listing, told, value_listing}
+use Rattle.meson_plan.specs.Details.{no_extra, no_sources, place_found, told_sources, untold}
+use Rattle.meson_plan.specs.Listing.{asks, call_listing, kwargs_listing, or_not_found, target_at, target_by, target_listing, told, value_listing}
 use Rattle.meson_plan.specs.Values.{the_value}
 use Rattle.meson_plan.specs.declared.values.FoundValue.{FoundValue}
 use Rattle.meson_plan.specs.declared.details.TargetDetails.{TargetDetails}
-use Rattle.meson_inventory.specs.Info.{HasNoCallInfo, HasNoInfo, HasNoTargetInfo, HasNoValueInfo, IsCallInfo, IsInfo, IsTargetInfo, IsValueInfo, keyword_place_data, not_found, offset_data, placed_item_data, placed_items_data, placed_kwargs_data, placed_target_data, places_data, places_of_call, put_places, span_at, twice, with_members, with_position}
+use Rattle.meson_inventory.specs.Info.{HasNoCallInfo, HasNoInfo, HasNoTargetInfo, HasNoValueInfo, IsCallInfo, IsInfo, IsTargetInfo, IsValueInfo, keyword_place_data, not_found, offset_data, placed_by, placed_followed_data, placed_item_data, placed_items_data, placed_kwargs_data, placed_target_data, placed_told_data, placed_tolds_data, places_data, places_of_call, put_places, span_at, twice, with_members, with_position}
 use Rattle.meson_inventory.specs.Placed.{character_at, line_at}
 use Rattle.meson_script.specs.declared.listings.ListingForm.{ListingForm}
 use Rattle.meson_script.specs.declared.listings.ListingForm.TheVariants.{Plain, Placed}
 use Rattle.meson_script.specs.Listings.{Added, Lists, listings_text}
-use Rattle.meson_script.proofs.PlainListings.{AllPlain, all-plain, call-plain, either, put-plain, target-plain, text-plain, told-plain, value-plain}
+use Rattle.meson_script.proofs.PlainListings.{AllPlain, all-plain, call-plain, either, folder-plain, names-plain, put-plain, target-plain, target-with-plain, text-plain, told-plain, value-plain}
 use Rattle.meson_calls.specs.declared.call.CallName.{CallName}
 
 -- ---- numbers
@@ -85,8 +89,24 @@ kwargs-placed-plain files file span head pairs ps =
     members-plain (λ ms. with_position files file span (put (codes "places") places ms)) (call_data files file head pairs) (call-plain files file head pairs) (λ ms p.
     position-plain files file span (put (codes "places") places ms) (put-plain (codes "places") places ms (places-plain files file ps no_members refl) p))
 
-target-info-plain : (l : Loaded) (id : CallName) (d : Data) → IsTargetInfo l id d → has_float d ≡ false
-target-info-plain l id d i = ap has_float i.is ∙ target-placed-plain l.files (span_at l i.told.place) i.told
+told-plain-at : (files : List File) (t : ToldItem Span) → has_float (placed_told_data files t) ≡ false
+told-plain-at files t = rw (folder-plain files t.item.way.files, names-plain t.shared, text-plain t.variable) refl
+
+followed-placed-plain : (files : List File) (span : Span) (t : TargetDetails) (told : Told Span) → has_float (placed_followed_data files span t told) ≡ false
+followed-placed-plain files span t told =
+    let extra = placed_items_data files t.extra_files.items in
+    let sources = placed_tolds_data files told.items in
+    members-plain (λ ms. with_position files t.place.file span (put (codes "extra_files") extra ms))
+    (target_with files t.place.file t.head sources told.unknown t.extra_files)
+    (target-with-plain files t.place.file t.head sources told.unknown t.extra_files (all-plain (placed_told_data files) told.items (told-plain-at files))) (λ ms p.
+    position-plain files t.place.file span (put (codes "extra_files") extra ms) (put-plain (codes "extra_files") extra ms (items-plain files t.extra_files.items) p))
+
+placed-by-plain : (l : Loaded) (reading : Reading) (t : TargetDetails) → has_float (placed_by l reading t) ≡ false
+placed-by-plain l Written t = target-placed-plain l.files (span_at l t.place) t
+placed-by-plain l Followed t = followed-placed-plain l.files (span_at l t.place) t (told_sources l t.place)
+
+target-info-plain : (l : Loaded) (reading : Reading) (id : CallName) (d : Data) → IsTargetInfo l reading id d → has_float d ≡ false
+target-info-plain l reading id d i = ap has_float i.is ∙ placed-by-plain l reading i.told
 
 call-info-plain : (l : Loaded) (role : Role) (id : CallName) (d : Data) → IsCallInfo l role id d → has_float d ≡ false
 call-info-plain l role id d i =
@@ -100,7 +120,7 @@ value-info-plain l n d i =
     (λ ms p. position-plain l.files v.file v.span ms p)
 
 info-plain : (l : Loaded) (c : Command) (d : Data) → IsInfo l c (Some d) → has_float d ≡ false
-info-plain l (command.TargetInfo id) d i = target-info-plain l id d i
+info-plain l (command.TargetInfo id reading) d i = target-info-plain l reading id d i
 info-plain l (command.KwargsInfo role id) d i = call-info-plain l role id d i
 info-plain l (command.ArgumentInfo name) d i = value-info-plain l name d i
 info-plain l (command.SourcesAdd target sources) d i = absurd (let no : ⊥ = cc in no)
@@ -142,30 +162,30 @@ at-place : (found : Result (calls.Placed (Call Span)) Refusal) (place : CallRef)
 at-place (Ok c) place is f d told = let same : c.place ≡ place = cc in ap f (sym same) ∙ told
 at-place (Err w) place is f d told = absurd (let no : ⊥ = cc in no)
 
-abbrev target-of : List File → ℕ → Option Head → Option (Result Sources Refusal) → Option (Result Sources Refusal) → Result Data Refusal
-target-of files file h s x =
-    or_not_found (option_and_then (λ k. option_and_then (λ r. option_map (λ q. then_ok r (λ is. then_ok q (λ ys. Ok (target_data files file k is ys)))) x) s) h)
+module _ (data_by : Head → Sources → Sources → Data) where
+  abbrev target-of : Option Head → Option (Result Sources Refusal) → Option (Result Sources Refusal) → Result Data Refusal
+  target-of h s x = or_not_found (option_and_then (λ k. option_and_then (λ r. option_map (λ q. then_ok r (λ is. then_ok q (λ ys. Ok (data_by k is ys)))) x) s) h)
 
-no-sources-listed : (files : List File) (file : ℕ) (h : Option Head) (x : Option (Result Sources Refusal)) (e : Refusal) (d : Data) → target-of files file h (Some (Err e)) x ≡ Ok d → ⊥
-no-sources-listed files file None x e d told = let no : ⊥ = cc in no
-no-sources-listed files file (Some k) None e d told = let no : ⊥ = cc in no
-no-sources-listed files file (Some k) (Some q) e d told = let no : ⊥ = cc in no
+  no-sources-listed : (h : Option Head) (x : Option (Result Sources Refusal)) (e : Refusal) (d : Data) → target-of h (Some (Err e)) x ≡ Ok d → ⊥
+  no-sources-listed None x e d told = let no : ⊥ = cc in no
+  no-sources-listed (Some k) None e d told = let no : ⊥ = cc in no
+  no-sources-listed (Some k) (Some q) e d told = let no : ⊥ = cc in no
 
-no-extra-listed : (files : List File) (file : ℕ) (h : Option Head) (found : Sources) (e : Refusal) (d : Data) → target-of files file h (Some (Ok found)) (Some (Err e)) ≡ Ok d → ⊥
-no-extra-listed files file None found e d told = let no : ⊥ = cc in no
-no-extra-listed files file (Some k) found e d told = let no : ⊥ = cc in no
+  no-extra-listed : (h : Option Head) (found : Sources) (e : Refusal) (d : Data) → target-of h (Some (Ok found)) (Some (Err e)) ≡ Ok d → ⊥
+  no-extra-listed None found e d told = let no : ⊥ = cc in no
+  no-extra-listed (Some k) found e d told = let no : ⊥ = cc in no
 
-no-target-listing : (l : Loaded) (id : CallName) (why : Refusal) (d : Data) → HasNoTargetInfo l id why → target_listing l id ≡ Ok d → ⊥
-no-target-listing l id why d (details.not_found w is) told = no-call (the_call (project l) role.Target id) w is (λ place. or_not_found (target_at l place)) d told
-no-target-listing l id why d (untold place w is (no_sources v none)) told =
-    let there = at-place (the_call (project l) role.Target id) place is (λ q. or_not_found (target_at l q)) d told in
-    no-sources-listed l.files place.file (head (project l) place) (extra_files (project l) place) v d
-    (subst (λ s. target-of l.files place.file (head (project l) place) s (extra_files (project l) place) ≡ Ok d) none there)
-no-target-listing l id why d (untold place w is (no_extra found v some none)) told =
-    let there = at-place (the_call (project l) role.Target id) place is (λ q. or_not_found (target_at l q)) d told in
-    let first = subst (λ s. target-of l.files place.file (head (project l) place) s (extra_files (project l) place) ≡ Ok d) some there in
-    no-extra-listed l.files place.file (head (project l) place) found v d
-    (subst (λ x. target-of l.files place.file (head (project l) place) (Some (Ok found)) x ≡ Ok d) none first)
+no-target-listing : (l : Loaded) (reading : Reading) (id : CallName) (why : Refusal) (d : Data) → HasNoTargetInfo l id why → target_listing l reading id ≡ Ok d → ⊥
+no-target-listing l reading id why d (details.not_found w is) told = no-call (the_call (project l) role.Target id) w is (λ place. or_not_found (target_at l reading place)) d told
+no-target-listing l reading id why d (untold place w is (no_sources v none)) told =
+    let there = at-place (the_call (project l) role.Target id) place is (λ q. or_not_found (target_at l reading q)) d told in
+    no-sources-listed (target_by l reading place) (head (project l) place) (extra_files (project l) place) v d
+    (subst (λ s. target-of (target_by l reading place) (head (project l) place) s (extra_files (project l) place) ≡ Ok d) none there)
+no-target-listing l reading id why d (untold place w is (no_extra found v some none)) told =
+    let there = at-place (the_call (project l) role.Target id) place is (λ q. or_not_found (target_at l reading q)) d told in
+    let first = subst (λ s. target-of (target_by l reading place) (head (project l) place) s (extra_files (project l) place) ≡ Ok d) some there in
+    no-extra-listed (target_by l reading place) (head (project l) place) found v d
+    (subst (λ x. target-of (target_by l reading place) (head (project l) place) (Some (Ok found)) x ≡ Ok d) none first)
 
 -- of a call with a keyword argument that is there twice
 abbrev call-of : List File → ℕ → Option Head → Option (Result (List (List ℕ × Shown)) Refusal) → Result Data Refusal
@@ -193,7 +213,7 @@ one-told (Ok d) ds is = (d, refl)
 one-told (Err e) ds is = absurd (let no : ⊥ = cc in no)
 
 pub no-info : (l : Loaded) (c : Command) (why : Refusal) (ds : List Data) → HasNoInfo l c why → told l c ≡ Ok ds → ⊥
-no-info l (command.TargetInfo id) why ds h is = let d = one-told (target_listing l id) ds is in no-target-listing l id why d.0 h d.1
+no-info l (command.TargetInfo id reading) why ds h is = let d = one-told (target_listing l reading id) ds is in no-target-listing l reading id why d.0 h d.1
 no-info l (command.KwargsInfo role id) why ds h is = let d = one-told (kwargs_listing l role id) ds is in no-call-listing l role id why d.0 h d.1
 no-info l (command.ArgumentInfo name) why ds h is = let d = one-told (value_listing l name) ds is in no-value-listing l name why d.0 h d.1
 no-info l (command.SourcesAdd target sources) why ds h is = h
@@ -221,7 +241,7 @@ lists-in Plain l c none is = none
 lists-in Placed l c none is = (None, is, refl)
 
 lists-nothing : (l : Loaded) (c : Command) → asks c ≡ false → (told l c ≡ Ok []) × IsInfo l c None
-lists-nothing l (command.TargetInfo id) quiet = absurd (let bad : ⊥ = cc in bad)
+lists-nothing l (command.TargetInfo id reading) quiet = absurd (let bad : ⊥ = cc in bad)
 lists-nothing l (command.KwargsInfo role id) quiet = absurd (let bad : ⊥ = cc in bad)
 lists-nothing l (command.ArgumentInfo name) quiet = absurd (let bad : ⊥ = cc in bad)
 lists-nothing l (command.SourcesAdd target ss) quiet = (refl, refl)

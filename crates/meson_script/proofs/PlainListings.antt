@@ -6,8 +6,12 @@ use Rattle.std.specs.Cmp.Lexicographic.{slice_cmp}
 use Rattle.serde_json.specs.Data.{Data, Members, no_members, member, put, string}
 use Rattle.serde_json.specs.View.{items_of}
 use Rattle.serde_json.specs.Written.{has_float, items_have_float, members_have_float}
+use Rattle.meson_lex.specs.declared.kinds.Span.{Span}
 use Rattle.meson_splice.specs.declared.file_set.File.{File}
 use Rattle.meson_splice.specs.Patch.{then_ok}
+use Rattle.meson_calls.specs.declared.call.CallRef.{CallRef}
+use Rattle.meson_calls.specs.declared.call.Reading.{Reading}
+use Rattle.meson_calls.specs.declared.call.Reading.TheVariants.{Written, Followed}
 use Rattle.meson_calls.specs.declared.call.Role.{Role}
 use Rattle.meson_calls.specs.declared.call.Role.TheVariants as role
 use Rattle.meson_variables.specs.declared.source.SourceItem.{SourceItem}
@@ -16,6 +20,7 @@ use Rattle.meson_calls.specs.declared.refusal.Refusal.{Refusal}
 use Rattle.meson_calls.specs.Finding.{the_call}
 use Rattle.meson_calls.specs.Loading.{Loaded, project}
 use Rattle.meson_variables.specs.TargetSources.{sources}
+use Rattle.meson_sharing.specs.Told.{ToldItem}
 use Rattle.meson_sources.specs.Extras.{extra_files}
 use Rattle.meson_steps.specs.declared.argument.ValueName.{ValueName}
 use Rattle.meson_steps.specs.declared.command.Command.{Command}
@@ -29,8 +34,10 @@ use Rattle.meson_details.specs.declared.details.Shown.TheVariants as shown
 use Rattle.meson_details.specs.declared.details.ValueDetails.{ValueDetails}
 use Rattle.meson_details.specs.declared.details.ValueDetails.TheVariants as details
 use Rattle.meson_listing.specs.Entries.{call_data, id_data, item_data, put_each, shown_data, target_data, text_or_null}
+use Rattle.meson_listing.specs.Followed.{folder_data, names_or_null, target_with, told_item_data, told_items_data}
 use Rattle.meson_listing.specs.Values.{content_data, key_data, told_data, value_data}
-use Rattle.meson_plan.specs.Listing.{call_listing, kwargs_listing, or_not_found, target_at, target_listing, told, value_listing}
+use Rattle.meson_plan.specs.Details.{told_sources}
+use Rattle.meson_plan.specs.Listing.{call_listing, kwargs_listing, or_not_found, target_at, target_by, target_listing, told, value_listing}
 use Rattle.meson_plan.specs.Values.{the_value}
 use Rattle.meson_calls.specs.declared.call.CallName.{CallName}
 
@@ -149,10 +156,32 @@ pub call-plain : (files : List File) (file : ℕ) (h : Head) (pairs : List (List
 unfolding call_data
 call-plain files file h pairs = rw (each-plain no_members pairs refl) refl
 
-target-listing-plain : (l : Loaded) (id : CallName) → Plain (target_listing l id)
-target-listing-plain l id = then-plain (the_call (project l) role.Target id) _ (λ c. or-plain (target_at l c.place)
+-- of a target whose variables are followed
+pub names-plain : (names : Option (List (List ℕ))) → has_float (names_or_null names) ≡ false
+names-plain None = refl
+names-plain (Some names) = texts-plain names
+
+pub folder-plain : (files : List File) (file : Option ℕ) → has_float (folder_data files file) ≡ false
+folder-plain files None = refl
+folder-plain files (Some n) = refl
+
+told-item-plain : (files : List File) (t : ToldItem Span) → has_float (told_item_data files t) ≡ false
+told-item-plain files t = rw (folder-plain files t.item.way.files, names-plain t.shared, text-plain t.variable) refl
+
+pub target-with-plain : (files : List File) (file : ℕ) (h : Head) (sources : Data) (n : ℕ) (x : Sources) → has_float sources ≡ false → has_float (target_with files file h sources n x) ≡ false
+unfolding target_with
+target-with-plain files file h sources n x plain = rw (items-plain files x.items, text-plain h.name, plain) refl
+
+target-by-plain : (l : Loaded) (reading : Reading) (c : CallRef) (h : Head) (s x : Sources) → has_float (target_by l reading c h s x) ≡ false
+target-by-plain l Written c h s x = target-plain l.files c.file h s x
+target-by-plain l Followed c h s x =
+    let told = told_sources l c in
+    target-with-plain l.files c.file h (told_items_data l.files told.items) told.unknown x (all-plain (told_item_data l.files) told.items (told-item-plain l.files))
+
+target-listing-plain : (l : Loaded) (reading : Reading) (id : CallName) → Plain (target_listing l reading id)
+target-listing-plain l reading id = then-plain (the_call (project l) role.Target id) _ (λ c. or-plain (target_at l reading c.place)
     (and-plain (head (project l) c.place) _ (λ h. and-plain (sources (project l) c.place) _ (λ s. map-plain (extra_files (project l) c.place) _
-    (λ x. then-plain s _ (λ is. then-plain x _ (λ xs. target-plain l.files c.place.file h is xs)))))))
+    (λ x. then-plain s _ (λ is. then-plain x _ (λ xs. target-by-plain l reading c.place h is xs)))))))
 
 call-listing-plain : (l : Loaded) (r : Role) (id : CallName) → Plain (kwargs_listing l r id)
 call-listing-plain l r id = then-plain (the_call (project l) r id) _ (λ c. or-plain (call_listing l r c.place)
@@ -183,7 +212,7 @@ none-plain : (more : List Data) → ◌≡◌ {A = Result (List Data) Refusal} (
 none-plain more is = let e : more ≡ [] = cc in subst AllPlain (sym e) refl
 
 pub told-plain : (l : Loaded) (c : Command) (more : List Data) → told l c ≡ Ok more → AllPlain more
-told-plain l (command.TargetInfo target) more is = one-plain (target_listing l target) more (target-listing-plain l target) is
+told-plain l (command.TargetInfo target reading) more is = one-plain (target_listing l reading target) more (target-listing-plain l reading target) is
 told-plain l (command.ArgumentInfo name) more is = one-plain (value_listing l name) more (value-listing-plain l name) is
 told-plain l (command.KwargsInfo r id) more is = one-plain (kwargs_listing l r id) more (call-listing-plain l r id) is
 told-plain l (command.SourcesAdd target sources) more is = none-plain more is

@@ -45,7 +45,7 @@ abbrev only : Result Data Refusal → Result (List Data) Refusal
 only listing = then_ok listing (λ d. Ok (d ∷ []))
 
 pub told-same : (p q : Loaded) → Same p q → (c : Command) → told p c ≡ told q c
-told-same p q s (command.TargetInfo target) = ap only (targets-same p q target s.files s.trees)
+told-same p q s (command.TargetInfo target reading) = ap only (targets-same p q reading target s.files s.trees)
 told-same p q s (command.ArgumentInfo name) = ap only (values-same p q name s.files s.trees)
 told-same p q s (command.KwargsInfo role id) = ap only (calls-same p q role id s.files s.trees)
 told-same p q s (command.SourcesAdd target sources) = refl

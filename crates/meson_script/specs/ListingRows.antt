@@ -4,6 +4,7 @@ use Rattle.serde_json.specs.Data.{Data}
 use Rattle.serde_json.specs.Written.{compact_text}
 use Rattle.meson_splice.specs.declared.file_set.File.{File}
 use Rattle.meson_splice.specs.Patch.{then_ok}
+use Rattle.meson_calls.specs.declared.call.Reading.TheVariants.{Written}
 use Rattle.meson_calls.specs.declared.call.Role.TheVariants as role
 use Rattle.meson_calls.specs.declared.refusal.Refusal.{Refusal}
 use Rattle.meson_calls.specs.declared.refusal.Refusal.TheVariants.{DuplicateKeyword, NotFound}
@@ -25,7 +26,7 @@ of_file text listing is = (l : Loaded) → IsProject l → l.files ≡ one_file 
 -- sources that a variable holds, each with its place
 abbrev pub TargetRow : Type 0
 TargetRow =
-    of_file (codes "project('p', 'cpp')\nsrc = ['main.cpp', 'fileA.cpp']\nexe1 = executable('testExe', src)\n") (λ l. target_listing l (anywhere (codes "testExe")))
+    of_file (codes "project('p', 'cpp')\nsrc = ['main.cpp', 'fileA.cpp']\nexe1 = executable('testExe', src)\n") (λ l. target_listing l Written (anywhere (codes "testExe")))
     (Ok (double_quoted (codes "{'at':59,'extra_files':[],'file':'meson.build','function':'executable','hidden':false,'name':'testExe','opaque_extra_files':0,'opaque_sources':0,'sources':[{'at':27,'file':'meson.build','value':'main.cpp','variable':'src'},{'at':39,'file':'meson.build','value':'fileA.cpp','variable':'src'}],'type':'target'}")))
 
 abbrev pub ProjectRow : Type 0
@@ -41,5 +42,5 @@ DependencyRow =
 
 abbrev pub RefusedRows : Type 0
 RefusedRows =
-    of_file (codes "x = 1\n") (λ l. target_listing l (anywhere (codes "e"))) (Err NotFound)
+    of_file (codes "x = 1\n") (λ l. target_listing l Written (anywhere (codes "e"))) (Err NotFound)
     × of_file (codes "library('e', pie: true, pie: true)\n") (λ l. kwargs_listing l role.Target (anywhere (codes "e"))) (Err (DuplicateKeyword (codes "pie")))

@@ -13,8 +13,8 @@ pub returns-in_err-listing-in-TargetInfo-clause-refused : goal.returns-in_err-li
 returns-in_err-listing-in-TargetInfo-clause-refused c =
     let l = c.args.self.now in
     let p = err_from_is_err_and c.from_residual-in_err-listing-in-TargetInfo.result c.from_residual-in_err-listing-in-TargetInfo.ensures.1 in
-    let same = ap (target_listing l) (sym c.as_name.ensures) ∙ ap (λ k. target_listing k (name_at c.as_name.result)) (sym c.keep.ensures) in
-    rw (p.1, p.2) (λ other. rw c.in-TargetInfo.is (target-refused l _ _ (same ∙ c.in_err-listing-in-TargetInfo.ensures.refused other)))
+    let same = ap (target_listing l c.in-TargetInfo.reading) (sym c.as_name.ensures) ∙ ap (λ k. target_listing k c.in-TargetInfo.reading (name_at c.as_name.result)) (sym c.keep.ensures) in
+    rw (p.1, p.2) (λ other. rw c.in-TargetInfo.is (target-refused l _ _ _ (same ∙ c.in_err-listing-in-TargetInfo.ensures.refused other)))
 
 pub returns-in_err-listing-in-KwargsInfo-clause-refused : goal.returns-in_err-listing-in-KwargsInfo-clause-refused
 returns-in_err-listing-in-KwargsInfo-clause-refused c =
@@ -32,15 +32,15 @@ pub returns-in_ok-answer-in-TargetInfo-clause-done : goal.returns-in_ok-answer-i
 returns-in_ok-answer-in-TargetInfo-clause-done c =
     let l = c.args.self.now in
     let done = c.in_ok-answer-in-TargetInfo.answer.done in
-    let is = ap (target_listing l) (sym c.as_name.ensures) ∙ ap (λ k. target_listing k (name_at c.as_name.result)) (sym c.keep.ensures) ∙ c.in_ok-listing-in-TargetInfo.ensures.listed in
+    let is = ap (target_listing l c.in-TargetInfo.reading) (sym c.as_name.ensures) ∙ ap (λ k. target_listing k c.in-TargetInfo.reading (name_at c.as_name.result)) (sym c.keep.ensures) ∙ c.in_ok-listing-in-TargetInfo.ensures.listed in
     subst (Performs l c.args.command.now done) (sym c.keep.ensures)
-    (rw c.in-TargetInfo.is ((targets_listed l _).done (view c.in_ok-listing-in-TargetInfo.listing) done is c.reads.ensures c.in_ok-answer-in-TargetInfo.ensures.0))
+    (rw c.in-TargetInfo.is ((targets_listed l _ _).done (view c.in_ok-listing-in-TargetInfo.listing) done is c.reads.ensures c.in_ok-answer-in-TargetInfo.ensures.0))
 
 pub returns-in_ok-answer-in-TargetInfo-clause-told : goal.returns-in_ok-answer-in-TargetInfo-clause-told
 returns-in_ok-answer-in-TargetInfo-clause-told c =
     let l = c.args.self.now in
-    let is = ap (target_listing l) (sym c.as_name.ensures) ∙ ap (λ k. target_listing k (name_at c.as_name.result)) (sym c.keep.ensures) ∙ c.in_ok-listing-in-TargetInfo.ensures.listed in
-    rw c.in-TargetInfo.is (target-told l _ (view c.in_ok-listing-in-TargetInfo.listing) is ∙ ap Ok (sym c.in_ok-answer-in-TargetInfo.ensures.1))
+    let is = ap (target_listing l c.in-TargetInfo.reading) (sym c.as_name.ensures) ∙ ap (λ k. target_listing k c.in-TargetInfo.reading (name_at c.as_name.result)) (sym c.keep.ensures) ∙ c.in_ok-listing-in-TargetInfo.ensures.listed in
+    rw c.in-TargetInfo.is (target-told l _ _ (view c.in_ok-listing-in-TargetInfo.listing) is ∙ ap Ok (sym c.in_ok-answer-in-TargetInfo.ensures.1))
 
 pub returns-in_ok-answer-in-KwargsInfo-clause-done : goal.returns-in_ok-answer-in-KwargsInfo-clause-done
 returns-in_ok-answer-in-KwargsInfo-clause-done c =
