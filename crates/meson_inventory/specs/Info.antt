@@ -107,17 +107,17 @@ placed_followed_data files span t told =
     with_members (λ ms. with_position files t.place.file span (put (codes "extra_files") (placed_items_data files t.extra_files.items) ms))
     (target_with files t.place.file t.head (placed_tolds_data files told.items) told.unknown t.extra_files)
 
--- the listing of a target, as its sources are read
-abbrev pub placed_by : Loaded → Reading → TargetDetails → Data
-placed_by l Written t = placed_target_data l.files (span_at l t.place) t
-placed_by l Followed t = placed_followed_data l.files (span_at l t.place) t (told_sources l t.place)
+-- the listing of a target whose call spans that, as its sources are read
+abbrev pub placed_by : Loaded → Reading → Span → TargetDetails → Data
+placed_by l Written span t = placed_target_data l.files span t
+placed_by l Followed span t = placed_followed_data l.files span t (told_sources l t.place)
 
 -- it is that of the one target that the id names
 pub record IsTargetInfo (l : Loaded) (reading : Reading) (name : CallName) (info : Data) : Type 0 where
   pub told : TargetDetails
   pub is_place : target_place (project l) name ≡ Ok told.place
   pub are_details : AreDetails (project l) told.place told
-  pub is : info ≡ placed_by l reading told
+  pub is : info ≡ placed_by l reading (span_at l told.place) told
 
 -- why it reports nothing, except out of memory: the id names no target or more than one, or `sources:` or `extra_files:` is there twice
 abbrev pub HasNoTargetInfo : Loaded → CallName → Refusal → Type 0

@@ -3,14 +3,14 @@
 ghost use Rattle.std.specs.Prelude.{◌≡◌, IfOk, map};
 ghost use Rattle.serde_json.specs.View.{view};
 ghost use Rattle.meson_sharing.specs.CodeTold.{told_item_view, told_view};
-ghost use Rattle.meson_inventory.specs.Info.{placed_followed_data, placed_told_data, placed_tolds_data};
+ghost use Rattle.meson_inventory.specs.Info.{placed_by, placed_followed_data, placed_told_data, placed_tolds_data};
 
-use crate::info::{items_value, members_of, put_position};
+use crate::info::{items_value, members_of, put_position, target_value};
 use crate::position_counter::PositionCounter;
 use meson_lex::Span;
 use meson_listing::entries::{file_name, spot_members};
 use meson_listing::{put_told, target_with};
-use meson_plan::TargetDetails;
+use meson_plan::{Project, Reading, TargetDetails, told_sources};
 use meson_sharing::{Told, ToldItem};
 use meson_splice::FileSet;
 use serde_json::{Value, put};
@@ -48,7 +48,7 @@ fn tolds_value(alloc: Global, files: &FileSet, items: Vec<ToldItem>) -> Result<V
 }
 
 /// What an info command reports of a target whose call spans that, with positions, and with the sources that are followed.
-pub(crate) fn followed_value(
+fn followed_value(
     alloc: Global,
     files: &FileSet,
     span: Span,
@@ -83,4 +83,24 @@ pub(crate) fn followed_value(
     let mut positions = PositionCounter::new(files);
     put_position(alloc, &mut positions, place.file, span, &mut members)?;
     Ok(Value::Object(members))
+}
+
+/// What an info command reports of a target whose call spans that, with positions, as its sources are read.
+pub(crate) fn value_by(
+    alloc: Global,
+    project: &Project,
+    reading: Reading,
+    span: Span,
+    details: TargetDetails,
+) -> Result<Value, AllocError>
+    ensures { IfOk result (λ v. view v ≡ placed_by project.now reading span details) }
+{
+    let files = project.files();
+    match reading {
+        Reading::Written => target_value(alloc, files, span, details),
+        Reading::Followed => {
+            let told = told_sources(alloc, project, &details.place)?;
+            followed_value(alloc, files, span, details, told)
+        }
+    }
 }

@@ -13,7 +13,7 @@ ghost use Rattle.meson_calls.specs.Strings.{AreGood};
 ghost use Rattle.meson_inventory.specs.Info.{HasNoCallInfo, HasNoInfo, HasNoTargetInfo, HasNoValueInfo, IsCallInfo, IsInfo, IsTargetInfo, IsValueInfo, keyword_place, keyword_place_data, offset_data, placed_item_data, placed_items_data, placed_kwargs_data, placed_target_data, places_data, put_places, range_data, with_members, with_position};
 ghost use Rattle.meson_calls.specs.Searching.{name_at};
 
-use crate::followed::followed_value;
+use crate::followed::value_by;
 use crate::placed::offset_members;
 use crate::position_counter::PositionCounter;
 use meson_calls::BorrowedName;
@@ -26,7 +26,6 @@ use meson_listing::entries::{file_name, spot_members, text_or_null};
 use meson_listing::{call_object, target_object, value_object};
 use meson_plan::{
     Command, Project, Reading, Refusal, Role, SourceItem, TargetDetails, ValueName, find_value,
-    told_sources,
 };
 use meson_splice::{FileSet, Text};
 use meson_syntax::Arg;
@@ -81,7 +80,11 @@ fn item_value(
 }
 
 /// Sources or extra files, with their places.
-pub(crate) fn items_value(alloc: Global, files: &FileSet, items: &[SourceItem]) -> Result<Value, AllocError>
+pub(crate) fn items_value(
+    alloc: Global,
+    files: &FileSet,
+    items: &[SourceItem],
+) -> Result<Value, AllocError>
     ensures { IfOk result (λ v. view v ≡ placed_items_data files.now items.now) }
 {
     let mut positions = PositionCounter::new(files);
@@ -104,7 +107,7 @@ pub(crate) fn members_of(value: Value) -> Result<Map<String, Value>, Value>
 }
 
 /// What an info command reports of a target whose call spans that, with positions.
-fn target_value(
+pub(crate) fn target_value(
     alloc: Global,
     files: &FileSet,
     span: Span,
@@ -149,14 +152,7 @@ pub fn placed_info_target(
     project.reads();
     let details = project.target_details(alloc, name)?;
     let called = call_at(project.files(), project.trees(), &details.place);
-    let files = project.files();
-    let info = match reading {
-        Reading::Written => target_value(alloc, files, called.span, details)?,
-        Reading::Followed => {
-            let told = told_sources(alloc, project, &details.place)?;
-            followed_value(alloc, files, called.span, details, told)?
-        }
-    };
+    let info = value_by(alloc, project, reading, called.span, details)?;
     Ok(info)
 }
 

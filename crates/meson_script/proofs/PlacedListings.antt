@@ -101,12 +101,12 @@ followed-placed-plain files span t told =
     (target-with-plain files t.place.file t.head sources told.unknown t.extra_files (all-plain (placed_told_data files) told.items (told-plain-at files))) (λ ms p.
     position-plain files t.place.file span (put (codes "extra_files") extra ms) (put-plain (codes "extra_files") extra ms (items-plain files t.extra_files.items) p))
 
-placed-by-plain : (l : Loaded) (reading : Reading) (t : TargetDetails) → has_float (placed_by l reading t) ≡ false
-placed-by-plain l Written t = target-placed-plain l.files (span_at l t.place) t
-placed-by-plain l Followed t = followed-placed-plain l.files (span_at l t.place) t (told_sources l t.place)
+placed-by-plain : (l : Loaded) (reading : Reading) (span : Span) (t : TargetDetails) → has_float (placed_by l reading span t) ≡ false
+placed-by-plain l Written span t = target-placed-plain l.files span t
+placed-by-plain l Followed span t = followed-placed-plain l.files span t (told_sources l t.place)
 
 target-info-plain : (l : Loaded) (reading : Reading) (id : CallName) (d : Data) → IsTargetInfo l reading id d → has_float d ≡ false
-target-info-plain l reading id d i = ap has_float i.is ∙ placed-by-plain l reading i.told
+target-info-plain l reading id d i = ap has_float i.is ∙ placed-by-plain l reading (span_at l i.told.place) i.told
 
 call-info-plain : (l : Loaded) (role : Role) (id : CallName) (d : Data) → IsCallInfo l role id d → has_float d ≡ false
 call-info-plain l role id d i =

@@ -1,5 +1,5 @@
-use Rattle.std.proofs.Common.{◌∙◌, ap, ap₂, sym}
-use Rattle.meson_inventory.specs.Info.{call_span, placed_target_data}
+use Rattle.std.proofs.Common.{◌∙◌, ap, sym}
+use Rattle.meson_inventory.specs.Info.{call_span, placed_by}
 use Rattle.meson_inventory.proofs.CallSpans.{call_read}
 use Rattle.meson_inventory.proofs.info.placed_info_target.Goals as goal
 
@@ -12,6 +12,5 @@ returns-clause-listed c =
       told = told;
       is_place = c.in_ok-details.ensures.told.0;
       are_details = c.in_ok-details.ensures.told.1;
-      is = c.in_ok-target_value.ensures
-          ∙ ap₂ (λ fs span. placed_target_data fs span told) c.files-2.ensures (sym (ap call_span at));
+      is = c.in_ok-info.ensures ∙ ap (λ span. placed_by l c.args.reading span told) (sym (ap call_span at));
     }

@@ -4,6 +4,7 @@ use Rattle.serde_json.specs.Written.{compact_text}
 use Rattle.meson_lex.specs.declared.kinds.Span.{Span}
 use Rattle.meson_splice.specs.declared.file_set.File.{File}
 use Rattle.meson_splice.specs.Patch.{then_ok}
+use Rattle.meson_calls.specs.declared.call.Reading.TheVariants.{Written}
 use Rattle.meson_calls.specs.declared.call.Role.{Role}
 use Rattle.meson_calls.specs.declared.call.Role.TheVariants as role
 use Rattle.meson_calls.specs.declared.refusal.Refusal.{Refusal}
@@ -18,7 +19,7 @@ abbrev text_of : Result Data Refusal → Result (List ℕ) Refusal
 text_of listing = then_ok listing (λ d. Ok (compact_text d))
 
 abbrev target_text : List ℕ → List File → Project Span → Result (List ℕ) Refusal
-target_text id files p = text_of (target_of files p (anywhere id))
+target_text id files p = text_of (target_of files p Written (anywhere id))
 
 abbrev call_text : Role → List ℕ → List File → Project Span → Result (List ℕ) Refusal
 call_text r id files p = text_of (call_of files p r (anywhere id))
