@@ -57,7 +57,7 @@ told_items_data files ts = array (items_of (map (told_item_data files) ts))
 
 -- ---- the whole listing, of a call in the file of this number
 
--- with these sources, of which so many are not known
+-- with these sources, and the number of those that are not known
 unfoldable pub target_with : List File → ℕ → Head → (sources : Data) → (unknown : ℕ) → Sources → Data
 target_with files file head sources unknown extra =
     object (member (codes "at") (number (unsigned head.at)) (member (codes "extra_files") (items_data files extra.items)

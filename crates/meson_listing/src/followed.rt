@@ -96,7 +96,7 @@ fn told_items_value(
     Ok(Value::Array(list))
 }
 
-/// The listing of a target whose call is in the file of this number, with the sources that this value lists, and so many more that are not known.
+/// The listing of a target whose call is in the file of this number, with the sources that this value lists, and the number of those that are not known.
 ///
 /// # Errors
 /// Out of memory.
@@ -114,12 +114,7 @@ pub fn target_with(
 {
     let mut members = target_members(alloc, files, file, head, extra)?;
     put(&mut members, alloc, "sources", sources)?;
-    put(
-        &mut members,
-        alloc,
-        "opaque_sources",
-        Value::from(unknown),
-    )?;
+    put(&mut members, alloc, "opaque_sources", Value::from(unknown))?;
     typed_object(alloc, members, "target")
 }
 
