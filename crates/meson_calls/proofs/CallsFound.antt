@@ -2,7 +2,7 @@
 use Rattle.meson_calls.proofs.Words.{Err, false, if◌then◌else◌, bytes_eq, Ok, ◌≡◌, ℕ, List, [], ◌∷◌, map, Some, None, refl, ap, ◌∙◌, subst, Bool, true, then_ok}
 use Rattle.meson_calls.proofs.Words.{Span, ListIn, list_in, Name, Expression, call, Statement, assign, Every, CallThere, CallsStand, Call, call_of, part_call}
 use Rattle.meson_calls.proofs.Words.{all_chosen, first_literal, is, only_one, any_project, with_name, set_to, part_set_to, value_of_assignment}
-use Rattle.meson_calls.proofs.Words.{or_else, named_or_set, found_among, values_among, within, project_ids, Option, Result, Refusal, sym, role_calls_among, Part, parts, Project, Placed, placed, child}
+use Rattle.meson_calls.proofs.Words.{or_else, named_or_set, values_among, within, project_ids, Option, Result, Refusal, role_calls_among, Part, parts, Project, Placed, placed, child}
 use Rattle.meson_calls.proofs.Words.{expression_at, has_role, with_role, role_calls, one_of, Role}
 use Rattle.meson_syntax.specs.declared.operator.Assignment.TheVariants as assignment
 use Rattle.meson_syntax.specs.declared.operator.Bracket.TheVariants as bracket

@@ -56,5 +56,6 @@ pub mod SetterReadings
 pub mod SettersKept
 mod AssignmentsKept
 mod NoSubdirs
+pub mod PlainFolders
 pub mod KeywordArguments
 pub mod AtMostOnce

@@ -1,7 +1,7 @@
 -- The position of a name among the names of files is that of its file.
 use Rattle.std.specs.Prelude.{not, cond, nat_lt, bytes_eq}
 use Rattle.std.specs.List.{position_or_len}
-use Rattle.meson_calls.proofs.Words.{◌≡◌, ℕ, suc, ◌+◌, List, [], ◌∷◌, length, Option, Some, None, refl, ap, ap₂, File, names_of, position_of_name}
+use Rattle.meson_calls.proofs.Words.{◌≡◌, ℕ, suc, ◌+◌, List, [], ◌∷◌, length, Some, None, refl, ap, ap₂, File, names_of, position_of_name}
 use Rattle.meson_splice.specs.Files.{position_of_file}
 
 module _ (name : List ℕ) where

@@ -1,5 +1,5 @@
 -- What is chosen of the parts that are searched is what is searched of all that is chosen, and it is in the file that is searched.
-use Rattle.meson_calls.proofs.Words.{cons_option, option_map, filter, if◌then◌else◌, ◌==◌, ◌≡◌, ℕ, List, [], ◌∷◌, ◌++◌, map, Bool, true, false, Option, Some, None}
+use Rattle.meson_calls.proofs.Words.{cons_option, option_map, filter, if◌then◌else◌, ◌==◌, ◌≡◌, ℕ, List, [], ◌∷◌, map, Bool, true, false, Option, Some, None}
 use Rattle.meson_calls.proofs.Words.{refl, sym, ap, ◌∙◌, eqb-true, Every, all_chosen, value_of_assignment}
 use Rattle.meson_calls.proofs.Words.{Placed, placed, within}
 

@@ -71,7 +71,7 @@ pub use Rattle.meson_calls.specs.AllParts.{address, PartsAreAll, PartsInOrder, P
 pub use Rattle.meson_calls.specs.CallPlaces.{CallIn, CallsStand, CallThere, ListThere}
 pub use Rattle.meson_calls.specs.Calls.{all_chosen, Call, call_of, calls, calls_function, chosen, first_argument, first_literal, first_of, is, kept_number}
 pub use Rattle.meson_calls.specs.Calls.{keyword, literal_of, numbered, part_call, value_with_name, value_without_name}
-pub use Rattle.meson_calls.specs.ChosenNotes.{assigned_places, call_with, entered_names, found_places, is_role_call, named_places, note_enters, note_has_name}
+pub use Rattle.meson_calls.specs.ChosenNotes.{assigned_places, call_with, found_places, is_role_call, named_places, note_has_name}
 pub use Rattle.meson_calls.specs.ChosenNotes.{note_has_role, note_sets_call, places_that, places_with_role}
 pub use Rattle.meson_calls.specs.FileNames.{is_entered, is_file, meant_in}
 pub use Rattle.meson_calls.specs.Finding.{any_project, only_one}
@@ -96,7 +96,7 @@ pub use Rattle.meson_calls.specs.Setters.{any_sets_by_call, AreAssignments, AreK
 pub use Rattle.meson_calls.specs.Setters.{is_among, is_known, is_loop, is_setter, IsKept, NoCallSets, notes_asked, sets_by_call, setters_in}
 pub use Rattle.meson_calls.specs.Spelling.{AreNotesOf, AreNotesWith, HasNone, HasNoneOf, passed, setter_words, sought_words, whole}
 pub use Rattle.meson_calls.specs.Strings.{AreGood, IsGood, note_words, NotesGood, part_words, PartsGood}
-pub use Rattle.meson_calls.specs.Subdirs.{entered, HasNoSubdir, meant_file, subdirs}
+pub use Rattle.meson_calls.specs.Subdirs.{HasNoSubdir}
 pub use Rattle.meson_calls.specs.Walks.{assignments_kept, keeper_view, kept_so_far, KeptParts, notes_kept, notes_of_kept, part_view, read_at, read_in}
 pub use Rattle.meson_calls.specs.Walks.{reads_kept, reads_of_kept, setters_kept, with_part, with_parts}
 pub use Rattle.meson_calls.specs.declared.call.CallRef.{CallRef}

@@ -1,5 +1,5 @@
 -- The list of the array or call at a place, and that a call which is found is at its place.
-use Rattle.std.specs.Prelude.{◌≡◌, ℕ, List, Option, Some, Ok, option_map, option_and_then}
+use Rattle.std.specs.Prelude.{◌≡◌, List, Option, Some, Ok, option_map, option_and_then}
 use Rattle.meson_lex.specs.declared.kinds.Span.{Span}
 use Rattle.meson_splice.specs.declared.file_set.File.{File}
 use Rattle.meson_syntax.specs.declared.operator.Bracket.TheVariants as bracket

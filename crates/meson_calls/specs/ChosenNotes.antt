@@ -1,6 +1,5 @@
 -- Notes that are selected.
 use Rattle.std.specs.Prelude.{ℕ, Bool, false, ◌&&◌, List, [], map, filter, if◌then◌else◌, bytes_eq, Option, Some, None}
-use Rattle.std.specs.List.{filter_map}
 use Rattle.meson_lex.specs.declared.kinds.Span.{Span}
 use Rattle.meson_syntax.specs.declared.tree.List as code
 use Rattle.meson_syntax.specs.Tree.{Listing}
@@ -14,7 +13,6 @@ use Rattle.meson_calls.specs.Roles.{has_role, one_of}
 use Rattle.meson_calls.specs.Naming.{or_else, project_ids}
 use Rattle.meson_calls.specs.Searching.{places_within}
 use Rattle.meson_calls.specs.Notes.{Note, a_call, an_assignment, a_loop}
-use Rattle.meson_calls.specs.Subdirs.{entered}
 
 abbrev pub Source : Type 0
 Source = List ℕ
@@ -66,12 +64,3 @@ abbrev pub found_places : {S : Type 0} → Option ℕ → Role → List ℕ → 
 found_places w role.Target id ns = named_places w role.Target id ns
 found_places w role.Dependency id ns = named_places w role.Dependency id ns
 found_places w role.Project id ns = if one_of project_ids id then places_within w (places_with_role role.Project ns) else []
-
--- the files that the file of this name enters
-abbrev pub note_enters : {S : Type 0} → List ℕ → Note S → Option (List ℕ)
-note_enters name (a_call c) = entered name c
-note_enters name (an_assignment x sets e) = None
-note_enters name (a_loop xs) = None
-
-abbrev pub entered_names : {S : Type 0} → List ℕ → List (Placed (Note S)) → List (List ℕ)
-entered_names name ns = filter_map (λ n. note_enters name n.it) ns

@@ -11,6 +11,7 @@ pub mod Ranges
 pub mod Notes
 pub mod Walks
 pub mod ChosenNotes
+pub mod Entering
 pub mod Strings
 pub mod NamedNotes
 pub mod NotedProjects

@@ -8,7 +8,7 @@ use Rattle.meson_calls.specs.declared.call.Role.TheVariants as role
 use Rattle.meson_calls.specs.Project.{Project, child, Placed, placed}
 use Rattle.meson_calls.specs.Parts.{Part, an_expression, a_statement, parts}
 use Rattle.meson_calls.specs.Calls.{Call, call_of, all_chosen, first_literal, is}
-use Rattle.meson_calls.specs.Roles.{role_calls_among, one_of, role_calls, with_role}
+use Rattle.meson_calls.specs.Roles.{role_calls_among, one_of, with_role}
 
 -- what a name is assigned with `=`
 abbrev pub set_to : {S : Type 0} → List ℕ → Statement S → Option (Expression S)

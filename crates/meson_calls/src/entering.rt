@@ -6,11 +6,12 @@ ghost use Rattle.meson_syntax.specs.View.{view};
 ghost use Rattle.meson_syntax.specs.declared.fault.ParseFault.{ParseFault};
 ghost use Rattle.meson_calls.specs.Folders.{IsFileName, folder_of, file_in};
 ghost use Rattle.meson_calls.specs.Notes.{note_view, note_views};
-ghost use Rattle.meson_calls.specs.ChosenNotes.{note_enters, entered_names};
+ghost use Rattle.meson_calls.specs.Entering.{folder_file, note_enters, entered_names, subdirs_as};
 ghost use Rattle.meson_calls.specs.Strings.{AreGood, NotesGood, note_words};
-ghost use Rattle.meson_calls.specs.Subdirs.{Enters, HasNoSubdir, subdirs};
+ghost use Rattle.meson_calls.specs.Subdirs.{Enters, HasNoSubdir};
 
-use crate::folders::is_plain_folder;
+use crate::call::Reading;
+use crate::folders::{is_plain_folder, write_plainly};
 use crate::literals::first_literal;
 use crate::note::{Note, What};
 use crate::notes::notes_in;
@@ -44,11 +45,48 @@ pub fn file_in(alloc: Global, name: &str, folder: &str) -> Result<Option<String>
     Ok(Some(file))
 }
 
+/// The file that a `subdir` of this folder means in the file of this name, where the folder may be written otherwise: `s/` and `./s` mean `s`.
+fn followed_file(alloc: Global, name: &str, folder: &str) -> Result<Option<String>, AllocError>
+    requires { IsFileName name.now }
+    ensures { IfOk result (λ file. option_map string_bytes file ≡ folder_file Reading.Followed name.now folder.now) }
+{
+    if folder.starts_with('/') {
+        return Ok(None);
+    }
+    let plain = write_plainly(alloc, folder)?;
+    let file = file_in(alloc, name, plain.as_str())?;
+    Ok(file)
+}
+
+/// The file that a `subdir` of this folder means in the file of this name, where build files are read so.
+///
+/// # Errors
+/// Out of memory.
+pub fn file_as(
+    alloc: Global,
+    reading: Reading,
+    name: &str,
+    folder: &str,
+) -> Result<Option<String>, AllocError>
+    requires { IsFileName name.now }
+    ensures { IfOk result (λ file. option_map string_bytes file ≡ folder_file reading name.now folder.now) }
+{
+    match reading {
+        Reading::Written => file_in(alloc, name, folder),
+        Reading::Followed => followed_file(alloc, name, folder),
+    }
+}
+
 /// The file that a note enters, if it enters one.
-fn entered(alloc: Global, name: &str, note: &Note<'_, '_>) -> Result<Option<String>, AllocError>
+fn entered(
+    alloc: Global,
+    reading: Reading,
+    name: &str,
+    note: &Note<'_, '_>,
+) -> Result<Option<String>, AllocError>
     requires file { IsFileName name.now }
     requires good { AreGood (note_words (note_view note.now).it) }
-    ensures { IfOk result (λ file. option_map string_bytes file ≡ note_enters name.now (note_view note.now).it) }
+    ensures { IfOk result (λ file. option_map string_bytes file ≡ note_enters reading name.now (note_view note.now).it) }
 {
     match note.what {
         What::Call {
@@ -58,7 +96,7 @@ fn entered(alloc: Global, name: &str, note: &Note<'_, '_>) -> Result<Option<Stri
             if text_of(note.source, function) == b"subdir".as_slice() {
                 match first_literal(alloc, note.source, arguments)? {
                     Some(folder) => {
-                        let file = file_in(alloc, name, folder.as_str())?;
+                        let file = file_as(alloc, reading, name, folder.as_str())?;
                         Ok(file)
                     }
                     None => Ok(None),
@@ -72,14 +110,19 @@ fn entered(alloc: Global, name: &str, note: &Note<'_, '_>) -> Result<Option<Stri
 }
 
 /// The files that notes enter.
-fn all_entered(alloc: Global, name: &str, notes: &[Note<'_, '_>]) -> Result<Vec<String>, AllocError>
+fn all_entered(
+    alloc: Global,
+    reading: Reading,
+    name: &str,
+    notes: &[Note<'_, '_>],
+) -> Result<Vec<String>, AllocError>
     requires file { IsFileName name.now }
     requires good { NotesGood (note_views notes.now) }
-    ensures { IfOk result (λ names. map string_bytes names.items ≡ entered_names name.now (note_views notes.now)) }
+    ensures { IfOk result (λ names. map string_bytes names.items ≡ entered_names reading name.now (note_views notes.now)) }
 {
     let mut names = Vec::new(alloc);
     for i in 0..notes.len() {
-        match entered(alloc, name, &notes[i])? {
+        match entered(alloc, reading, name, &notes[i])? {
             Some(file) => names.push(file)?,
             None => {}
         }
@@ -94,26 +137,28 @@ fn may_enter(bytes: &[u8]) -> bool
     memmem::find(bytes, b"subdir".as_slice()).is_some()
 }
 
-/// The names of the files that the `subdir` calls of a tree enter, in order. Only calls with a plain literal count.
+/// The names of the files that the `subdir` calls of a tree enter, in order. Only calls with a literal count; where build files are read as they are written,
+/// only those of plain folders.
 ///
 /// # Errors
 /// Out of memory.
 pub fn entered_by(
     alloc: Global,
+    reading: Reading,
     name: &str,
     bytes: &[u8],
     tree: &Parsed,
 ) -> Result<Vec<String>, AllocError>
     requires file { IsFileName name.now }
     requires reads { IsSpanned bytes.now (view bytes.now tree.now) }
-    ensures { IfOk result (λ names. map string_bytes names.items ≡ subdirs name.now (view bytes.now tree.now)) }
+    ensures { IfOk result (λ names. map string_bytes names.items ≡ subdirs_as reading name.now (view bytes.now tree.now)) }
 {
     if !may_enter(bytes) {
         return Ok(Vec::new(alloc));
     }
     let taken = notes_in(alloc, 0, bytes, tree)?;
     let notes = taken.all(alloc)?;
-    let names = all_entered(alloc, name, notes.as_slice())?;
+    let names = all_entered(alloc, reading, name, notes.as_slice())?;
     Ok(names)
 }
 
@@ -128,6 +173,6 @@ pub fn subdirs(alloc: Global, name: &str, bytes: &[u8]) -> Result<Vec<String>, P
     ensures refused { IfErr result (MayNotRead bytes.now) }
 {
     let tree = parse(alloc, bytes)?;
-    let names = entered_by(alloc, name, bytes, &tree)?;
+    let names = entered_by(alloc, Reading::Written, name, bytes, &tree)?;
     Ok(names)
 }

@@ -15,7 +15,7 @@ ghost use Rattle.meson_store.specs.StoreCalls.{one_more};
 
 use crate::fault::GatherFault;
 use crate::named_files::NamedFiles;
-use meson_calls::{MAX_FILES, entered_by};
+use meson_calls::{MAX_FILES, Reading, entered_by};
 use meson_plan::Project;
 use meson_splice::{Bytes, Text};
 use meson_store::{Store, StoreError, StoreFault, path_in};
@@ -172,7 +172,7 @@ fn entry_at(alloc: Global, files: &NamedFiles, place: usize) -> Result<ParsedFil
         Ok(tree) => tree,
         Err(fault) => return Err(unparsed(alloc, name, bytes, fault)?),
     };
-    let names = entered_by(alloc, name, bytes, &tree)?;
+    let names = entered_by(alloc, Reading::Written, name, bytes, &tree)?;
     Ok(ParsedFile { tree, names })
 }
 
