@@ -7,10 +7,10 @@ use Rattle.meson_splice.specs.declared.file_set.File.{File}
 use Rattle.meson_splice.specs.Files.{position_of_file}
 use Rattle.meson_syntax.specs.declared.tree.Parsed.{Parsed}
 use Rattle.meson_calls.specs.Calls.{Call, calls_function, first_literal}
-use Rattle.meson_calls.specs.Folders.{file_in}
+use Rattle.meson_calls.specs.declared.call.Reading.TheVariants.{Followed}
+use Rattle.meson_calls.specs.Entering.{folder_file, meant_as}
 use Rattle.meson_calls.specs.Loading.{AreParsed, loaded_from, named_trees, project, views}
 use Rattle.meson_calls.specs.Project.{Project}
-use Rattle.meson_calls.specs.Subdirs.{meant_file}
 use Rattle.meson_following.specs.declared.effects.Effect.TheVariants.{MaySet, Sets, Unsets}
 use Rattle.meson_following.specs.Effects.{by_fit, effect_of, entering, number_of}
 use Rattle.meson_following.specs.Names.{fit, named_by}
@@ -23,16 +23,16 @@ module _ {S : Type 0} (p : Project S) (x name : List ℕ) (c : Call S) where
   unsets_chosen set is = search rules
 
   pub enters_chosen : calls_function (codes "set_variable") c ≡ false → calls_function (codes "unset_variable") c ≡ false → calls_function (codes "error") c ≡ false
-      → calls_function (codes "subdir_done") c ≡ false → calls_function (codes "subdir") c ≡ true → entering c (option_and_then (number_of p) (meant_file name c)) ≡ effect_of p x name c
+      → calls_function (codes "subdir_done") c ≡ false → calls_function (codes "subdir") c ≡ true → entering c (option_and_then (number_of p) (meant_as Followed name c)) ≡ effect_of p x name c
   enters_chosen set unset stops leaves is = search rules
 
   -- ---- of `subdir`
 
-  pub no_literal : first_literal c ≡ None → MaySet ≡ entering c (option_and_then (number_of p) (meant_file name c))
-  no_literal is = sym (ap (λ o. entering c (option_and_then (number_of p) (option_and_then (file_in name) o))) is)
+  pub no_literal : first_literal c ≡ None → MaySet ≡ entering c (option_and_then (number_of p) (meant_as Followed name c))
+  no_literal is = sym (ap (λ o. entering c (option_and_then (number_of p) (option_and_then (folder_file Followed name) o))) is)
 
-  pub of_file : (folder : List ℕ) (o : Option (List ℕ)) → first_literal c ≡ Some folder → file_in name folder ≡ o → entering c (option_and_then (number_of p) o) ≡ entering c (option_and_then (number_of p) (meant_file name c))
-  of_file folder o is file = sym (ap (λ l. entering c (option_and_then (number_of p) (option_and_then (file_in name) l))) is ∙ ap (λ f. entering c (option_and_then (number_of p) f)) file)
+  pub of_file : (folder : List ℕ) (o : Option (List ℕ)) → first_literal c ≡ Some folder → folder_file Followed name folder ≡ o → entering c (option_and_then (number_of p) o) ≡ entering c (option_and_then (number_of p) (meant_as Followed name c))
+  of_file folder o is file = sym (ap (λ l. entering c (option_and_then (number_of p) (option_and_then (folder_file Followed name) l))) is ∙ ap (λ f. entering c (option_and_then (number_of p) f)) file)
 
 -- ---- files by their numbers
 

@@ -6,7 +6,8 @@ use Rattle.meson_syntax.specs.Tree.{Expression, identifier, boolean, integer, st
 use Rattle.meson_calls.specs.Project.{Project}
 use Rattle.meson_calls.specs.Calls.{Call, calls_function, keyword}
 use Rattle.meson_calls.specs.Roles.{one_of}
-use Rattle.meson_calls.specs.Subdirs.{meant_file}
+use Rattle.meson_calls.specs.declared.call.Reading.TheVariants.{Followed}
+use Rattle.meson_calls.specs.Entering.{meant_as}
 use Rattle.meson_following.specs.declared.effects.Effect.{Effect}
 use Rattle.meson_following.specs.declared.effects.Effect.TheVariants.{Nothing, Sets, MaySet, Unsets, Stops, Leaves, Enters}
 use Rattle.meson_following.specs.declared.names.Fit.{Fit}
@@ -98,5 +99,5 @@ effect_of p x name c =
     else (if calls_function (codes "unset_variable") c then by_fit Unsets (fit x (named_by c))
     else (if calls_function (codes "error") c then Stops
     else (if calls_function (codes "subdir_done") c then Leaves
-    else (if calls_function (codes "subdir") c then entering c (option_and_then (number_of p) (meant_file name c))
+    else (if calls_function (codes "subdir") c then entering c (option_and_then (number_of p) (meant_as Followed name c))
     else Nothing))))

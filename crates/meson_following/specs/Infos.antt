@@ -91,6 +91,10 @@ Folders =
     × IsOf (beside_s (sets (codes "a.c") ∷ enters_if_found ∷ target ∷ []) (adds (codes "b.c") ∷ [])) (at_ 2)
     (sure_of (codes "a.c") ∷ some_of (codes "b.c") ∷ []) 0
     × IsOf (alone (sets (codes "a.c") ∷ does (codes "subdir") (variable (codes "k") ∷ []) ∷ target ∷ [])) (at_ 2) (some_of (codes "a.c") ∷ []) 1
+    -- written otherwise, and not a folder below
+    × IsOf (beside_s (sets (codes "a.c") ∷ enters (codes "./s/") ∷ target ∷ []) (adds (codes "b.c") ∷ [])) (at_ 2)
+    (sure_of (codes "a.c") ∷ sure_of (codes "b.c") ∷ []) 0
+    × IsOf (beside_s (sets (codes "a.c") ∷ enters (codes "t/../s") ∷ target ∷ []) (adds (codes "b.c") ∷ [])) (at_ 2) (some_of (codes "a.c") ∷ []) 1
 
 -- the value of a maker is followed once, however often the variable is read
 abbrev pub Once : Type 0

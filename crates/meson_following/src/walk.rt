@@ -11,7 +11,7 @@ ghost use Rattle.meson_calls.specs.ChosenNotes.{Source, call_with};
 ghost use Rattle.meson_calls.specs.Project.{child, place, place_at, placed};
 ghost use Rattle.meson_calls.specs.GoodLists.{GoodListing};
 ghost use Rattle.meson_calls.specs.Strings.{AreGood};
-ghost use Rattle.meson_calls.specs.Subdirs.{meant_file};
+ghost use Rattle.meson_calls.specs.Entering.{meant_as};
 ghost use Rattle.meson_following.specs.declared.walk.Trail.{Trail};
 ghost use Rattle.meson_following.specs.Walks.{AreRead, MayWalk, Walks, arguments_flow, call_effect};
 ghost use Rattle.meson_following.specs.Walks.{expression_flow, found_view, here, met_unless, nothing_found, project_of, reads_seen, statement_flow};
@@ -26,13 +26,13 @@ use crate::flows::Flow;
 use crate::makers::{Known, Maker, assign, copy_known, is_one_of, join};
 use crate::names::{Fit, fit_of};
 use crate::reads::Reader;
-use meson_calls::CallRef;
 use meson_calls::arguments::count_named;
 use meson_calls::call::BorrowedPlace;
-use meson_calls::entering::file_in;
+use meson_calls::entering::file_as;
 use meson_calls::literals::first_literal;
 use meson_calls::place::place_of;
 use meson_calls::roles::text_of;
+use meson_calls::{CallRef, Reading};
 use meson_lex::Span;
 use meson_splice::FileSet;
 use meson_syntax::{Assignment, Expr, List, Parsed};
@@ -151,13 +151,13 @@ impl<'t> Walk<'t> {
         requires walks { MayWalk self.now }
         requires good { AreGood (listing_words (list_view self.now.source.now arguments.now) bracket.Round) }
         ensures { (f : Source) → let c = call_with f (list_view self.now.source.now arguments.now) in
-            IfOk result (λ e. e ≡ entering c (option_and_then (number_of (project_of self.now.question)) (meant_file self.now.name.now c))) }
+            IfOk result (λ e. e ≡ entering c (option_and_then (number_of (project_of self.now.question)) (meant_as Reading.Followed self.now.name.now c))) }
     {
         let alloc = self.question.alloc;
         let Some(folder) = first_literal(alloc, self.source, arguments)? else {
             return Ok(Effect::MaySet);
         };
-        let Some(name) = file_in(alloc, self.name, folder.as_str())? else {
+        let Some(name) = file_as(alloc, Reading::Followed, self.name, folder.as_str())? else {
             return Ok(Effect::MaySet);
         };
         match self.question.files.find(name.as_str()) {

@@ -21,7 +21,7 @@ returns-clause-summing c = (refl, refl, refl)
 
 pub returns-clause-folders : goal.returns-clause-folders
 unfolding encode_utf8 chars is_utf8
-returns-clause-folders c = (refl, refl, refl)
+returns-clause-folders c = (refl, refl, refl, refl, refl)
 
 pub returns-clause-once : goal.returns-clause-once
 unfolding encode_utf8 chars is_utf8

@@ -3,7 +3,8 @@ use Rattle.std.specs.Prelude.{None, Some, option_map, string_bytes, nat_lt, leng
 use Rattle.meson_splice.specs.Files.{position_of_file}
 use Rattle.meson_syntax.specs.View.{list_view}
 use Rattle.meson_calls.specs.ChosenNotes.{call_with}
-use Rattle.meson_calls.specs.Folders.{file_in}
+use Rattle.meson_calls.specs.declared.call.Reading.TheVariants.{Followed}
+use Rattle.meson_calls.specs.Entering.{folder_file}
 use Rattle.meson_calls.specs.Calls.{value_with_name}
 use Rattle.meson_calls.specs.NamedArguments.{kept_args}
 use Rattle.meson_calls.proofs.KeywordArguments.{keyword_is}
@@ -25,7 +26,7 @@ returns-in_default-2 c = λ f.
     let call = call_with f (list_view c.args.self.now.source.now c.args.arguments.now) in
     let none : c.in_ok-name.field-0 ≡ None = search rules in
     of_file (project_of c.args.self.now.question) c.args.self.now.question.variable.now name call (string_bytes c.in-Some.folder) None
-    (sym (c.in_ok-folder.ensures f) ∙ ap (option_map string_bytes) c.in-Some.is) (ap (file_in name) (sym c.as_str.ensures.value) ∙ sym c.in_ok-name.ensures ∙ ap (option_map string_bytes) none)
+    (sym (c.in_ok-folder.ensures f) ∙ ap (option_map string_bytes) c.in-Some.is) (ap (folder_file Followed name) (sym c.as_str.ensures.value) ∙ sym c.in_ok-name.ensures ∙ ap (option_map string_bytes) none)
 
 pub returns-in-Some-find : goal.returns-in-Some-find
 returns-in-Some-find c = λ f.
@@ -40,7 +41,7 @@ returns-in-Some-find c = λ f.
     let count = c.count_named.ensures ∙ ap (λ args. length (kept_args source (value_with_name (codes "if_found")) 0 args)) c.get.ensures ∙ sym (ap length (keyword_is source c.args.arguments.now f (codes "if_found"))) in
     ap (λ n. Enters c.in-Some-find.file (nat_lt 0 n)) count ∙ sym (ap (entering call) number)
     ∙ of_file p c.args.self.now.question.variable.now name call (string_bytes c.in-Some.folder) (Some file)
-    (sym (c.in_ok-folder.ensures f) ∙ ap (option_map string_bytes) c.in-Some.is) (ap (file_in name) (sym c.as_str.ensures.value) ∙ sym c.in_ok-name.ensures ∙ ap (option_map string_bytes) c.in-Some-2.is)
+    (sym (c.in_ok-folder.ensures f) ∙ ap (option_map string_bytes) c.in-Some.is) (ap (folder_file Followed name) (sym c.as_str.ensures.value) ∙ sym c.in_ok-name.ensures ∙ ap (option_map string_bytes) c.in-Some-2.is)
 
 pub returns : goal.returns
 returns c = λ f.
@@ -53,4 +54,4 @@ returns c = λ f.
     let number = number_is files trees file c.requires.walks.whole.parsed ∙ ap (λ n. position_of_file n files) (sym c.as_str-2.ensures.value) ∙ sym c.find.ensures ∙ c.in-None.is in
     sym (ap (entering call) number)
     ∙ of_file p c.args.self.now.question.variable.now name call (string_bytes c.in-Some.folder) (Some file)
-    (sym (c.in_ok-folder.ensures f) ∙ ap (option_map string_bytes) c.in-Some.is) (ap (file_in name) (sym c.as_str.ensures.value) ∙ sym c.in_ok-name.ensures ∙ ap (option_map string_bytes) c.in-Some-2.is)
+    (sym (c.in_ok-folder.ensures f) ∙ ap (option_map string_bytes) c.in-Some.is) (ap (folder_file Followed name) (sym c.as_str.ensures.value) ∙ sym c.in_ok-name.ensures ∙ ap (option_map string_bytes) c.in-Some-2.is)
