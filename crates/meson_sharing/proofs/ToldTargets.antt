@@ -12,9 +12,9 @@ use Rattle.meson_calls.specs.Parts.{Part, an_expression, a_statement}
 use Rattle.meson_calls.specs.Project.{Placed, Project, placed}
 use Rattle.meson_calls.specs.Roles.{has_role, role_calls, role_calls_among, with_role}
 use Rattle.meson_following.specs.Following.{Item, Mark, known, opaque, empty, follow_call, follow_marks}
-use Rattle.meson_sharing.specs.CodeTargets.{Target, sharing_names, target_of, targets_of_note}
+use Rattle.meson_sharing.specs.CodeTargets.{sharing_names, target_of, targets_of_note}
 use Rattle.meson_sharing.specs.CodeTold.{item_by, items_by, shared_with, sharers_by}
-use Rattle.meson_sharing.specs.Sharing.{or_none, sharer, sharers, ways_of_target}
+use Rattle.meson_sharing.specs.Sharing.{is_own, names_or_none, sharer, sharers, ways_of_target}
 use Rattle.meson_sharing.specs.Told.{Told, ToldItem, last_of, shared_by, told, told_item, told_mark, variable_of}
 use Rattle.meson_sharing.proofs.OwnMakers.{closed}
 
@@ -50,34 +50,46 @@ module _ (p : Project Span) where
 
 -- ---- who gets what is in the value of a maker
 
+-- what is said of a list that is read for one target alone, or is not, and which other targets get
+abbrev said : Bool → List (List ℕ) → Option (List (List ℕ))
+said own names = if own then Some [] else names_or_none names
+
+only_own : (own : Bool) (names : List (List ℕ)) → said own names ≡ Some [] → own ≡ true
+only_own true names is = refl
+only_own false [] is = absurd (let no : ⊥ = cc in no)
+only_own false (x ∷ names) is = absurd (let no : ⊥ = cc in no)
+
 module _ (p : Project Span) (c : Placed (Call Span)) where
   sharers_named : (m : CallRef) (cs : List (Placed (Call Span))) → sharing_names c.place m (map (target_of p) cs) ≡ filter_map (sharer p c m) cs
   sharers_named m [] = refl
   sharers_named m (d ∷ cs) = ap (cons_option (sharer p c m d)) (sharers_named m cs)
 
-  module _ (followed ways : List CallRef) (targets : List Target) (are_followed : followed ≡ (follow_call p c).followed) (are_ways : ways ≡ ways_of_target c)
-      (are_targets : targets ≡ map (target_of p) (role_calls p role.Target)) where
-    sharers_are : (m : CallRef) → sharers_by p c.place followed ways targets m ≡ sharers p c m
-    sharers_are m =
-        ap₂ or_none (closed p c false m followed ways are_followed are_ways)
-        (ap (sharing_names c.place m) are_targets ∙ sharers_named m (role_calls p role.Target))
+  pub own_is_not_shared : (m : CallRef) → is_own p c m ≡ true → sharers p c m ≡ Some []
+  own_is_not_shared m own = ap (λ is. said is (filter_map (sharer p c m) (role_calls p role.Target))) own
 
-    shared_is : (m : Option CallRef) → shared_with p c.place followed ways targets m ≡ shared_by p c m
+  pub not_shared_is_own : (m : CallRef) → sharers p c m ≡ Some [] → is_own p c m ≡ true
+  not_shared_is_own m = only_own (is_own p c m) (filter_map (sharer p c m) (role_calls p role.Target))
+
+  module _ (followed ways : List CallRef) (are_followed : followed ≡ (follow_call p c).followed) (are_ways : ways ≡ ways_of_target c) where
+    sharers_are : (m : CallRef) → sharers_by p c.place followed ways m ≡ sharers p c m
+    sharers_are m = ap₂ said (closed p c false m followed ways are_followed are_ways) (sharers_named m (role_calls p role.Target))
+
+    shared_is : (m : Option CallRef) → shared_with p c.place followed ways m ≡ shared_by p c m
     shared_is None = refl
     shared_is (Some m) = sharers_are m
 
-    item_is : (i : Item Span) → item_by p c.place followed ways targets i ≡ told_item p c i
+    item_is : (i : Item Span) → item_by p c.place followed ways i ≡ told_item p c i
     item_is i =
         let of : Option (List (List ℕ)) → ToldItem Span = λ s. record { item = i; variable = option_and_then (variable_of p) (last_of i.way.through); shared = s } in
         ap of (shared_is (last_of i.way.through))
 
-    items_are : (ms : List (Mark Span)) → items_by p c.place followed ways targets ms ≡ filter_map (told_mark p c) ms
+    items_are : (ms : List (Mark Span)) → items_by p c.place followed ways ms ≡ filter_map (told_mark p c) ms
     items_are [] = refl
     items_are (known i ∷ ms) = ap₂ (λ x xs. x ∷ xs) (item_is i) (items_are ms)
     items_are (opaque ∷ ms) = items_are ms
     items_are (empty q w ∷ ms) = items_are ms
 
-    pub told_is : (t : Told Span) (ms : List (Mark Span)) → ms ≡ follow_marks p c → t.items ≡ items_by p c.place followed ways targets ms
+    pub told_is : (t : Told Span) (ms : List (Mark Span)) → ms ≡ follow_marks p c → t.items ≡ items_by p c.place followed ways ms
         → t.unknown ≡ (told p c).unknown → t ≡ told p c
     told_is t ms are_marks items unknown =
         let of : List (ToldItem Span) → ℕ → Told Span = λ xs n. record { items = xs; unknown = n } in

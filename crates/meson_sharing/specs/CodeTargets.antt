@@ -7,7 +7,7 @@ use Rattle.meson_calls.specs.declared.call.Role.TheVariants as role
 use Rattle.meson_calls.specs.Calls.{Call, first_literal}
 use Rattle.meson_calls.specs.Notes.{Note, a_call, an_assignment, a_loop}
 use Rattle.meson_calls.specs.Project.{Project, Placed, placed}
-use Rattle.meson_calls.specs.Roles.{has_role}
+use Rattle.meson_calls.specs.Roles.{has_role, role_calls}
 use Rattle.meson_following.specs.CodeFollowing.{mark_view}
 use Rattle.meson_following.specs.Following.{Mark, follow_marks}
 use Rattle.meson_following.specs.Makers.{is_same_place}
@@ -25,6 +25,10 @@ target_view t = record { place = t.place; name = t.name; marks = map mark_view t
 
 abbrev pub target_of : Project Span → Placed (Call Span) → Target
 target_of p c = record { place = c.place; name = first_literal c.it; marks = follow_marks p c }
+
+-- those of a project, in file order and source order
+abbrev pub all_targets : Project Span → List Target
+all_targets p = map (target_of p) (role_calls p role.Target)
 
 -- that of a note, if it is the call of a target
 abbrev pub targets_at : Project Span → CallRef → Note Span → List Target

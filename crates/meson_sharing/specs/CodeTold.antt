@@ -1,5 +1,5 @@
 -- What the code tells of the sources of a target.
-use Rattle.std.specs.Prelude.{◌≡◌, ℕ, List, [], map, MatchOption, ⊤, false, Option, Some, None, option_and_then}
+use Rattle.std.specs.Prelude.{◌≡◌, ℕ, List, [], map, if◌then◌else◌, MatchOption, ⊤, false, Option, Some, None, option_and_then}
 use Rattle.std.specs.List.{filter_map}
 use Rattle.meson_lex.specs.declared.kinds.Span.{Span}
 use Rattle.meson_calls.specs.declared.call.CallRef.{CallRef}
@@ -7,12 +7,13 @@ use Rattle.meson_calls.specs.Project.{Project}
 use Rattle.meson_following.specs.CodeFollowing.{followed_project, item_view}
 use Rattle.meson_following.specs.Following.{Item, Mark, known, opaque, empty}
 use Rattle.meson_sharing.specs.declared.told.Answer.{Answer}
+use Rattle.meson_sharing.specs.declared.told.Kept.{Kept}
 use Rattle.meson_sharing.specs.declared.told.Sharing.{Sharing}
 use Rattle.meson_sharing.specs.declared.told.Told as code
 use Rattle.meson_sharing.specs.declared.told.ToldItem as code_item
 use Rattle.meson_sharing.specs.CodeOwning.{is_closed_by}
-use Rattle.meson_sharing.specs.CodeTargets.{Target, sharing_names, target_view}
-use Rattle.meson_sharing.specs.Sharing.{or_none}
+use Rattle.meson_sharing.specs.CodeTargets.{all_targets, sharing_names, target_view}
+use Rattle.meson_sharing.specs.Sharing.{names_or_none}
 use Rattle.meson_sharing.specs.Told.{Told, ToldItem, last_of, variable_of}
 
 abbrev pub told_item_view : code_item.ToldItem → ToldItem Span
@@ -21,10 +22,10 @@ told_item_view i = record { item = item_view i.item; variable = i.variable; shar
 abbrev pub told_view : code.Told → Told Span
 told_view t = record { items = map told_item_view t.items.items; unknown = t.unknown }
 
--- which other targets get what is in the value of a maker: of a call that follows these values and has these ways, among these targets
-module _ (p : Project Span) (call : CallRef) (followed ways : List CallRef) (targets : List Target) where
+-- which other targets get what is in the value of a maker: of a call that follows these values and has these ways
+module _ (p : Project Span) (call : CallRef) (followed ways : List CallRef) where
   abbrev pub sharers_by : CallRef → Option (List (List ℕ))
-  sharers_by m = or_none (is_closed_by p false followed ways m) (sharing_names call m targets)
+  sharers_by m = if is_closed_by p false followed ways m then Some [] else names_or_none (sharing_names call m (all_targets p))
 
   abbrev pub shared_with : Option CallRef → Option (List (List ℕ))
   shared_with None = Some []
@@ -43,19 +44,19 @@ module _ (p : Project Span) (call : CallRef) (followed ways : List CallRef) (tar
 
 module _ (s : Sharing) where
   abbrev pub sharers_with : CallRef → Option (List (List ℕ))
-  sharers_with = sharers_by (followed_project s.follower) s.call.now s.followed.now s.ways.now (map target_view s.targets.now)
+  sharers_with = sharers_by (followed_project s.follower) s.call.now s.followed.now s.ways.now
 
   abbrev pub shared_of : Option CallRef → Option (List (List ℕ))
-  shared_of = shared_with (followed_project s.follower) s.call.now s.followed.now s.ways.now (map target_view s.targets.now)
+  shared_of = shared_with (followed_project s.follower) s.call.now s.followed.now s.ways.now
 
   abbrev pub item_with : Item Span → ToldItem Span
-  item_with = item_by (followed_project s.follower) s.call.now s.followed.now s.ways.now (map target_view s.targets.now)
+  item_with = item_by (followed_project s.follower) s.call.now s.followed.now s.ways.now
 
   abbrev pub mark_with : Mark Span → Option (ToldItem Span)
-  mark_with = mark_by (followed_project s.follower) s.call.now s.followed.now s.ways.now (map target_view s.targets.now)
+  mark_with = mark_by (followed_project s.follower) s.call.now s.followed.now s.ways.now
 
   abbrev pub items_with : List (Mark Span) → List (ToldItem Span)
-  items_with = items_by (followed_project s.follower) s.call.now s.followed.now s.ways.now (map target_view s.targets.now)
+  items_with = items_by (followed_project s.follower) s.call.now s.followed.now s.ways.now
 
   -- the variable in whose value something is that was met through this one, if it was met through one
   abbrev pub variable_with : Option CallRef → Option (List ℕ)
@@ -68,3 +69,7 @@ module _ (s : Sharing) where
   -- so it is, if there is one
   abbrev pub IsAnswer : Option Answer → Type 0
   IsAnswer a = MatchOption a ⊤ IsAnswered
+
+  -- what is kept is right: the targets, if there are some, are all of the project
+  abbrev pub IsKept : Kept → Type 0
+  IsKept k = MatchOption k.targets ⊤ (λ ts. map target_view ts.items ≡ all_targets (followed_project s.follower)) × IsAnswer k.last

@@ -1,5 +1,5 @@
 -- What it means that a list is read for one target alone.
-use Rattle.std.specs.Prelude.{◌≡◌, ◌⊎◌, ℕ, true, false, List, [], ◌∷◌}
+use Rattle.std.specs.Prelude.{◌≡◌, ◌⊎◌, ℕ, true, false, List, [], ◌∷◌, Some}
 use Rattle.std.specs.List.{All, Contains}
 use Rattle.meson_lex.specs.declared.kinds.Span.{Span}
 use Rattle.meson_calls.specs.declared.call.CallRef.{CallRef}
@@ -9,7 +9,7 @@ use Rattle.meson_following.specs.Flows.{is_in}
 use Rattle.meson_following.specs.Following.{follow_call}
 use Rattle.meson_following.specs.Makers.{Known}
 use Rattle.meson_following.specs.Reads.{keeps_one_of, may_leave_out, reads}
-use Rattle.meson_sharing.specs.Sharing.{from_maker, is_own, is_unshared, names_of, reads_of, uses, ways_at, ways_of_target}
+use Rattle.meson_sharing.specs.Sharing.{from_maker, is_own, is_unshared, names_of, reads_of, sharers, uses, ways_at, ways_of_target}
 
 -- What is known of a variable may have left out makers, of which the value of each is assigned to some variables alone. So a variable may hold the value of a
 -- maker that is kept, or of one that is assigned to it.
@@ -56,6 +56,14 @@ UnsharedAreReadForOne = (p : Project Span) (c : Placed (Call Span)) (m : CallRef
 -- the law
 abbrev pub OwnAreUnshared : Type 0
 OwnAreUnshared = (p : Project Span) (c : Placed (Call Span)) (m : CallRef) → is_own p c m ≡ true → is_unshared p c m ≡ true
+
+-- the law: no other target is said to get what is in an own list
+abbrev pub OwnAreNotShared : Type 0
+OwnAreNotShared = (p : Project Span) (c : Placed (Call Span)) (m : CallRef) → is_own p c m ≡ true → sharers p c m ≡ Some []
+
+-- the law: only of an own list it is said that nothing else gets it
+abbrev pub NotSharedAreOwn : Type 0
+NotSharedAreOwn = (p : Project Span) (c : Placed (Call Span)) (m : CallRef) → sharers p c m ≡ Some [] → is_own p c m ≡ true
 
 -- ---- other calls and other values
 

@@ -188,12 +188,12 @@ abbrev pub sharer : {S : Type 0} → Project S → Placed (Call S) → CallRef �
 sharer p c m other =
     if not (is_same_place other.place c.place) && list_any (is_item_in m) (follow_marks p other) then first_literal other.it else None
 
--- where there is no other target, the list is the target's own, or it is read for something that is not a target
-abbrev pub or_none : Bool → List (List ℕ) → Option (List (List ℕ))
-or_none own [] = if own then Some [] else None
-or_none own (x ∷ xs) = Some (x ∷ xs)
+-- where no other target gets a list that is not the target's own, it is read for something that is not a target
+abbrev pub names_or_none : List (List ℕ) → Option (List (List ℕ))
+names_or_none [] = None
+names_or_none (x ∷ xs) = Some (x ∷ xs)
 
--- The names of the other targets that get what is in the value of a maker, of those whose name is a literal. `None` where it is not the target's own, and there
--- is no such target.
+-- The names of the other targets that get what is in the value of a maker, of those whose name is a literal. There are none where it is the target's own.
+-- `None` where it is not, and there is no such target.
 abbrev pub sharers : {S : Type 0} → Project S → Placed (Call S) → CallRef → Option (List (List ℕ))
-sharers p c m = or_none (is_own p c m) (filter_map (sharer p c m) (role_calls p role.Target))
+sharers p c m = if is_own p c m then Some [] else names_or_none (filter_map (sharer p c m) (role_calls p role.Target))

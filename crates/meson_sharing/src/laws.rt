@@ -1,6 +1,7 @@
 //! Laws of lists that are read for one target alone. The functions do nothing: what they ensure is the law.
 
-ghost use Rattle.meson_sharing.specs.Laws.{OthersReadNothing, OwnAreReadForOne, OwnAreUnshared, OwnReachNoOther, UnsharedAreReadForOne};
+ghost use Rattle.meson_sharing.specs.Laws.{NotSharedAreOwn, OthersReadNothing, OwnAreNotShared, OwnAreReadForOne, OwnAreUnshared};
+ghost use Rattle.meson_sharing.specs.Laws.{OwnReachNoOther, UnsharedAreReadForOne};
 ghost use Rattle.meson_sharing.specs.SharedLists.{Alone, OtherNames, OtherReads, OtherTargets, Sharers, Through, Uses};
 ghost use Rattle.meson_sharing.specs.ToldRows.{Branching, Entering, InTurn, Looping, Shared};
 
@@ -29,6 +30,8 @@ pub fn own_lists()
     ensures own_are_read_for_one { OwnAreReadForOne }
     ensures unshared_are_read_for_one { UnsharedAreReadForOne }
     ensures own_are_unshared { OwnAreUnshared }
+    ensures own_are_not_shared { OwnAreNotShared }
+    ensures not_shared_are_own { NotSharedAreOwn }
     ensures others_read_nothing { OthersReadNothing }
     ensures own_reach_no_other { OwnReachNoOther }
 {}

@@ -8,13 +8,11 @@ ghost use Rattle.meson_syntax.specs.declared.operator.Bracket.TheVariants as bra
 ghost use Rattle.meson_calls.specs.ChosenNotes.{Source, placed_call};
 ghost use Rattle.meson_calls.specs.Loading.{IsProject, loaded_from};
 ghost use Rattle.meson_calls.specs.Notes.{note_view};
-ghost use Rattle.meson_calls.specs.Roles.{role_calls};
 ghost use Rattle.meson_calls.specs.Strings.{AreGood, note_words};
-ghost use Rattle.meson_calls.specs.declared.call.Role.TheVariants as role;
 ghost use Rattle.meson_following.specs.CodeFollowing.{followed_project, mark_view};
 ghost use Rattle.meson_following.specs.Flows.{is_in};
 ghost use Rattle.meson_following.specs.Makers.{is_same_place};
-ghost use Rattle.meson_sharing.specs.CodeTargets.{sharing_name, sharing_names, target_of, target_view, targets_of_note};
+ghost use Rattle.meson_sharing.specs.CodeTargets.{all_targets, sharing_name, sharing_names, target_of, target_view, targets_of_note};
 ghost use Rattle.meson_sharing.specs.Sharing.{is_item_in};
 
 use meson_calls::CallRef;
@@ -85,8 +83,7 @@ fn take_target<'t>(
 /// The targets of a project, in file order and source order.
 pub(crate) fn targets_of(follower: &Follower<'_>) -> Result<Vec<Target>, AllocError>
     requires { IsProject (loaded_from follower.now.files.now follower.now.trees.now) }
-    ensures { IfOk result (λ found. map target_view found.items
-        ≡ map (target_of (followed_project follower.now)) (role_calls (followed_project follower.now) role.Target)) }
+    ensures { IfOk result (λ found. map target_view found.items ≡ all_targets (followed_project follower.now)) }
 {
     let taken = notes_of(follower.alloc, follower.files, follower.trees)?;
     let notes = taken.all(follower.alloc)?;

@@ -1,13 +1,14 @@
 //! What is reported of the sources of a target, where variables are followed.
 
-ghost use Rattle.std.specs.Prelude.{◌≡◌, ◌++◌, ◌∷◌, [], IfOk, OnOk, count_by, map};
+ghost use Rattle.std.specs.Prelude.{◌≡◌, ◌++◌, ◌∷◌, [], IfOk, MatchOption, OnOk, ⊤, count_by, map};
 ghost use Rattle.std.specs.List.{cons_option};
 ghost use Rattle.meson_calls.specs.ChosenNotes.{Source, placed_call};
 ghost use Rattle.meson_calls.specs.GoodLists.{GoodListing};
 ghost use Rattle.meson_calls.specs.Loading.{IsProject, loaded_from};
 ghost use Rattle.meson_syntax.specs.View.{list_view};
 ghost use Rattle.meson_following.specs.CodeFollowing.{followed_project, item_view, mark_view};
-ghost use Rattle.meson_sharing.specs.CodeTold.{IsAnswer, items_with, item_with, mark_with, sharers_with, told_item_view, told_view};
+ghost use Rattle.meson_sharing.specs.CodeTargets.{all_targets, target_view};
+ghost use Rattle.meson_sharing.specs.CodeTold.{IsKept, items_with, item_with, mark_with, sharers_with, told_item_view, told_view};
 ghost use Rattle.meson_sharing.specs.Told.{is_opaque, told, told_at, variable_of};
 
 use crate::owning::is_closed_by;
@@ -48,14 +49,20 @@ pub(crate) struct Answer {
     pub shared: Option<Many<Text>>,
 }
 
-/// What decides which other targets get what is in the sources of a target: its call, the values that it follows, its ways, and all targets.
+/// What is kept from one item to the next: all targets, which are found when they are first needed, and the last answer.
+#[derive(Drop)]
+pub(crate) struct Kept {
+    pub targets: Option<Vec<Target>>,
+    pub last: Option<Answer>,
+}
+
+/// What decides which other targets get what is in the sources of a target: its call, the values that it follows, and its ways.
 #[derive(Clone, Copy)]
 pub(crate) struct Sharing<'t> {
     pub follower: Follower<'t>,
     pub call: &'t CallRef,
     pub followed: &'t [CallRef],
     pub ways: &'t [CallRef],
-    pub targets: &'t [Target],
 }
 
 /// Equal names.
@@ -102,34 +109,58 @@ fn count_unknown(marks: &[Mark]) -> usize
         .count()
 }
 
+/// All targets of the project: those that are kept, if they are.
+fn kept_targets(
+    follower: &Follower<'_>,
+    kept: Option<Vec<Target>>,
+) -> Result<Vec<Target>, AllocError>
+    requires project { IsProject (loaded_from follower.now.files.now follower.now.trees.now) }
+    requires kept { MatchOption kept ⊤ (λ ts. map target_view ts.items ≡ all_targets (followed_project follower.now)) }
+    ensures { IfOk result (λ ts. map target_view ts.items ≡ all_targets (followed_project follower.now)) }
+{
+    match kept {
+        Some(targets) => Ok(targets),
+        None => targets_of(follower),
+    }
+}
+
 impl Sharing<'_> {
     /// The names of the other targets that get what is in the value of a maker; `None` where none does, but something that is no target.
-    fn sharers(&self, maker: &CallRef) -> Result<Option<Many<Text>>, AllocError>
-        requires { IsProject (loaded_from self.now.follower.files.now self.now.follower.trees.now) }
-        ensures { IfOk result (λ names. names ≡ sharers_with self.now maker.now) }
+    /// No other target is looked for where the value is read for this one alone.
+    fn sharers(&self, maker: &CallRef, kept: &mut Kept) -> Result<Option<Many<Text>>, AllocError>
+        requires project { IsProject (loaded_from self.now.follower.files.now self.now.follower.trees.now) }
+        requires kept { IsKept self.now kept.now }
+        ensures names { IfOk result (λ names. names ≡ sharers_with self.now maker.now) }
+        ensures kept { OnOk result (IsKept self.now kept.new) }
     {
-        let own = is_closed_by(&self.follower, false, self.followed, self.ways, maker)?;
-        let names = sharing_names(self.follower.alloc, self.targets, self.call, maker)?;
-        if names.is_empty() && !own {
+        let alloc = self.follower.alloc;
+        if is_closed_by(&self.follower, false, self.followed, self.ways, maker)? {
+            return Ok(Some(Many::new(alloc)));
+        }
+        let targets = kept_targets(&self.follower, kept.targets.take())?;
+        let names = sharing_names(alloc, targets.as_slice(), self.call, maker)?;
+        kept.targets = Some(targets);
+        if names.is_empty() {
             return Ok(None);
         }
         Ok(Some(Many::of(names)))
     }
 
     /// The answer for a maker: the last one, if that is for the same.
-    fn answer(&self, maker: &CallRef, last: Option<Answer>) -> Result<Answer, AllocError>
+    fn answer(&self, maker: &CallRef, kept: &mut Kept) -> Result<Answer, AllocError>
         requires project { IsProject (loaded_from self.now.follower.files.now self.now.follower.trees.now) }
-        requires last { IsAnswer self.now last }
-        ensures { IfOk result (λ a. (a.maker ≡ maker.now) × (a.variable ≡ variable_of (followed_project self.now.follower) maker.now)
+        requires kept { IsKept self.now kept.now }
+        ensures answer { IfOk result (λ a. (a.maker ≡ maker.now) × (a.variable ≡ variable_of (followed_project self.now.follower) maker.now)
             × (a.shared ≡ sharers_with self.now maker.now)) }
+        ensures kept { OnOk result (IsKept self.now kept.new) }
     {
-        if let Some(answer) = last {
+        if let Some(answer) = kept.last.take() {
             if is_same_place(&answer.maker, maker) {
                 return Ok(answer);
             }
         }
         let variable = variable_of(&self.follower, maker)?;
-        let shared = self.sharers(maker)?;
+        let shared = self.sharers(maker, kept)?;
         let maker = copy_place(self.follower.alloc, maker)?;
         Ok(Answer {
             maker,
@@ -138,17 +169,17 @@ impl Sharing<'_> {
         })
     }
 
-    /// Takes an item with the names of the other targets that get it, and returns the last answer.
+    /// Takes an item with the names of the other targets that get it.
     fn take_item(
         &self,
         item: Item,
-        last: Option<Answer>,
+        kept: &mut Kept,
         items: &mut Vec<ToldItem>,
-    ) -> Result<Option<Answer>, AllocError>
+    ) -> Result<(), AllocError>
         requires project { IsProject (loaded_from self.now.follower.files.now self.now.follower.trees.now) }
-        requires last { IsAnswer self.now last }
+        requires kept { IsKept self.now kept.now }
         ensures all { OnOk result (map told_item_view items.new.items ≡ map told_item_view items.old.items ++ item_with self.now (item_view item) ∷ []) }
-        ensures last { IfOk result (λ a. IsAnswer self.now a) }
+        ensures kept { OnOk result (IsKept self.now kept.new) }
     {
         let alloc = self.follower.alloc;
         let Some(maker) = item.way.through.as_slice().last() else {
@@ -157,9 +188,9 @@ impl Sharing<'_> {
                 variable: None,
                 shared: Some(Many::new(alloc)),
             })?;
-            return Ok(last);
+            return Ok(());
         };
-        let answer = self.answer(maker, last)?;
+        let answer = self.answer(maker, kept)?;
         let variable = copy_name(&answer.variable)?;
         let shared = copy_names(alloc, &answer.shared)?;
         items.push(ToldItem {
@@ -167,25 +198,26 @@ impl Sharing<'_> {
             variable,
             shared,
         })?;
-        Ok(Some(answer))
+        kept.last = Some(answer);
+        Ok(())
     }
 
-    /// Takes what is met, if it is an item, and returns the last answer.
+    /// Takes what is met, if it is an item.
     fn take_mark(
         &self,
         mark: Mark,
-        last: Option<Answer>,
+        kept: &mut Kept,
         items: &mut Vec<ToldItem>,
-    ) -> Result<Option<Answer>, AllocError>
+    ) -> Result<(), AllocError>
         requires project { IsProject (loaded_from self.now.follower.files.now self.now.follower.trees.now) }
-        requires last { IsAnswer self.now last }
+        requires kept { IsKept self.now kept.now }
         ensures all { OnOk result (map told_item_view items.new.items
             ≡ map told_item_view items.old.items ++ cons_option (mark_with self.now (mark_view mark)) []) }
-        ensures last { IfOk result (λ a. IsAnswer self.now a) }
+        ensures kept { OnOk result (IsKept self.now kept.new) }
     {
         match mark {
-            Mark::Known(item) => self.take_item(item, last, items),
-            _ => Ok(last),
+            Mark::Known(item) => self.take_item(item, kept, items),
+            _ => Ok(()),
         }
     }
 
@@ -195,9 +227,12 @@ impl Sharing<'_> {
         ensures { IfOk result (λ items. map told_item_view items.items ≡ items_with self.now (map mark_view marks.items)) }
     {
         let mut items = Vec::new(self.follower.alloc);
-        let mut last = None;
+        let mut kept = Kept {
+            targets: None,
+            last: None,
+        };
         for mark in marks {
-            last = self.take_mark(mark, last, &mut items)?;
+            self.take_mark(mark, &mut kept, &mut items)?;
         }
         Ok(items)
     }
@@ -217,13 +252,11 @@ fn tell_of<'t>(
 {
     let Following { marks, followed } = follower.follow_call(call, source, arguments)?;
     let ways = ways_of_sources(follower.alloc, call, source, arguments)?;
-    let targets = targets_of(follower)?;
     let sharing = Sharing {
         follower: *follower,
         call,
         followed: followed.as_slice(),
         ways: ways.as_slice(),
-        targets: targets.as_slice(),
     };
     let unknown = count_unknown(marks.as_slice());
     let items = sharing.items(marks)?;

@@ -16,8 +16,8 @@ loop-mark-preserved c =
       joined =
           c.loop-mark.invariant.joined ∙ ap (λ xs. before ++ xs) c.in-Some.ensures.steps.0 ∙ sym (append_assoc before (c.in-Some.mark ∷ []) (into_iter_items c.next.new.self));
       told =
-          c.in_ok-last.ensures.all
+          c.in_ok-take_mark.ensures.all
           ∙ ap (λ xs. xs ++ cons_option (mark_with s mark) []) c.loop-mark.invariant.told
           ∙ sym (ap (items_with s) (map-append mark_view before (c.in-Some.mark ∷ [])) ∙ filter_map-append (mark_with s) (map mark_view before) (mark ∷ []));
-      last = c.in_ok-last.ensures.last;
+      kept = c.in_ok-take_mark.ensures.kept;
     }

@@ -13,7 +13,7 @@ returns-clause-all c =
     let item = c.args.item in
     let before = c.args.items.now.items in
     let maker : last_of item.way.through.items ≡ Some c.in-Some.maker.now = ap last_of (sym c.as_slice.ensures.value) ∙ sym c.in-Some.ensures.value in
-    let answer = c.in_ok-answer.ensures in
+    let answer = c.in_ok-answer.ensures.answer in
     let variable = c.in_ok-variable.ensures ∙ answer.1 ∙ sym (ap (variable_with s) maker) in
     let shared = c.in_ok-shared.ensures ∙ answer.2 ∙ sym (ap (shared_of s) maker) in
     let of : Option (List ℕ) → Option (List (List ℕ)) → ToldItem Span = λ name names. record { item = item_view item; variable = name; shared = names } in
