@@ -1,5 +1,5 @@
 -- A listing is refused as what is told of its call.
-use Rattle.std.proofs.Common.{◌≡◌, ℕ, List, Some, sym, ap, ◌∙◌, subst}
+use Rattle.std.proofs.Common.{◌≡◌, Some, sym, ap, ◌∙◌, subst}
 use Rattle.std.specs.Prelude.{Result, Ok, Err, option_map, option_and_then}
 use Rattle.serde_json.specs.Data.{Data}
 use Rattle.meson_lex.specs.declared.kinds.Span.{Span}

@@ -3,8 +3,7 @@ use Rattle.std.proofs.Common.{◌≡◌, ◌∙◌, ℕ, false, List, [], ◌∷
 use Rattle.std.specs.Prelude.{option_and_then, option_map, option_to_list}
 use Rattle.std.proofs.lemmas.List.{append-nil}
 use Rattle.serde_json.specs.Data.{Data, Members, null, boolean, number, string, array, object, no_members, put}
-use Rattle.serde_json.specs.View.{items_of}
-use Rattle.serde_json.specs.Written.{has_float, items_have_float, members_have_float}
+use Rattle.serde_json.specs.Written.{has_float, members_have_float}
 use Rattle.meson_lex.specs.declared.kinds.Span.{Span}
 use Rattle.meson_splice.specs.Patch.{then_ok}
 use Rattle.meson_splice.specs.declared.file_set.File.{File}
@@ -24,7 +23,7 @@ use Rattle.meson_variables.specs.declared.source.SourceItem.{SourceItem}
 use Rattle.meson_variables.specs.declared.source.Sources.{Sources}
 use Rattle.meson_sharing.specs.Told.{Told, ToldItem}
 use Rattle.meson_sources.specs.Extras.{extra_files}
-use Rattle.meson_details.specs.Details.{head, keywords}
+use Rattle.meson_details.specs.Details.{head}
 use Rattle.meson_details.specs.declared.details.Head.{Head}
 use Rattle.meson_details.specs.declared.details.Shown.{Shown}
 use Rattle.meson_steps.specs.declared.argument.ValueName.{ValueName}
