@@ -4,6 +4,7 @@ use Rattle.std.specs.Prelude.{if◌then◌else◌, is_none, Option, Some, None}
 use Rattle.meson_splice.specs.declared.file_set.File.{File}
 use Rattle.meson_splice.specs.Files.{position_of_file}
 use Rattle.meson_edit.specs.Edits.{is_empty}
+use Rattle.meson_calls.specs.declared.call.Reading.TheVariants.{Written}
 use Rattle.meson_calls.specs.Calls.{is}
 use Rattle.meson_calls.specs.Loading.{Loaded}
 use Rattle.meson_calls.specs.declared.call.Role.TheVariants as role
@@ -97,9 +98,9 @@ abbrev pub no_call_notes : List ℕ → List ℕ → List HeldCall → List Held
 no_call_notes f id cs subdirs = uncalled_notes f cs ++ missing_notes id (codes "calls of it without a literal name") cs subdirs
 
 abbrev pub no_call : Loaded → Callee → List ℕ → Explanation
-no_call l callee.Target id = not_found l role.Target id
+no_call l callee.Target id = not_found Written l role.Target id
 no_call l (callee.Function f) id = record {
-  notes = no_call_notes f id (calls_held l f) (subdirs_held l);
+  notes = no_call_notes f id (calls_held l f) (subdirs_held Written l);
   help = codes "a call is found by its name or its variable, which list --of FUNCTION shows, or by its line with at FILE:LINE" ∷ [];
 }
 

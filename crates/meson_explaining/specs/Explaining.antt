@@ -1,5 +1,7 @@
 -- Why a command is refused, in words for people.
 use Rattle.std.specs.Prelude.{ℕ, List, [], ◌∷◌, ◌++◌, codes, Option, Some, None}
+use Rattle.meson_calls.specs.declared.call.Reading.{Reading}
+use Rattle.meson_calls.specs.declared.call.Reading.TheVariants.{Written}
 use Rattle.meson_calls.specs.declared.call.Role.{Role}
 use Rattle.meson_calls.specs.declared.call.Role.TheVariants as role
 use Rattle.meson_calls.specs.declared.refusal.Refusal.{Refusal}
@@ -140,9 +142,14 @@ not_statement l c =
 
 -- ---- each refusal
 
+-- how the build files are read for a command
+abbrev pub reading_for : Command → Reading
+reading_for (command.TargetInfo target reading) = reading
+reading_for _ = Written
+
 abbrev pub call_explanation : Loaded → Command → Refusal → Explanation
 call_explanation l c refusal.NoProject = no_project l
-call_explanation l c refusal.NotFound = and_help (not_found l (subject c).0 (subject c).1.id) (folder_lines (subject c).1.folder)
+call_explanation l c refusal.NotFound = and_help (not_found (reading_for c) l (subject c).0 (subject c).1.id) (folder_lines (subject c).1.folder)
 call_explanation l c refusal.Ambiguous = ambiguous l (subject c).0 (subject c).1
 call_explanation l c (refusal.UnknownKey key) = unknown_key c key
 call_explanation l c (refusal.WrongKind key) = wrong_kind c key

@@ -1,5 +1,6 @@
--- Why an id names no call.
+-- Why an id names no call, where the build files are read so.
 use Rattle.std.specs.Prelude.{ℕ, List, [], ◌∷◌, ◌++◌, length, filter, codes, is_none}
+use Rattle.meson_calls.specs.declared.call.Reading.{Reading}
 use Rattle.meson_calls.specs.declared.call.Role.{Role}
 use Rattle.meson_calls.specs.declared.call.Role.TheVariants as role
 use Rattle.meson_calls.specs.Loading.{Loaded}
@@ -22,13 +23,13 @@ abbrev pub missing_notes : List ℕ → List ℕ → List HeldCall → List Held
 missing_notes id nameless cs subdirs =
     near_notes id cs ++ (few_notes 2 (codes ", not entered") (codes "further subdir calls that are not entered") subdirs ++ further nameless (unnamed cs))
 
-abbrev pub not_found : Loaded → Role → List ℕ → Explanation
-not_found l role.Target id = record {
-  notes = missing_notes id (codes "targets without a literal name") (targets_held l) (subdirs_held l);
+abbrev pub not_found : Reading → Loaded → Role → List ℕ → Explanation
+not_found reading l role.Target id = record {
+  notes = missing_notes id (codes "targets without a literal name") (targets_held l) (subdirs_held reading l);
   help = codes "a target is found by its name or its variable, which list shows; --sourcedir FOLDER reads the targets of another folder" ∷ [];
 }
-not_found l role.Dependency id = record {
-  notes = missing_notes id (codes "dependencies without a literal name") (calls_held l (codes "dependency")) (subdirs_held l);
+not_found reading l role.Dependency id = record {
+  notes = missing_notes id (codes "dependencies without a literal name") (calls_held l (codes "dependency")) (subdirs_held reading l);
   help = codes "a dependency is found by its name or its variable; --sourcedir FOLDER reads the dependencies of another folder" ∷ [];
 }
-not_found l role.Project id = only_help (codes "the id of a project is /")
+not_found reading l role.Project id = only_help (codes "the id of a project is /")

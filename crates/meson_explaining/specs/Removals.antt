@@ -2,6 +2,7 @@
 use Rattle.std.specs.Prelude.{ℕ, ◌-◌, ◌==◌, Bool, true, false, ◌&&◌, List, [], ◌∷◌, ◌++◌, bytes_eq, codes, filter, find, is_none, length, map, take}
 use Rattle.std.specs.Prelude.{Option, Some, None, Result, Ok, Err}
 use Rattle.std.specs.List.{list_any}
+use Rattle.meson_calls.specs.declared.call.Reading.TheVariants.{Written}
 use Rattle.meson_calls.specs.Loading.{Loaded, project}
 use Rattle.meson_calls.specs.declared.call.CallRef.{CallRef}
 use Rattle.meson_calls.specs.declared.call.Role.TheVariants as role
@@ -63,7 +64,7 @@ few_unnamed cs =
 -- the calls that may set any variable, so that the value of no variable is known
 abbrev pub setter_notes : Loaded → List Note
 setter_notes l =
-    few_notes 2 (codes ", not entered: it may set any variable") (codes "further subdir calls that are not entered") (subdirs_held l)
+    few_notes 2 (codes ", not entered: it may set any variable") (codes "further subdir calls that are not entered") (subdirs_held Written l)
     ++ few_unnamed (calls_held l (codes "set_variable"))
 
 abbrev pub not_known_notes : Loaded → CallName → List ℕ → List SourceItem → List (List ℕ) → List Note

@@ -12,6 +12,7 @@ use crate::bad_names::one_note;
 use crate::calls::{Telling, add_few, add_further};
 use crate::explaining::with_help;
 use crate::explanation::{Explanation, Note, Spot};
+use meson_calls::Reading;
 use meson_inventory::assignments::{HeldAssignment, assignments_held};
 use meson_inventory::holdings::{HeldCall, calls_held, holdings_of};
 use meson_plan::Project;
@@ -93,7 +94,7 @@ fn callee_calls(
 {
     match callee {
         Callee::Target => {
-            let held = holdings_of(alloc, project)?;
+            let held = holdings_of(alloc, Reading::Written, project)?;
             Ok(held.targets)
         }
         Callee::Function(function) => calls_held(alloc, project, function.get()),

@@ -20,10 +20,10 @@ use crate::reasons::{
     not_statement, not_valid, other_kind, shared, there_already, too_deep, too_large, unresolved,
 };
 use crate::sources::{extras_at, source_notes, sources_at};
-use crate::subject::{Subject, subject_of};
+use crate::subject::{Subject, reading_for, subject_of};
 use crate::values::value_notes;
 use crate::ways::ways_for;
-use meson_calls::Refusal;
+use meson_calls::{Reading, Refusal};
 use meson_inventory::holdings::calls_named;
 use meson_plan::{Project, Role};
 use meson_splice::{Many, Text};
@@ -244,16 +244,17 @@ pub fn explain(
     }
 }
 
-/// Why nothing is named.
+/// Why nothing is named, where the build files are read so.
 fn call_missing(
     alloc: Global,
+    reading: Reading,
     project: &Project,
     subject: Subject<'_>,
 ) -> Result<Explanation, AllocError>
     ensures { let name = name_at subject.entry.name in
-        IfOk result (λ e. e ≡ and_help (not_found project.now subject.entry.role name.id) (folder_lines name.folder)) }
+        IfOk result (λ e. e ≡ and_help (not_found reading project.now subject.entry.role name.id) (folder_lines name.folder)) }
 {
-    let explanation = not_found(alloc, project, subject.role, subject.name.id)?;
+    let explanation = not_found(alloc, reading, project, subject.role, subject.name.id)?;
     and_folder(alloc, explanation, subject.name.folder)
 }
 
@@ -268,7 +269,9 @@ fn explain_call(
 {
     match refusal {
         Refusal::NoProject => no_project(alloc, project),
-        Refusal::NotFound => call_missing(alloc, project, subject_of(command)),
+        Refusal::NotFound => {
+            call_missing(alloc, reading_for(command), project, subject_of(command))
+        },
         Refusal::Ambiguous => ambiguous(alloc, project, subject_of(command)),
         Refusal::UnknownKey(key) => unknown_key(alloc, command, key.get()),
         Refusal::WrongKind(key) => wrong_kind(alloc, command, key.get()),

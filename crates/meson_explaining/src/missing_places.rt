@@ -12,6 +12,7 @@ use crate::explanation::{Explanation, Note};
 use crate::keys::nearest_key;
 use crate::not_found::{missing_notes, not_found};
 use crate::targets::folder_notes;
+use meson_calls::Reading;
 use meson_inventory::assignments::{HeldAssignment, assignments_held};
 use meson_inventory::holdings::{HeldCall, calls_held, holdings_of};
 use meson_plan::{Project, Role};
@@ -66,7 +67,7 @@ fn no_call_of(
     ensures { IfOk result (λ e. e ≡ no_call project.now (Callee.Function function.now) id.now) }
 {
     let calls = calls_held(alloc, project, function)?;
-    let held = holdings_of(alloc, project)?;
+    let held = holdings_of(alloc, Reading::Written, project)?;
     let notes = no_call_notes(alloc, function, id, calls.get(), held.not_entered.get())?;
     with_help(
         alloc,
@@ -145,7 +146,7 @@ fn nothing_there(
         PlaceName::Call {
             callee: Callee::Target,
             id,
-        } => not_found(alloc, project, Role::Target, id.get()),
+        } => not_found(alloc, Reading::Written, project, Role::Target, id.get()),
         PlaceName::Call {
             callee: Callee::Function(function),
             id,

@@ -7,6 +7,7 @@ use crate::calls::{Telling, add_few, add_further};
 use crate::explaining::with_help;
 use crate::explanation::{Explanation, Note};
 use crate::nearest::near_notes;
+use meson_calls::Reading;
 use meson_inventory::holdings::{HeldCall, Holdings, calls_held, holdings_of};
 use meson_plan::{Project, Role};
 use std::alloc::{AllocError, Global};
@@ -40,13 +41,18 @@ pub(crate) fn missing_notes(
 }
 
 /// Why no target has the id.
-fn no_target(alloc: Global, project: &Project, id: &str) -> Result<Explanation, AllocError>
-    ensures { IfOk result (λ e. e ≡ not_found project.now Role.Target id.now) }
+fn no_target(
+    alloc: Global,
+    reading: Reading,
+    project: &Project,
+    id: &str,
+) -> Result<Explanation, AllocError>
+    ensures { IfOk result (λ e. e ≡ not_found reading project.now Role.Target id.now) }
 {
     let Holdings {
         targets,
         not_entered,
-    } = holdings_of(alloc, project)?;
+    } = holdings_of(alloc, reading, project)?;
     let notes = missing_notes(
         alloc,
         id,
@@ -62,11 +68,16 @@ fn no_target(alloc: Global, project: &Project, id: &str) -> Result<Explanation, 
 }
 
 /// Why no dependency has the id.
-fn no_dependency(alloc: Global, project: &Project, id: &str) -> Result<Explanation, AllocError>
-    ensures { IfOk result (λ e. e ≡ not_found project.now Role.Dependency id.now) }
+fn no_dependency(
+    alloc: Global,
+    reading: Reading,
+    project: &Project,
+    id: &str,
+) -> Result<Explanation, AllocError>
+    ensures { IfOk result (λ e. e ≡ not_found reading project.now Role.Dependency id.now) }
 {
     let calls = calls_held(alloc, project, "dependency")?;
-    let held = holdings_of(alloc, project)?;
+    let held = holdings_of(alloc, reading, project)?;
     let notes = missing_notes(
         alloc,
         id,
@@ -81,18 +92,19 @@ fn no_dependency(alloc: Global, project: &Project, id: &str) -> Result<Explanati
     )
 }
 
-/// Why an id names no call.
+/// Why an id names no call, where the build files are read so.
 pub(crate) fn not_found(
     alloc: Global,
+    reading: Reading,
     project: &Project,
     role: Role,
     id: &str,
 ) -> Result<Explanation, AllocError>
-    ensures { IfOk result (λ e. e ≡ not_found project.now role id.now) }
+    ensures { IfOk result (λ e. e ≡ not_found reading project.now role id.now) }
 {
     match role {
-        Role::Target => no_target(alloc, project, id),
-        Role::Dependency => no_dependency(alloc, project, id),
+        Role::Target => no_target(alloc, reading, project, id),
+        Role::Dependency => no_dependency(alloc, reading, project, id),
         Role::Project => with_help(alloc, Vec::new(alloc), "the id of a project is /"),
     }
 }

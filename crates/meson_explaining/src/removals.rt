@@ -16,7 +16,7 @@ use crate::subject::Subject;
 use crate::unknown::unknown_arguments;
 use crate::values::value_notes;
 use crate::written::written_notes;
-use meson_calls::{BorrowedName, Refusal};
+use meson_calls::{BorrowedName, Reading, Refusal};
 use meson_inventory::holdings::{HeldCall, calls_held, holdings_of};
 use meson_plan::{Project, Role};
 use meson_splice::{Many, Text};
@@ -149,7 +149,7 @@ fn few_unnamed(alloc: Global, calls: &[HeldCall]) -> Result<Vec<Note>, AllocErro
 fn setter_notes(alloc: Global, project: &Project) -> Result<Vec<Note>, AllocError>
     ensures { IfOk result (λ notes. notes.items ≡ setter_notes project.now) }
 {
-    let held = holdings_of(alloc, project)?;
+    let held = holdings_of(alloc, Reading::Written, project)?;
     let subdirs = Telling {
         most: MOST_SETTERS,
         more: ", not entered: it may set any variable",

@@ -9,6 +9,7 @@ use Rattle.meson_syntax.specs.Tree.{Name, Expression, call, Statement, assign}
 use Rattle.meson_syntax.proofs.parsing.Steps.{some-injective}
 use Rattle.meson_syntax.proofs.paths.Every.{Every}
 use Rattle.meson_calls.specs.declared.call.CallRef.{CallRef}
+use Rattle.meson_calls.specs.declared.call.Reading.TheVariants.{Written}
 use Rattle.meson_calls.specs.declared.call.Role.{Role}
 use Rattle.meson_calls.specs.declared.call.Role.TheVariants as role
 use Rattle.meson_calls.specs.AllParts.{PartsAreAll}
@@ -113,7 +114,7 @@ module _ (all : PartsAreAll) (l : Loaded) where
       record {
         call = h.held;
         is_held = h.is_held;
-        among = contained (holdings l).targets h.held (given (held_call l) (targets p) c.place h.held (target_among c s has) h.is_held);
+        among = contained (holdings Written l).targets h.held (given (held_call l) (targets p) c.place h.held (target_among c s has) h.is_held);
         named = elim named [ inl name ↦ inl (h.name ∙ name) | inr variable ↦ inr (h.variable ∙ variable) ];
       }
 

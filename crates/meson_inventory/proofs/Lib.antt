@@ -6,6 +6,7 @@ mod AssignmentsStand
 mod CallsNamed
 mod NamedSearched
 mod NotEntered
+mod MeantFiles
 mod FileSteps
 mod LinesCounted
 mod PositionsCounted

@@ -5,6 +5,7 @@ use Rattle.std.specs.List.{cons_option, list_any}
 use Rattle.meson_lex.specs.declared.kinds.Span.{Span}
 use Rattle.meson_syntax.proofs.paths.Every.{Every}
 use Rattle.meson_calls.specs.Calls.{Call, all_chosen, calls, calls_function}
+use Rattle.meson_calls.specs.declared.call.Reading.TheVariants.{Written}
 use Rattle.meson_calls.specs.FileNames.{is_entered, meant_in}
 use Rattle.meson_calls.specs.Loading.{Loaded, project}
 use Rattle.meson_calls.specs.Project.{Project, Placed, placed, nth_file}
@@ -48,12 +49,12 @@ module _ (l : Loaded) (whole : length l.parsed ≡ length l.files) where
   subdir_calls cs = held_calls l (places (all_chosen (with_function (codes "subdir")) cs))
 
   abbrev left : List (Placed (Call Span)) → List HeldCall
-  left cs = not_entered l.files (subdir_calls cs)
+  left cs = not_entered Written l.files (subdir_calls cs)
 
   abbrev there : Placed (Call Span) → Bool
   there c = is_there p (option_and_then (λ f. meant_file f.name c.it) (nth_file p c.place.file))
 
-  enters_there : (c : Placed (Call Span)) (h : HeldAs l c) → enters_one l.files h.held ≡ there c
+  enters_there : (c : Placed (Call Span)) (h : HeldAs l c) → enters_one Written l.files h.held ≡ there c
   enters_there c h = ap₂ (λ n o. is_entered l.files (meant_in l.files n o)) h.file h.name ∙ enters_alike l.files l.parsed whole c.it c.place.file
 
   abbrev unknown_calls : List (Placed (Call Span)) → List HeldCall
@@ -69,11 +70,11 @@ module _ (l : Loaded) (whole : length l.parsed ≡ length l.files) where
       kept false h rest = ap (λ hs. h.held ∷ hs) rest ∙ sym (ap (λ o. cons_option o (unknown_calls cs)) h.is_held)
 
       by_function : (is_subdir : Bool) → HeldAs l c → left cs ≡ unknown_calls cs
-          → not_entered l.files (held_calls l (places (cons_option (option_map (placed c.place) (if is_subdir then Some c.it else None)) (all_chosen (with_function (codes "subdir")) cs))))
+          → not_entered Written l.files (held_calls l (places (cons_option (option_map (placed c.place) (if is_subdir then Some c.it else None)) (all_chosen (with_function (codes "subdir")) cs))))
           ≡ held_calls l (places (cond (is_subdir && not (there c)) (c ∷ filter (enters_unknown p) cs) (filter (enters_unknown p) cs)))
       by_function false h rest = rest
       by_function true h rest =
-          ap (λ o. not_entered l.files (cons_option o (subdir_calls cs))) h.is_held
+          ap (λ o. not_entered Written l.files (cons_option o (subdir_calls cs))) h.is_held
           ∙ ap (λ b. cond (not b) (h.held ∷ left cs) (left cs)) (enters_there c h)
           ∙ kept (there c) h rest
 

@@ -1,15 +1,18 @@
--- What a project holds: the calls that make targets, and the `subdir` calls that enter none of its files.
-use Rattle.std.specs.Prelude.{ℕ, Bool, not, List, [], filter, codes, Option, Some, None, option_map, if◌then◌else◌, Result, Ok, Err}
+-- What a project holds: the calls that make targets, and the `subdir` calls that enter none of its files, by how the files are read.
+use Rattle.std.specs.Prelude.{ℕ, Bool, not, List, [], filter, codes, Option, Some, None, option_and_then, option_map, if◌then◌else◌, Result, Ok, Err}
 use Rattle.std.specs.List.{filter_map}
 use Rattle.meson_lex.specs.declared.kinds.Span.{Span}
 use Rattle.meson_splice.specs.declared.file_set.File.{File}
+use Rattle.meson_syntax.specs.Paths.{nth}
 use Rattle.meson_syntax.specs.Tree.{Expression, call}
 use Rattle.meson_calls.specs.declared.call.CallName.{CallName}
 use Rattle.meson_calls.specs.declared.call.CallRef.{CallRef}
+use Rattle.meson_calls.specs.declared.call.Reading.{Reading}
 use Rattle.meson_calls.specs.declared.call.Role.{Role}
 use Rattle.meson_calls.specs.declared.refusal.Refusal.{Refusal}
 use Rattle.meson_calls.specs.Calls.{Call, all_chosen, calls, calls_function}
-use Rattle.meson_calls.specs.FileNames.{is_entered, meant_in}
+use Rattle.meson_calls.specs.Entering.{folder_file}
+use Rattle.meson_calls.specs.FileNames.{is_entered}
 use Rattle.meson_calls.specs.Loading.{Loaded, project}
 use Rattle.meson_calls.specs.Project.{Project, expression_at}
 use Rattle.meson_calls.specs.Roles.{places, targets}
@@ -54,18 +57,22 @@ calls_named l r name = held_named l (places_named (project l) r name)
 
 -- ---- what a project holds
 
--- whether a `subdir` call enters one of the files: its folder is a plain literal, and that file is among them
-abbrev pub enters_one : List File → HeldCall → Bool
-enters_one files c = is_entered files (meant_in files c.file c.head.name)
+-- the file that a `subdir` call means: its folder is a literal
+abbrev pub meant_by : Reading → List File → HeldCall → Option (List ℕ)
+meant_by reading files c = option_and_then (λ f. option_and_then (folder_file reading f.name) c.head.name) (nth files c.file)
 
-abbrev pub not_entered : List File → List HeldCall → List HeldCall
-not_entered files cs = filter (λ c. not (enters_one files c)) cs
+-- whether it enters one of the files: the one that it means is among them
+abbrev pub enters_one : Reading → List File → HeldCall → Bool
+enters_one reading files c = is_entered files (meant_by reading files c)
+
+abbrev pub not_entered : Reading → List File → List HeldCall → List HeldCall
+not_entered reading files cs = filter (λ c. not (enters_one reading files c)) cs
 
 abbrev pub targets_held : Loaded → List HeldCall
 targets_held l = held_calls l (targets (project l))
 
-abbrev pub subdirs_held : Loaded → List HeldCall
-subdirs_held l = not_entered l.files (calls_held l (codes "subdir"))
+abbrev pub subdirs_held : Reading → Loaded → List HeldCall
+subdirs_held reading l = not_entered reading l.files (calls_held l (codes "subdir"))
 
-abbrev pub holdings : Loaded → Holdings
-holdings l = record { targets = targets_held l; not_entered = subdirs_held l }
+abbrev pub holdings : Reading → Loaded → Holdings
+holdings reading l = record { targets = targets_held l; not_entered = subdirs_held reading l }

@@ -4,6 +4,7 @@ use Rattle.serde_json.specs.Data.{Data, number, unsigned, string, array, object,
 use Rattle.serde_json.specs.View.{items_of}
 use Rattle.meson_splice.specs.declared.file_set.File.{File}
 use Rattle.meson_splice.specs.Files.{bytes_at}
+use Rattle.meson_calls.specs.declared.call.Reading.{Reading}
 use Rattle.meson_calls.specs.Loading.{Loaded, name_of_file}
 use Rattle.meson_listing.specs.Entries.{text_or_null}
 use Rattle.meson_inventory.specs.Assignments.{assignments}
@@ -27,11 +28,11 @@ held_data files c =
     (member (codes "file") (string (name_of_file c.file files)) (member (codes "function") (string c.head.function)
     (member (codes "name") (text_or_null c.head.name) (member (codes "variable") (text_or_null c.variable) no_members)))))
 
-abbrev pub project_data : Loaded → Data
-project_data l =
+abbrev pub project_data : Reading → Loaded → Data
+project_data reading l =
     object (member (codes "files") (array (items_of (map file_data l.files)))
-    (member (codes "not_entered") (array (items_of (map (spot_data l.files) (holdings l).not_entered)))
-    (member (codes "targets") (array (items_of (map (held_data l.files) (holdings l).targets))) no_members)))
+    (member (codes "not_entered") (array (items_of (map (spot_data l.files) (holdings reading l).not_entered)))
+    (member (codes "targets") (array (items_of (map (held_data l.files) (holdings reading l).targets))) no_members)))
 
 -- the calls of a function, of any name
 abbrev pub calls_data : Loaded → List ℕ → Data
@@ -79,10 +80,10 @@ abbrev pub file_line : File → List ℕ
 file_line f = f.name ++ codes ":1: build file\n"
 
 -- a line for each target, then one for each file, then one for each `subdir` call that is not entered
-abbrev pub project_lines : Loaded → List ℕ
-project_lines l =
-    flat_map (call_line l.files []) (holdings l).targets ++ (flat_map file_line l.files
-    ++ flat_map (call_line l.files (codes ", not entered")) (holdings l).not_entered)
+abbrev pub project_lines : Reading → Loaded → List ℕ
+project_lines reading l =
+    flat_map (call_line l.files []) (holdings reading l).targets ++ (flat_map file_line l.files
+    ++ flat_map (call_line l.files (codes ", not entered")) (holdings reading l).not_entered)
 
 -- a line for each call of a function
 abbrev pub calls_lines : Loaded → List ℕ → List ℕ

@@ -7,6 +7,7 @@ use Rattle.meson_syntax.specs.Tree.{Statement}
 use Rattle.meson_calls.specs.declared.call.CallName.{CallName}
 use Rattle.meson_calls.specs.declared.call.CallRef.{CallRef}
 use Rattle.meson_calls.specs.declared.call.Role.{Role}
+use Rattle.meson_calls.specs.declared.call.Reading.TheVariants.{Written}
 use Rattle.meson_calls.specs.declared.call.Role.TheVariants as role
 use Rattle.meson_calls.specs.Calls.{Call, calls}
 use Rattle.meson_calls.specs.Finding.{the_call}
@@ -28,7 +29,7 @@ use Rattle.meson_inventory.specs.declared.holdings.HeldCall.{HeldCall}
 pub record IsListed (l : Loaded) (id : List ℕ) (c : CallRef) : Type 0 where
   pub call : HeldCall
   pub is_held : held_call l c ≡ Some call
-  pub among : Contains (holdings l).targets call
+  pub among : Contains (holdings Written l).targets call
   pub named : (call.head.name ≡ Some id) ⊎ (call.variable ≡ Some id)
 
 abbrev pub FoundAreListed : Type 0
@@ -50,9 +51,9 @@ NamedAreSearched = (l : Loaded) (r : Role) (name : CallName) (file : ℕ) → se
 -- The calls that are listed as not entered are the `subdir` calls by which any variable may be set. With such a call, no variable is known; without one, no
 -- `subdir` call is the reason.
 pub record TellsWhyUnknown (l : Loaded) : Type 0 where
-  pub same : (holdings l).not_entered ≡ held_calls l (places (filter (enters_unknown (project l)) (calls (project l))))
-  pub unknown : (holdings l).not_entered ≢ [] → all_known (project l) ≡ false
-  pub entered : (holdings l).not_entered ≡ [] → list_any (enters_unknown (project l)) (calls (project l)) ≡ false
+  pub same : (holdings Written l).not_entered ≡ held_calls l (places (filter (enters_unknown (project l)) (calls (project l))))
+  pub unknown : (holdings Written l).not_entered ≢ [] → all_known (project l) ≡ false
+  pub entered : (holdings Written l).not_entered ≡ [] → list_any (enters_unknown (project l)) (calls (project l)) ≡ false
 
 abbrev pub NotEnteredMeansUnknown : Type 0
 NotEnteredMeansUnknown = (l : Loaded) → IsProject l → TellsWhyUnknown l

@@ -8,6 +8,7 @@ use Rattle.meson_splice.specs.declared.file_set.File.{File}
 use Rattle.meson_splice.specs.Files.{bytes_at}
 use Rattle.meson_syntax.specs.View.{text_at}
 use Rattle.meson_ranges.specs.Positions.{position_of}
+use Rattle.meson_calls.specs.declared.call.Reading.{Reading}
 use Rattle.meson_calls.specs.Loading.{Loaded, name_of_file}
 use Rattle.meson_listing.specs.Entries.{text_or_null}
 use Rattle.meson_inventory.specs.Assignments.{assignments}
@@ -65,11 +66,11 @@ placed_call_data files c =
     (member (codes "function") (string c.head.function) (member (codes "line") (line_at files c.file c.head.at)
     (member (codes "name") (text_or_null c.head.name) (member (codes "variable") (text_or_null c.variable) no_members))))))))
 
-abbrev pub placed_project_data : Loaded → Data
-placed_project_data l =
+abbrev pub placed_project_data : Reading → Loaded → Data
+placed_project_data reading l =
     object (member (codes "files") (array (items_of (map file_data l.files)))
-    (member (codes "not_entered") (array (items_of (map (unentered_data l.files) (holdings l).not_entered)))
-    (member (codes "targets") (array (items_of (map (placed_call_data l.files) (holdings l).targets))) no_members)))
+    (member (codes "not_entered") (array (items_of (map (unentered_data l.files) (holdings reading l).not_entered)))
+    (member (codes "targets") (array (items_of (map (placed_call_data l.files) (holdings reading l).targets))) no_members)))
 
 -- the calls of a function, of any name
 abbrev pub placed_calls_data : Loaded → List ℕ → Data

@@ -1,16 +1,18 @@
 //! What a project holds: its targets, and the `subdir` calls that enter none of its files.
 
-ghost use Rattle.std.specs.Prelude.{◌≡◌, All, IfOk, Some};
+ghost use Rattle.std.specs.Prelude.{◌≡◌, All, IfOk, Some, option_map, string_bytes};
 ghost use Rattle.meson_calls.specs.FileNames.{AreFileNames};
 ghost use Rattle.meson_calls.specs.Loading.{HasFileName};
 ghost use Rattle.meson_calls.specs.Notes.{note_view, note_views};
 ghost use Rattle.meson_calls.specs.ChosenNotes.{places_that};
 ghost use Rattle.meson_calls.specs.Searching.{name_at};
-ghost use Rattle.meson_inventory.specs.Holdings.{calls_held, calls_named, enters_one, held_call, held_calls, holdings, not_entered, subdirs_held, targets_held};
+ghost use Rattle.meson_inventory.specs.Holdings.{calls_held, calls_named, enters_one, held_call, held_calls, holdings, meant_by, not_entered, subdirs_held, targets_held};
 ghost use Rattle.meson_inventory.specs.inside.Holdings.{AreAllNotes, IsCall, note_calls};
 
+use meson_calls::Reading;
 use meson_calls::chosen_notes::with_role;
-use meson_calls::file_names::{enters, names_of};
+use meson_calls::entering::file_as;
+use meson_calls::file_names::names_of;
 use meson_calls::note::{Note, What};
 use meson_calls::notes::notes_of;
 use meson_calls::place::place_of;
@@ -106,19 +108,39 @@ fn held_calls(
     Ok(Many::of(calls))
 }
 
+/// The name of the file that a `subdir` call means, where build files are read so.
+fn meant_by(
+    alloc: Global,
+    reading: Reading,
+    files: &FileSet,
+    call: &HeldCall,
+) -> Result<Option<String>, AllocError>
+    requires { All HasFileName files.now }
+    ensures { IfOk result (λ file. option_map string_bytes file ≡ meant_by reading files.now call.now) }
+{
+    if call.file >= files.len() {
+        return Ok(None);
+    }
+    match &call.head.name {
+        Some(folder) => file_as(alloc, reading, files.name(call.file), folder.get()),
+        None => Ok(None),
+    }
+}
+
 /// Whether a `subdir` call enters one of the files.
 fn enters_one(
     alloc: Global,
+    reading: Reading,
     files: &FileSet,
     names: &HashSet<&str>,
     call: &HeldCall,
 ) -> Result<bool, AllocError>
     requires named { All HasFileName files.now }
     requires names { AreFileNames names.now files.now }
-    ensures { IfOk result (λ one. one ≡ enters_one files.now call.now) }
+    ensures { IfOk result (λ one. one ≡ enters_one reading files.now call.now) }
 {
-    match &call.head.name {
-        Some(folder) => enters(alloc, files, names, call.file, folder.get()),
+    match meant_by(alloc, reading, files, call)? {
+        Some(name) => Ok(names.contains(name.as_str())),
         None => Ok(false),
     }
 }
@@ -126,16 +148,17 @@ fn enters_one(
 /// Those of some `subdir` calls that enter none of the files.
 fn not_entered(
     alloc: Global,
+    reading: Reading,
     files: &FileSet,
     calls: Many<HeldCall>,
 ) -> Result<Many<HeldCall>, AllocError>
     requires { All HasFileName files.now }
-    ensures { IfOk result (λ left. left ≡ not_entered files.now calls) }
+    ensures { IfOk result (λ left. left ≡ not_entered reading files.now calls) }
 {
     let names = names_of(alloc, files)?;
     let mut left = Vec::new(alloc);
     for call in calls.take() {
-        if !enters_one(alloc, files, &names, &call)? {
+        if !enters_one(alloc, reading, files, &names, &call)? {
             left.push(call)?;
         }
     }
@@ -189,15 +212,16 @@ pub fn calls_held(
 /// The `subdir` calls that enter none of the files, among the notes of a project.
 fn subdirs_held(
     alloc: Global,
+    reading: Reading,
     project: &Project,
     notes: &[Note<'_, '_>],
 ) -> Result<Many<HeldCall>, AllocError>
     requires { AreAllNotes project.now (note_views notes.now) }
-    ensures { IfOk result (λ calls. calls ≡ subdirs_held project.now) }
+    ensures { IfOk result (λ calls. calls ≡ subdirs_held reading project.now) }
 {
     project.reads();
     let calls = calls_among(alloc, project, b"subdir".as_slice(), notes)?;
-    not_entered(alloc, project.files(), calls)
+    not_entered(alloc, reading, project.files(), calls)
 }
 
 /// The calls that are named, in file order and source order; none where the folder has no build file.
@@ -219,18 +243,22 @@ pub fn calls_named(
     }
 }
 
-/// What a project holds.
+/// What a project holds whose build files are read so.
 ///
 /// # Errors
 /// Out of memory.
-pub fn holdings_of(alloc: Global, project: &Project) -> Result<Holdings, AllocError>
-    ensures { IfOk result (λ held. held ≡ holdings project.now) }
+pub fn holdings_of(
+    alloc: Global,
+    reading: Reading,
+    project: &Project,
+) -> Result<Holdings, AllocError>
+    ensures { IfOk result (λ held. held ≡ holdings reading project.now) }
 {
     project.reads();
     let taken = notes_of(alloc, project.files(), project.trees())?;
     let notes = taken.all(alloc)?;
     let targets = targets_held(alloc, project, notes.as_slice())?;
-    let not_entered = subdirs_held(alloc, project, notes.as_slice())?;
+    let not_entered = subdirs_held(alloc, reading, project, notes.as_slice())?;
     Ok(Holdings {
         targets,
         not_entered,

@@ -7,6 +7,7 @@ ghost use Rattle.meson_inventory.specs.Inventory.{assignment_data, assignments_d
 
 use crate::assignments::{HeldAssignment, assignments_held};
 use crate::holdings::{HeldCall, Holdings, calls_held, holdings_of};
+use meson_calls::Reading;
 use meson_listing::entries::{file_name, spot_members, text_or_null};
 use meson_plan::Project;
 use meson_splice::{FileSet, Many};
@@ -69,17 +70,21 @@ fn spots_value(alloc: Global, files: &FileSet, calls: &[HeldCall]) -> Result<Val
     Ok(Value::Array(list))
 }
 
-/// What a project holds: its files, the calls that make its targets, and the `subdir` calls that enter none of its files.
+/// What a project holds whose build files are read so: its files, the calls that make its targets, and the `subdir` calls that enter none of its files.
 ///
 /// # Errors
 /// Out of memory.
-pub fn project_object(alloc: Global, project: &Project) -> Result<Value, AllocError>
-    ensures { IfOk result (λ v. view v ≡ project_data project.now) }
+pub fn project_object(
+    alloc: Global,
+    reading: Reading,
+    project: &Project,
+) -> Result<Value, AllocError>
+    ensures { IfOk result (λ v. view v ≡ project_data reading project.now) }
 {
     let Holdings {
         targets,
         not_entered,
-    } = holdings_of(alloc, project)?;
+    } = holdings_of(alloc, reading, project)?;
     let files = project.files();
     let mut members = Map::new(alloc);
     put(&mut members, alloc, "files", files_value(alloc, files)?)?;

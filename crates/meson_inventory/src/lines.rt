@@ -8,6 +8,7 @@ ghost use Rattle.meson_inventory.specs.Inventory.{named_part, project_lines, var
 use crate::assignments::{HeldAssignment, assignments_held};
 use crate::holdings::{HeldCall, calls_held, holdings_of};
 use crate::line_counter::LineCounter;
+use meson_calls::Reading;
 use meson_listing::entries::file_name;
 use meson_plan::Project;
 use meson_splice::{FileSet, Text};
@@ -104,10 +105,14 @@ fn file_lines(alloc: Global, files: &FileSet) -> Result<String, AllocError>
 ///
 /// # Errors
 /// Out of memory.
-pub fn project_lines(alloc: Global, project: &Project) -> Result<String, AllocError>
-    ensures { IfOk result (λ text. string_bytes text ≡ project_lines project.now) }
+pub fn project_lines(
+    alloc: Global,
+    reading: Reading,
+    project: &Project,
+) -> Result<String, AllocError>
+    ensures { IfOk result (λ text. string_bytes text ≡ project_lines reading project.now) }
 {
-    let held = holdings_of(alloc, project)?;
+    let held = holdings_of(alloc, reading, project)?;
     let files = project.files();
     let mut text = call_lines(alloc, files, "", held.targets.get())?;
     let names = file_lines(alloc, files)?;

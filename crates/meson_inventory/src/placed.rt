@@ -12,6 +12,7 @@ use crate::holdings::{HeldCall, Holdings, calls_held, holdings_of};
 use crate::inventory::{files_value, operator_of};
 use crate::line_counter::file_bytes;
 use crate::position_counter::PositionCounter;
+use meson_calls::Reading;
 use meson_calls::roles::text_of;
 use meson_lex::Span;
 use meson_listing::entries::{file_name, text_or_null};
@@ -165,13 +166,17 @@ fn unentered_values(alloc: Global, files: &FileSet, calls: &[HeldCall]) -> Resul
 ///
 /// # Errors
 /// Out of memory.
-pub fn placed_project_object(alloc: Global, project: &Project) -> Result<Value, AllocError>
-    ensures { IfOk result (λ v. view v ≡ placed_project_data project.now) }
+pub fn placed_project_object(
+    alloc: Global,
+    reading: Reading,
+    project: &Project,
+) -> Result<Value, AllocError>
+    ensures { IfOk result (λ v. view v ≡ placed_project_data reading project.now) }
 {
     let Holdings {
         targets,
         not_entered,
-    } = holdings_of(alloc, project)?;
+    } = holdings_of(alloc, reading, project)?;
     let files = project.files();
     let mut members = Map::new(alloc);
     put(&mut members, alloc, "files", files_value(alloc, files)?)?;

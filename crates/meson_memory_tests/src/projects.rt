@@ -224,7 +224,7 @@ impl Call for ListProject {
     }
 
     fn make(alloc: Global, given: &mut Project) -> Result<Value, AllocError> {
-        project_object(alloc, given)
+        project_object(alloc, Reading::Written, given)
     }
 }
 
@@ -242,7 +242,7 @@ impl Call for ListLines {
     }
 
     fn make(alloc: Global, given: &mut Project) -> Result<String, AllocError> {
-        project_lines(alloc, given)
+        project_lines(alloc, Reading::Written, given)
     }
 }
 

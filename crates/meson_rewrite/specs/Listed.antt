@@ -2,6 +2,7 @@
 use Rattle.std.specs.Prelude.{ℕ, Bool, true, false, List, if◌then◌else◌}
 use Rattle.serde_json.specs.Data.{Data}
 use Rattle.serde_json.specs.Written.{compact_text}
+use Rattle.meson_calls.specs.declared.call.Reading.TheVariants.{Written}
 use Rattle.meson_calls.specs.Loading.{Loaded}
 use Rattle.meson_inventory.specs.Inventory.{assignments_data, assignments_lines, calls_data, calls_lines, project_data, project_lines}
 use Rattle.meson_inventory.specs.Placed.{placed_assignments_data, placed_calls_data, placed_project_data}
@@ -15,8 +16,8 @@ use Rattle.meson_rewrite.specs.declared.request.Listing.TheVariants.{History, Ho
 
 -- what a project holds: one line of JSON, or lines for people
 abbrev pub holdings_text : Bool → Loaded → List ℕ
-holdings_text true project = line (compact_text (project_data project))
-holdings_text false project = project_lines project
+holdings_text true project = line (compact_text (project_data Written project))
+holdings_text false project = project_lines Written project
 
 -- its calls of a function
 abbrev pub calls_text : Bool → List ℕ → Loaded → List ℕ
@@ -38,7 +39,7 @@ listed_text Sums session = sums session.project.files
 
 abbrev pub listed_data : Listing → Session → Data
 listed_data History session = history_data session.history
-listed_data (Holdings json) session = placed_project_data session.project
+listed_data (Holdings json) session = placed_project_data Written session.project
 listed_data (Calls function json) session = placed_calls_data session.project function
 listed_data (Assignments json) session = placed_assignments_data session.project
 listed_data Sums session = sums_data session.project.files

@@ -12,6 +12,7 @@ use crate::opening::{StoredSession, leave};
 use crate::request::Listing;
 use crate::said::{Said, json_line};
 use crate::stop::Stop;
+use meson_calls::Reading;
 use meson_inventory::{
     assignments_lines, assignments_object, calls_lines, calls_object, placed_assignments_object,
     placed_calls_object, placed_project_object, project_lines, project_object,
@@ -28,10 +29,10 @@ fn holdings_text(alloc: Global, project: &Project, json: bool) -> Result<Vec<u8>
     ensures { IfOk result (λ text. text.items ≡ holdings_text json project.now) }
 {
     if json {
-        let listing = project_object(alloc, project)?;
+        let listing = project_object(alloc, Reading::Written, project)?;
         return json_line(alloc, &listing);
     }
-    let lines = project_lines(alloc, project)?;
+    let lines = project_lines(alloc, Reading::Written, project)?;
     Ok(lines.into_bytes())
 }
 
@@ -70,7 +71,11 @@ fn listed_object(alloc: Global, session: &Session, listing: &Listing) -> Result<
 {
     match listing {
         Listing::History => history_object(alloc, &session.history),
-        Listing::Holdings { .. } => placed_project_object(alloc, session.project()),
+        Listing::Holdings { .. } => placed_project_object(
+            alloc,
+            Reading::Written,
+            session.project(),
+        ),
         Listing::Calls { function, .. } => {
             placed_calls_object(alloc, session.project(), function.get())
         }

@@ -2,6 +2,7 @@
 -- `subdir` enters has the variables of the file that enters it.
 use Rattle.std.specs.Prelude.{ℕ, ◌==◌, Bool, not, ◌&&◌, List, codes, length}
 use Rattle.std.specs.List.{list_any}
+use Rattle.meson_calls.specs.declared.call.Reading.TheVariants.{Written}
 use Rattle.meson_calls.specs.Calls.{is}
 use Rattle.meson_calls.specs.Loading.{Loaded}
 use Rattle.meson_inventory.specs.Holdings.{calls_held, subdirs_held}
@@ -10,7 +11,7 @@ use Rattle.meson_explaining.specs.Removals.{has_no_name}
 
 -- All build files are known: there is a call of `project`, so that the root file is that of a whole project, and each call of `subdir` enters a file.
 abbrev pub is_whole : Loaded → Bool
-is_whole l = not (length (calls_held l (codes "project")) == 0) && (length (subdirs_held l) == 0)
+is_whole l = not (length (calls_held l (codes "project")) == 0) && (length (subdirs_held Written l) == 0)
 
 -- each call of a function has a literal name
 abbrev pub all_named : Loaded → List ℕ → Bool

@@ -6,6 +6,7 @@ ghost use Rattle.meson_explaining.specs.Removals.{has_no_name};
 ghost use Rattle.meson_calls.specs.Calls.{is};
 ghost use Rattle.meson_warnings.specs.Known.{all_named, is_whole, names_one, readers_known, setters_known};
 
+use meson_calls::Reading;
 use meson_inventory::holdings::{HeldCall, calls_held, holdings_of};
 use meson_plan::Project;
 use std::alloc::{AllocError, Global};
@@ -18,7 +19,7 @@ fn is_whole(alloc: Global, project: &Project) -> Result<bool, AllocError>
     if calls.get().is_empty() {
         return Ok(false);
     }
-    let held = holdings_of(alloc, project)?;
+    let held = holdings_of(alloc, Reading::Written, project)?;
     Ok(held.not_entered.get().is_empty())
 }
 

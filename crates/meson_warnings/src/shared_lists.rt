@@ -9,7 +9,7 @@ ghost use Rattle.meson_calls.specs.Searching.{name_at};
 
 use crate::additions::has_new;
 use crate::reads::{add_reads, is_inside};
-use meson_calls::BorrowedName;
+use meson_calls::{BorrowedName, Reading};
 use meson_explaining::calls::{add_further, call_note};
 use meson_explaining::removals::is_one_of;
 use meson_explaining::sources::sources_at;
@@ -206,7 +206,7 @@ fn sharers_at(
     ensures { IfOk result (λ notes. notes.items ≡ sharers_at project.now (name_at target.entry) reads.now) }
 {
     let named = calls_named(alloc, project, Role::Target, target)?;
-    let held = holdings_of(alloc, project)?;
+    let held = holdings_of(alloc, Reading::Written, project)?;
     let shared = Shared {
         named: named.get(),
         reads,

@@ -11,4 +11,4 @@ returns c =
     let calls = c.get.ensures ∙ c.in_ok-calls.ensures in
     let left = c.get-2.ensures ∙ ap (λ (h : Holdings). h.not_entered) c.in_ok-held.ensures in
     let notes = c.in_ok-notes.ensures ∙ ap₂ (missing_notes c.args.id.now (codes "dependencies without a literal name")) calls left in
-    IfOk-weaker c.with_help.result _ _ (λ e is. is ∙ ap (λ ns. record { notes = ns; help = (not_found c.args.project.now role.Dependency c.args.id.now).help }) notes) c.with_help.ensures
+    IfOk-weaker c.with_help.result _ _ (λ e is. is ∙ ap (λ ns. record { notes = ns; help = (not_found c.args.reading c.args.project.now role.Dependency c.args.id.now).help }) notes) c.with_help.ensures

@@ -14,4 +14,4 @@ returns c =
     let targets = first ∙ ap (λ (h : Holdings). h.targets) held in
     let left = second ∙ ap (λ (h : Holdings). h.not_entered) held in
     let notes = c.in_ok-notes.ensures ∙ ap₂ (missing_notes c.args.id.now (codes "targets without a literal name")) targets left in
-    IfOk-weaker c.with_help.result _ _ (λ e is. is ∙ ap (λ ns. record { notes = ns; help = (not_found c.args.project.now role.Target c.args.id.now).help }) notes) c.with_help.ensures
+    IfOk-weaker c.with_help.result _ _ (λ e is. is ∙ ap (λ ns. record { notes = ns; help = (not_found c.args.reading c.args.project.now role.Target c.args.id.now).help }) notes) c.with_help.ensures

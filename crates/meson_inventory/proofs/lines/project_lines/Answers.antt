@@ -13,4 +13,4 @@ returns c =
     let left =
     c.as_str-2.ensures.value ∙ c.in_ok-left.ensures ∙ ap₂ (λ fs cs. flat_map (call_line fs (codes ", not entered")) cs) c.files-files.ensures (c.get-2.ensures ∙ ap (λ (h : Holdings). h.not_entered) c.in_ok-held.ensures) in
     c.in_ok-push_str-2.ensures.bytes ∙ ap₂ (λ a b. a ++ b) (c.in_ok-push_str.ensures.bytes ∙ ap₂ (λ a b. a ++ b) targets names) left
-    ∙ append_assoc (flat_map (call_line l.files []) (holdings l).targets) (flat_map file_line l.files) (flat_map (call_line l.files (codes ", not entered")) (holdings l).not_entered)
+    ∙ append_assoc (flat_map (call_line l.files []) (holdings c.args.reading l).targets) (flat_map file_line l.files) (flat_map (call_line l.files (codes ", not entered")) (holdings c.args.reading l).not_entered)
