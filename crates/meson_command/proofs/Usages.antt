@@ -17,12 +17,12 @@ use Rattle.meson_calls.specs.declared.call.Reading.TheVariants.{Written, Followe
 use Rattle.meson_calls.specs.declared.call.Role.{Role}
 use Rattle.meson_splice.specs.Patch.{then_ok}
 use Rattle.meson_command.specs.Actions.{action_of, count_in, has_flag, history_by, kwargs_action, kwargs_by, list_by, list_with, listing_of, misplaces_sorted, options_action, options_by, other_action, target_action, undo_of, word_at, words_at, rename_action, target_by, target_words}
-use Rattle.meson_command.specs.Arguments.{after_meant, action_within, argument_action, command_meant, keys_meant, misplaces_follow, requested, value_named, values_meant}
+use Rattle.meson_command.specs.Arguments.{after_meant, action_within, argument_action, command_meant, keys_meant, misplaces_follow, requested, takes_follow, value_named, values_meant}
 use Rattle.meson_command.specs.Codes.{code_action}
 use Rattle.meson_command.proofs.CodeUsages.{code-unknown}
 use Rattle.meson_command.specs.Asking.{answer, asked_from, asked_of, help, is_dry, names_no_folder, reading_in, texts_fit, title_in, version, with_texts, with_title}
 use Rattle.meson_json.specs.Counts.{count_of}
-use Rattle.meson_command.specs.Laws.{FolderIsMisused, FollowIsMisused, HelpWhereAsked, IsNoArgument, IsNoCount, IsNoTarget, IsUnknown, TextsAreMisused, UsageMeansUnknown, VersionWhereAsked}
+use Rattle.meson_command.specs.Laws.{FolderIsMisused, FollowIsMisused, HelpWhereAsked, IsNoArgument, IsNoCount, IsNoTarget, IsUnknown, TakesNoFollow, TextsAreMisused, UsageMeansUnknown, VersionWhereAsked}
 use Rattle.meson_json.specs.Targets.{reading_of, renaming_of}
 use Rattle.meson_json.specs.Titles.{is_title}
 use Rattle.meson_json.specs.Arguments.{change_to, command_to, keys_left_out, place_named}
@@ -381,7 +381,7 @@ without false false true rest is h = cc
 without false false false rest is h = h
 
 abbrev MisusesFollow : Reading → Text → List Row → Type 0
-MisusesFollow reading name rows = (reading ≡ Followed) × ((name ≢ codes "target") ⊎ (word_at (codes "OPERATION") rows ≢ codes "info"))
+MisusesFollow reading name rows = (reading ≡ Followed) × TakesNoFollow name rows
 
 abbrev WrongWithin : Option Text → Reading → Text → List Row → Type 0
 WrongWithin folder reading name rows =
@@ -412,15 +412,46 @@ by_subcommand : (folder : Option Text) (reading : Reading) (name : Text) (rows :
 by_subcommand folder reading name rows k true is e = inl (inr (inr (inr (inr (inr (inr (inl (named _ _ is, argument-unknown folder rows e))))))))
 by_subcommand folder reading name rows k false is e = by_place folder reading name rows is k (is_some folder) (takes_folder name rows) refl refl e
 
-not-info : (name operation : Text) (t i : Bool) → bytes_eq name (codes "target") ≡ t → bytes_eq operation (codes "info") ≡ i → not (t && i) ≡ true
+not-info : (name operation : Text) (t i : Bool) → bytes_eq name (codes "target") ≡ t → bytes_eq operation (codes "info") ≡ i → (t && i) ≡ false
     → (name ≢ codes "target") ⊎ (operation ≢ codes "info")
 not-info name operation false i is at e = inl (another name (codes "target") is)
 not-info name operation true false is at e = inr (another operation (codes "info") at)
 not-info name operation true true is at e = cc
 
+both_false : (a b : Bool) → (a || b) ≡ false → (a ≡ false) × (b ≡ false)
+both_false true b e = cc
+both_false false b e = (refl, e)
+
+not-taken : (name : Text) (rows : List Row) → takes_follow name rows ≡ false → TakesNoFollow name rows
+not-taken name rows e =
+    let operation = word_at (codes "OPERATION") rows in
+    let t : Bool = bytes_eq name (codes "target") in
+    let i : Bool = bytes_eq operation (codes "info") in
+    let l : Bool = bytes_eq name (codes "list") in
+    let h : Bool = bytes_eq name (codes "history") in
+    let u : Bool = bytes_eq name (codes "undo") in
+    let r : Bool = bytes_eq name (codes "redo") in
+    let c : Bool = bytes_eq name (codes "command") in
+    let at-info = both_false (t && i) (l || (h || (u || (r || c)))) e in
+    let at-list = both_false l (h || (u || (r || c))) at-info.1 in
+    let at-history = both_false h (u || (r || c)) at-list.1 in
+    let at-undo = both_false u (r || c) at-history.1 in
+    let at-redo = both_false r c at-undo.1 in (
+      not-info name operation t i refl refl at-info.0,
+      another name (codes "list") at-list.0,
+      another name (codes "history") at-history.0,
+      another name (codes "undo") at-undo.0,
+      another name (codes "redo") at-redo.0,
+      another name (codes "command") at-redo.1,
+    )
+
+not_true : (b : Bool) → not b ≡ true → b ≡ false
+not_true true e = cc
+not_true false e = refl
+
 misused : (reading : Reading) (name : Text) (rows : List Row) → misplaces_follow reading name rows ≡ true → MisusesFollow reading name rows
 misused Written name rows e = cc
-misused Followed name rows e = (refl, not-info name (word_at (codes "OPERATION") rows) (bytes_eq name (codes "target")) (bytes_eq (word_at (codes "OPERATION") rows) (codes "info")) refl refl e)
+misused Followed name rows e = (refl, not-taken name rows (not_true (takes_follow name rows) e))
 
 by_reading : (folder : Option Text) (reading : Reading) (name : Text) (rows : List Row) → is_known name ≡ true → (b : Bool) → misplaces_follow reading name rows ≡ b
     → (if b then Err Usage else (if bytes_eq name (codes "arg") then argument_action folder rows else (if is_some folder && not (takes_folder name rows) then Err Usage

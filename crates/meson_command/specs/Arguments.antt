@@ -84,12 +84,19 @@ takes_folder subcommand rows =
     || ((bytes_eq subcommand (codes "target") && not (is_addition (operation_of_word (word_at (codes "OPERATION") rows))))
     || (bytes_eq subcommand (codes "code") && not (is_append (code_operation (word_at (codes "OPERATION") rows)))))
 
--- variables are followed for other words than `target ID info`
+-- `--follow` goes with `target ID info`, `list`, `history`, `undo`, `redo` and `command`
+abbrev pub takes_follow : Text → List Row → Bool
+takes_follow subcommand rows =
+    (bytes_eq subcommand (codes "target") && bytes_eq (word_at (codes "OPERATION") rows) (codes "info"))
+    || (bytes_eq subcommand (codes "list") || (bytes_eq subcommand (codes "history") || (bytes_eq subcommand (codes "undo")
+    || (bytes_eq subcommand (codes "redo") || bytes_eq subcommand (codes "command")))))
+
+-- it is given with other words
 abbrev pub misplaces_follow : Reading → Text → List Row → Bool
 misplaces_follow Written subcommand rows = false
-misplaces_follow Followed subcommand rows = not (bytes_eq subcommand (codes "target") && bytes_eq (word_at (codes "OPERATION") rows) (codes "info"))
+misplaces_follow Followed subcommand rows = not (takes_follow subcommand rows)
 
--- a folder is named only for these and for `arg`, and variables are followed for `target ID info` alone
+-- a folder is named only for the words that take one and for `arg`, and `--follow` is given only for those that take it
 unfoldable pub action_within : Option Text → Reading → Text → List Row → Result Action UsageFault
 action_within folder reading subcommand rows =
     if misplaces_follow reading subcommand rows then Err Usage

@@ -5,6 +5,7 @@ use Rattle.clap.specs.Words.{Kinds, Row, Text, fault_of, first_of, matches_of, s
 use Rattle.clap.specs.declared.error.kind.ErrorKind.{ErrorKind}
 use Rattle.clap.specs.declared.error.kind.ErrorKind.TheVariants.{DisplayHelp, DisplayVersion}
 use Rattle.meson_calls.specs.declared.call.Reading.{Reading}
+use Rattle.meson_calls.specs.declared.call.Reading.TheVariants.{Written}
 use Rattle.meson_splice.specs.Patch.{then_ok}
 use Rattle.meson_json.specs.Targets.{reading_of}
 use Rattle.meson_json.specs.Titles.{is_title}
@@ -46,10 +47,11 @@ flags_in rows = record {
   explain = has_flag (codes "explain") rows;
   exit_code = has_flag (codes "exit-code") rows;
   no_log = has_flag (codes "no-log") rows;
+  reading = reading_in rows;
 }
 
 abbrev pub no_flags : Flags
-no_flags = record { dry_run = false; json = false; explain = false; exit_code = false; no_log = false }
+no_flags = record { dry_run = false; json = false; explain = false; exit_code = false; no_log = false; reading = Written }
 
 -- ---- texts of files, for what writes nothing
 

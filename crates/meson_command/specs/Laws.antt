@@ -124,9 +124,9 @@ IsNoCode rows =
     ((word_at (codes "OPERATION") rows ≡ codes "remove") × IsNoRemoval rows)
     ⊎ ((word_at (codes "OPERATION") rows ≢ codes "remove") × ((has_flag (codes "unused") rows ≡ true) ⊎ IsNoInsertion rows))
 
--- the subcommand's operation, function, id or number is not valid, `rename` has not two names, `--sorted` is given with another one than `add`, the key of `arg`
--- is missing, its values or the words of `code` are not as many as it takes or its options are others than it takes, or two listings are requested or one of a
--- function without a name
+-- the subcommand's operation, function, id or number is not valid, `rename` has not two names, `--sorted` is given with another one than `add`, the key of
+-- `arg` is missing, its values or the words of `code` are not as many as it takes or its options are others than it takes, or two listings are requested or
+-- one of a function without a name
 abbrev pub IsUnknown : Text → List Row → Type 0
 IsUnknown subcommand rows =
     ((subcommand ≡ codes "target") × IsNoTarget rows)
@@ -142,18 +142,25 @@ IsUnknown subcommand rows =
 abbrev pub FolderIsMisused : List Row → Text → List Row → Type 0
 FolderIsMisused own subcommand rows = (is_some (first_of (codes "FOLDER") own) ≡ true) × (takes_folder subcommand rows ≡ false) × (subcommand ≢ codes "arg")
 
--- `--follow` is given with other words than `target ID info`
+-- the words are not `target ID info`, and not those of `list`, `history`, `undo`, `redo` or `command`
+abbrev pub TakesNoFollow : Text → List Row → Type 0
+TakesNoFollow subcommand rows =
+    ((subcommand ≢ codes "target") ⊎ (word_at (codes "OPERATION") rows ≢ codes "info"))
+    × (subcommand ≢ codes "list") × (subcommand ≢ codes "history") × (subcommand ≢ codes "undo") × (subcommand ≢ codes "redo")
+    × (subcommand ≢ codes "command")
+
+-- `--follow` is given with words that do not take it
 abbrev pub FollowIsMisused : List Row → Text → List Row → Type 0
-FollowIsMisused own subcommand rows =
-    (has_flag (codes "follow") own ≡ true) × ((subcommand ≢ codes "target") ⊎ (word_at (codes "OPERATION") rows ≢ codes "info"))
+FollowIsMisused own subcommand rows = (has_flag (codes "follow") own ≡ true) × TakesNoFollow subcommand rows
 
 -- a file of texts is named for an action that writes, or standard input would be read twice
 abbrev pub TextsAreMisused : List Row → Text → List Row → Type 0
 TextsAreMisused own subcommand rows =
     (asked : Action) × (action_within (first_of (codes "FOLDER") own) (reading_in own) subcommand rows ≡ Ok asked) × (texts_fit asked (first_of (codes "FILE") own) (is_dry own) ≡ false)
 
--- if clap takes the words and the usage is wrong: the folder is empty, a word is unknown or not a number, `rename` has not two names, `arg` has no place or other
--- values, `--sorted` or `--after` is given with other operations, two listings are requested or one of a function without a name, or a folder, `--follow` or texts do not fit
+-- if clap takes the words and the usage is wrong: the folder is empty, a word is unknown or not a number, `rename` has not two names, `arg` has no place or
+-- other values, `--sorted` or `--after` is given with other operations, two listings are requested or one of a function without a name, or a folder,
+-- `--follow` or texts do not fit
 abbrev pub UsageMeansUnknown : Type 0
 UsageMeansUnknown = (words : List Text) → fault_of program words ≡ [] → asked_by words ≡ Err Usage
     → (names_no_folder (first_of (codes "DIR") (matches_of program words)) ≡ true)

@@ -4,14 +4,15 @@ ghost use Rattle.std.specs.Prelude.{◌≡◌, ◌≢◌, [], Err, IfErr, IfOk, 
 ghost use Rattle.clap.specs.Words.{Row, Text as Word, found_of, rows_of, subcommand_rows_of, takes};
 ghost use Rattle.meson_json.specs.Titles.{is_title};
 ghost use Rattle.meson_command.specs.Actions.{action_of, other_action};
-ghost use Rattle.meson_command.specs.Arguments.{action_within, misplaces_follow, takes_folder};
-ghost use Rattle.meson_command.specs.Asking.{asked_by, asked_from, asked_of, flags_in, names_no_folder, no_flags, only_asks, reading_in, reads_input, takes_texts, texts_fit, wants_json, without_text};
+ghost use Rattle.meson_command.specs.Arguments.{action_within, takes_folder};
+ghost use Rattle.meson_command.specs.Asking.{asked_by, asked_from, asked_of, flags_in, names_no_folder, no_flags, only_asks, reads_input, takes_texts, texts_fit, wants_json, without_text};
 ghost use Rattle.meson_command.specs.Program.{program};
 ghost use Rattle.meson_command.specs.declared.fault.UsageFault.TheVariants.{BadTitle, OutOfMemory, Usage};
 
 use crate::argument::argument_action;
 use crate::code::code_action;
 use crate::fault::UsageFault;
+use crate::follow::{misplaces_follow, reading_in};
 use crate::history::{history_action, list_action, undo_action};
 use crate::kwargs::kwargs_action;
 use crate::operations::find_target_operation;
@@ -24,7 +25,7 @@ use clap::ArgMatches;
 use clap::error::ErrorKind;
 use meson_calls::Reading;
 use meson_json::names::{CodeOperation, find_code_operation};
-use meson_json::target::{TargetOperation, reading_of};
+use meson_json::target::TargetOperation;
 use meson_json::{Script, UnknownMembers, is_title, owned};
 use meson_splice::Text;
 use meson_steps::command::Command;
@@ -83,6 +84,8 @@ pub struct Flags {
     pub exit_code: bool,
     /// Whether the undo log is left alone.
     pub no_log: bool,
+    /// How the build files are read.
+    pub reading: Reading,
 }
 
 /// The request of a command line.
@@ -164,18 +167,6 @@ fn takes_folder(subcommand: &str, matches: &ArgMatches<'_>) -> bool
     subcommand == "code" && !matches!(operation, Some(CodeOperation::Append))
 }
 
-/// Whether variables are to be followed for other words than `target ID info`.
-fn misplaces_follow(reading: Reading, subcommand: &str, matches: &ArgMatches<'_>) -> bool
-    ensures { result ≡ misplaces_follow reading subcommand.now (rows_of (found_of matches.now)) }
-{
-    match reading {
-        Reading::Written => false,
-        Reading::Followed => {
-            subcommand != "target" || word_or(matches, "OPERATION", "") != "info"
-        }
-    }
-}
-
 /// The request of a subcommand's words, in the folder that is named before it, and with build files read so, if it takes them.
 #[tactic(auto, unfolding(crate::specs::Arguments::action_within))]
 fn action_within(
@@ -212,13 +203,6 @@ fn folder(alloc: Global, dir: Option<&str>) -> Result<Option<Text>, UsageFault>
         Some(word) => Ok(Some(owned(alloc, word)?)),
         None => Ok(None),
     }
-}
-
-/// How build files are read.
-fn reading_in(matches: &ArgMatches<'_>) -> Reading
-    ensures { result ≡ reading_in (rows_of (found_of matches.now)) }
-{
-    reading_of(is_set(matches, "follow"))
 }
 
 /// Whether it changes nothing: help, the version, a listing, or what an info command reports.
@@ -280,6 +264,7 @@ fn flags_in(matches: &ArgMatches<'_>) -> Flags
         explain: is_set(matches, "explain"),
         exit_code: is_set(matches, "exit-code"),
         no_log: is_set(matches, "no-log"),
+        reading: reading_in(matches),
     }
 }
 
@@ -336,6 +321,7 @@ fn shown(alloc: Global, action: Action) -> Asked
             explain: false,
             exit_code: false,
             no_log: false,
+            reading: Reading::Written,
         },
         texts: None,
         action,
@@ -347,11 +333,12 @@ fn shown(alloc: Global, action: Action) -> Asked
 /// `--type`, `--sorted`, `arg`, `code`, `--in` and `--follow` are this program's own. Values, ids and names are passed on as given.
 ///
 /// # Errors
-/// The first of these faults, in this order. A word is missing, unknown or one too many, a number or a place is not valid, two listings are requested or one of
-/// a function without a name, the folder is empty, `--follow` goes with other words than `target ID info`, or `--in` with words that take no folder. In words that are names with values, the last name has no
-/// value. A name is repeated. The operation is not done here. A value of `arg` is not code. Its values are more or fewer than its operation takes, or
-/// it does not take `--after` or `--sorted`. The code of `code` is not statements.
-/// Texts are named for what writes, or standard input would be read twice. The title is not valid. And out of memory, at any time.
+/// The first of these faults, in this order. A word is missing, unknown or one too many, a number or a place is not valid, two listings are requested or
+/// one of a function without a name, the folder is empty, `--follow` goes with other words than `target ID info`, `list`, `history`, `undo`, `redo` and
+/// `command`, or `--in` with words that take no folder. In words that are names with values, the last name has no value. A name is repeated. The
+/// operation is not done here. A value of `arg` is not code. Its values are more or fewer than its operation takes, or it does not take `--after` or
+/// `--sorted`. The code of `code` is not statements. Texts are named for what writes, or standard input would be read twice. The title is not valid.
+/// And out of memory, at any time.
 pub fn command_of(alloc: Global, words: &[String]) -> Result<Asked, UsageFault>
     ensures ok { IfOk result (λ a. asked_by (map string_bytes words.now) ≡ Ok (without_text a)) }
     ensures refused { IfErr result (λ e. e ≢ OutOfMemory → asked_by (map string_bytes words.now) ≡ Err e) }

@@ -9,8 +9,8 @@ use std::fmt;
 /// Why the words of a command line are refused.
 #[derive(Debug, Drop)]
 pub enum UsageFault {
-    /// A word is missing, one too many or unknown, a number or a place is not valid, two listings are requested, the folder or the function is empty, or a folder
-    /// or texts do not fit the request.
+    /// A word is missing, one too many or unknown, a number or a place is not valid, two listings are requested, the folder or the function is empty, or a
+    /// folder, `--follow` or texts do not fit the request.
     Usage,
     /// The last name has no value.
     OddWords,

@@ -31,8 +31,9 @@ With target, kwargs, arg or code: search the build
 file of this folder alone";
 
 pub(crate) const FOLLOW: &str = "\
-With target ID info: follow variables as Meson
-evaluates the build files";
+With target ID info, list, history, undo, redo and
+command: read the build files as Meson runs them, also
+in folders written as 'src/'; info follows variables";
 
 pub(crate) const DRY_RUN: &str = "Show the changes as a unified diff, and write nothing";
 
@@ -234,7 +235,7 @@ pub(crate) const COMMAND: &str = "Run the commands of a script";
 
 pub(crate) const BELOW_COMMAND: &str = "\
 Options of the program, before the subcommand (see meson_rewrite --help):
-  --sourcedir DIR, --title TEXT, --dry-run, --json
+  --sourcedir DIR, --follow, --title TEXT, --dry-run, --json
 
 JSON is the script, or says where it is:
   [.. or {..      a word that begins so is the script itself
@@ -266,7 +267,7 @@ pub(crate) const UNDO: &str = "Take back the newest run";
 
 pub(crate) const BELOW_UNDO: &str = "\
 Options of the program, before the subcommand (see meson_rewrite --help):
-  --sourcedir DIR, --title TEXT, --dry-run, --json
+  --sourcedir DIR, --follow, --title TEXT, --dry-run, --json
 
 If the files changed after the run, by hand or by a checkout:
   - Edits by hand stay.
@@ -296,7 +297,7 @@ pub(crate) const REDO: &str = "Do again what the last undo took back";
 
 pub(crate) const BELOW_REDO: &str = "\
 Options of the program, before the subcommand (see meson_rewrite --help):
-  --sourcedir DIR, --title TEXT, --dry-run, --json
+  --sourcedir DIR, --follow, --title TEXT, --dry-run, --json
 
 One redo repeats one run; it takes no --to.
 A new run drops what could be redone.
@@ -311,7 +312,7 @@ pub(crate) const HISTORY: &str = "List the runs that can be undone and redone";
 
 pub(crate) const BELOW_HISTORY: &str = "\
 Options of the program, before the subcommand (see meson_rewrite --help):
-  --sourcedir DIR, --title TEXT, --dry-run, --json
+  --sourcedir DIR, --follow, --title TEXT, --dry-run, --json
 
 It prints one line for each run:
   undo 1, undo 2, ..  the runs that undo takes back, the newest first
@@ -336,7 +337,7 @@ pub(crate) const LIST: &str = "List the targets and the build files";
 
 pub(crate) const BELOW_LIST: &str = "\
 Options of the program, before the subcommand (see meson_rewrite --help):
-  --sourcedir DIR, --title TEXT, --dry-run, --json
+  --sourcedir DIR, --follow, --title TEXT, --dry-run, --json
 
 It prints one line for each target, then one for each build file, then one for
 each subdir call that is not entered:

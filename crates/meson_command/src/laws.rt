@@ -68,9 +68,10 @@ pub fn texts_write_nothing()
 {}
 
 /// Words that clap takes are wrong usage only in these cases: the folder is empty, an operation or a function is unknown, `rename` has not two names,
-/// `--sorted`, `--after`, `--blank` or `--unused` goes with an operation that does not take it, or the first two are both given, a number is not valid, two listings are requested or one of a
-/// function without a name, the function and the id of `arg` or `code` name no place, a key is missing, the values of `arg` or the words of `code` are not as
-/// many as the operation takes, a folder is named for words that take none, `--follow` goes with other words than `target ID info`, or texts are named for what writes or would read standard input, too.
+/// `--sorted`, `--after`, `--blank` or `--unused` goes with an operation that does not take it, or the first two are both given, a number is not valid, two
+/// listings are requested or one of a function without a name, the function and the id of `arg` or `code` name no place, a key is missing, the values of
+/// `arg` or the words of `code` are not as many as the operation takes, a folder is named for words that take none, `--follow` goes with other words than
+/// `target ID info`, `list`, `history`, `undo`, `redo` and `command`, or texts are named for what writes or would read standard input, too.
 pub fn usage_means_unknown()
     ensures { UsageMeansUnknown }
 {}

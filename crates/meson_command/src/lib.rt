@@ -10,6 +10,7 @@ mod code;
 mod code_faults;
 mod code_help;
 mod fault;
+mod follow;
 mod help;
 mod history;
 mod input;

@@ -202,10 +202,12 @@ fn takes_folder(subcommand: Option<Subcommand>, words: &ArgMatches<'_>) -> bool 
     }
 }
 
-/// Whether variables may be followed for the words of a subcommand.
+/// Whether `--follow` may be given for the words of a subcommand.
 fn takes_follow(subcommand: Option<Subcommand>, words: &ArgMatches<'_>) -> bool {
     match subcommand {
         Some(Subcommand::Target) => word_or(words, "OPERATION", "") == "info",
+        Some(Subcommand::Command | Subcommand::Undo | Subcommand::Redo) => true,
+        Some(Subcommand::History | Subcommand::List) => true,
         _ => false,
     }
 }
@@ -224,7 +226,10 @@ fn explain_usage(
     }
     if is_set(matches, "follow") && !takes_follow(subcommand, words) {
         remarks.note_words(alloc, "--follow is given with words that do not take it")?;
-        return remarks.help_words(alloc, "--follow goes with target ID info alone");
+        return remarks.help_words(
+            alloc,
+            "--follow goes with target ID info, list, history, undo, redo and command",
+        );
     }
     if matches.get_str("FOLDER").is_some() && !takes_folder(subcommand, words) {
         remarks.note_words(alloc, "--in is given with words that take no folder")?;

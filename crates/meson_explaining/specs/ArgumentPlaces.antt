@@ -4,7 +4,7 @@ use Rattle.std.specs.Prelude.{if◌then◌else◌, is_none, Option, Some, None}
 use Rattle.meson_splice.specs.declared.file_set.File.{File}
 use Rattle.meson_splice.specs.Files.{position_of_file}
 use Rattle.meson_edit.specs.Edits.{is_empty}
-use Rattle.meson_calls.specs.declared.call.Reading.TheVariants.{Written}
+use Rattle.meson_calls.specs.declared.call.Reading.{Reading}
 use Rattle.meson_calls.specs.Calls.{is}
 use Rattle.meson_calls.specs.Loading.{Loaded}
 use Rattle.meson_calls.specs.declared.call.Role.TheVariants as role
@@ -84,7 +84,7 @@ one_place_help _ folder = line_help folder
 abbrev pub places_meant : Loaded → Search → Explanation
 places_meant l s = record { notes = meant_notes l (only_file l.files s.folder) s.name; help = one_place_help s.name s.folder ∷ [] }
 
--- ---- none is meant
+-- ---- none is meant, where build files are read so
 
 -- help where the build file of one folder alone is searched
 abbrev pub folder_lines : Option (List ℕ) → List (List ℕ)
@@ -97,10 +97,10 @@ uncalled_notes f cs = if is_empty cs then plain_note (codes "no build file calls
 abbrev pub no_call_notes : List ℕ → List ℕ → List HeldCall → List HeldCall → List Note
 no_call_notes f id cs subdirs = uncalled_notes f cs ++ missing_notes id (codes "calls of it without a literal name") cs subdirs
 
-abbrev pub no_call : Loaded → Callee → List ℕ → Explanation
-no_call l callee.Target id = not_found Written l role.Target id
-no_call l (callee.Function f) id = record {
-  notes = no_call_notes f id (calls_held l f) (subdirs_held Written l);
+abbrev pub no_call : Reading → Loaded → Callee → List ℕ → Explanation
+no_call reading l callee.Target id = not_found reading l role.Target id
+no_call reading l (callee.Function f) id = record {
+  notes = no_call_notes f id (calls_held l f) (subdirs_held reading l);
   help = codes "a call is found by its name or its variable, which list --of FUNCTION shows, or by its line with at FILE:LINE" ∷ [];
 }
 
@@ -121,17 +121,17 @@ nothing_on file line = record {
   help = codes "list shows the lines of targets, list --of FUNCTION those of other calls, and list --of variable those of assignments" ∷ [];
 }
 
-abbrev pub nothing_there : Loaded → PlaceName → Explanation
-nothing_there l (name.Project id) = record { notes = []; help = codes "project is called in the root file" ∷ [] }
-nothing_there l (name.Call f id) = no_call l f id
-nothing_there l (name.Variable x) = no_setting l x
-nothing_there l (name.Line file line) = nothing_on file line
+abbrev pub nothing_there : Reading → Loaded → PlaceName → Explanation
+nothing_there reading l (name.Project id) = record { notes = []; help = codes "project is called in the root file" ∷ [] }
+nothing_there reading l (name.Call f id) = no_call reading l f id
+nothing_there reading l (name.Variable x) = no_setting l x
+nothing_there reading l (name.Line file line) = nothing_on file line
 
 abbrev pub and_help : Explanation → List (List ℕ) → Explanation
 and_help e more = record { notes = e.notes; help = e.help ++ more }
 
-abbrev pub place_missing : Loaded → Search → Explanation
-place_missing l s = and_help (nothing_there l s.name) (folder_lines s.folder)
+abbrev pub place_missing : Reading → Loaded → Search → Explanation
+place_missing reading l s = and_help (nothing_there reading l s.name) (folder_lines s.folder)
 
 -- ---- the folder or the file has no build file
 

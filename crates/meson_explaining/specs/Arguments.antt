@@ -1,5 +1,6 @@
 -- Why a change of a value is refused, in words for people.
 use Rattle.std.specs.Prelude.{ℕ, List, [], ◌∷◌, ◌++◌, bytes_eq, codes, if◌then◌else◌, Some}
+use Rattle.meson_calls.specs.declared.call.Reading.{Reading}
 use Rattle.meson_calls.specs.Loading.{Loaded, project}
 use Rattle.meson_calls.specs.Parts.{parts}
 use Rattle.meson_calls.specs.Walks.{read_in}
@@ -35,16 +36,17 @@ key_explanation l n (refusal.DuplicateKeyword key) = helped (keyword_notes l (So
 key_explanation l n (refusal.NoSuchValue key) = after_notes (reached_notes l n ++ other_keywords l key n) no_such_value
 key_explanation l n _ = record { notes = []; help = [] }
 
-abbrev pub value_explanation : Loaded → ValueName → Refusal → Explanation
-value_explanation l n refusal.NoProject = no_project l
-value_explanation l n refusal.NotFound = place_missing l n.place
-value_explanation l n refusal.Ambiguous = places_meant l n.place
-value_explanation l n (refusal.NotLiteral key) = helped (reached_notes l n) (uncomputed_help key)
-value_explanation l n (refusal.Shared name) = after_notes (read_notes l name (read_in name (parts (project l)))) shared
-value_explanation l n (refusal.OtherKind key) = after_notes (reached_notes l n) other_kind
-value_explanation l n refusal.ThereAlready = after_notes (reached_notes l n) there_already
-value_explanation l n refusal.NotRemovable = helped (reached_notes l n) (codes "target ID rm_target removes a target; other calls and assignments are removed by hand")
-value_explanation l n refusal.NoFile = place_without_file l n.place
-value_explanation l n refusal.TooDeep = too_deep
-value_explanation l n refusal.TooLarge = too_large
-value_explanation l n why = key_explanation l n why
+-- where build files are read so
+abbrev pub value_explanation : Reading → Loaded → ValueName → Refusal → Explanation
+value_explanation reading l n refusal.NoProject = no_project l
+value_explanation reading l n refusal.NotFound = place_missing reading l n.place
+value_explanation reading l n refusal.Ambiguous = places_meant l n.place
+value_explanation reading l n (refusal.NotLiteral key) = helped (reached_notes l n) (uncomputed_help key)
+value_explanation reading l n (refusal.Shared name) = after_notes (read_notes l name (read_in name (parts (project l)))) shared
+value_explanation reading l n (refusal.OtherKind key) = after_notes (reached_notes l n) other_kind
+value_explanation reading l n refusal.ThereAlready = after_notes (reached_notes l n) there_already
+value_explanation reading l n refusal.NotRemovable = helped (reached_notes l n) (codes "target ID rm_target removes a target; other calls and assignments are removed by hand")
+value_explanation reading l n refusal.NoFile = place_without_file l n.place
+value_explanation reading l n refusal.TooDeep = too_deep
+value_explanation reading l n refusal.TooLarge = too_large
+value_explanation reading l n why = key_explanation l n why

@@ -1,7 +1,6 @@
 -- Why a command is refused, in words for people.
 use Rattle.std.specs.Prelude.{ℕ, List, [], ◌∷◌, ◌++◌, codes, Option, Some, None}
 use Rattle.meson_calls.specs.declared.call.Reading.{Reading}
-use Rattle.meson_calls.specs.declared.call.Reading.TheVariants.{Written}
 use Rattle.meson_calls.specs.declared.call.Role.{Role}
 use Rattle.meson_calls.specs.declared.call.Role.TheVariants as role
 use Rattle.meson_calls.specs.declared.refusal.Refusal.{Refusal}
@@ -140,41 +139,36 @@ abbrev pub not_statement : Loaded → Command → Explanation
 not_statement l c =
     calls_there l c 1 (codes ", inside a larger expression") (codes "further calls that the id names") (codes "set a variable to it alone, or remove it by hand")
 
--- ---- each refusal
+-- ---- each refusal, where build files are read so
 
--- how the build files are read for a command
-abbrev pub reading_for : Command → Reading
-reading_for (command.TargetInfo target reading) = reading
-reading_for _ = Written
+abbrev pub call_explanation : Reading → Loaded → Command → Refusal → Explanation
+call_explanation reading l c refusal.NoProject = no_project l
+call_explanation reading l c refusal.NotFound = and_help (not_found reading l (subject c).0 (subject c).1.id) (folder_lines (subject c).1.folder)
+call_explanation reading l c refusal.Ambiguous = ambiguous l (subject c).0 (subject c).1
+call_explanation reading l c (refusal.UnknownKey key) = unknown_key c key
+call_explanation reading l c (refusal.WrongKind key) = wrong_kind c key
+call_explanation reading l c refusal.BadName = not_valid c
+call_explanation reading l c refusal.HiddenKeywords = hidden l c
+call_explanation reading l c (refusal.DuplicateKeyword key) = duplicate l c key
+call_explanation reading l c (refusal.NotLiteral key) = not_literal l c key
+call_explanation reading l c (refusal.Shared name) = shared
+call_explanation reading l c (refusal.OtherKind key) = other_kind
+call_explanation reading l c refusal.ThereAlready = there_already
+call_explanation reading l c (refusal.NoSuchValue key) = no_such_value
+call_explanation reading l c refusal.SourceNotFound = not_there l c
+call_explanation reading l c refusal.Unresolved = unresolved l c
+call_explanation reading l c refusal.NotRemovable = not_removable l c
+call_explanation reading l c refusal.NameTaken = name_taken l c
+call_explanation reading l c refusal.NoFile = no_file l (subject c).1.folder c
+call_explanation reading l c refusal.NotStatement = not_statement l c
+call_explanation reading l c (refusal.InUse name) = in_use l c name
+call_explanation reading l c refusal.TooDeep = too_deep
+call_explanation reading l c refusal.TooLarge = too_large
+call_explanation reading l c refusal.OutOfMemory = record { notes = []; help = [] }
 
-abbrev pub call_explanation : Loaded → Command → Refusal → Explanation
-call_explanation l c refusal.NoProject = no_project l
-call_explanation l c refusal.NotFound = and_help (not_found (reading_for c) l (subject c).0 (subject c).1.id) (folder_lines (subject c).1.folder)
-call_explanation l c refusal.Ambiguous = ambiguous l (subject c).0 (subject c).1
-call_explanation l c (refusal.UnknownKey key) = unknown_key c key
-call_explanation l c (refusal.WrongKind key) = wrong_kind c key
-call_explanation l c refusal.BadName = not_valid c
-call_explanation l c refusal.HiddenKeywords = hidden l c
-call_explanation l c (refusal.DuplicateKeyword key) = duplicate l c key
-call_explanation l c (refusal.NotLiteral key) = not_literal l c key
-call_explanation l c (refusal.Shared name) = shared
-call_explanation l c (refusal.OtherKind key) = other_kind
-call_explanation l c refusal.ThereAlready = there_already
-call_explanation l c (refusal.NoSuchValue key) = no_such_value
-call_explanation l c refusal.SourceNotFound = not_there l c
-call_explanation l c refusal.Unresolved = unresolved l c
-call_explanation l c refusal.NotRemovable = not_removable l c
-call_explanation l c refusal.NameTaken = name_taken l c
-call_explanation l c refusal.NoFile = no_file l (subject c).1.folder c
-call_explanation l c refusal.NotStatement = not_statement l c
-call_explanation l c (refusal.InUse name) = in_use l c name
-call_explanation l c refusal.TooDeep = too_deep
-call_explanation l c refusal.TooLarge = too_large
-call_explanation l c refusal.OutOfMemory = record { notes = []; help = [] }
-
-abbrev pub explanation : Loaded → Command → Refusal → Explanation
-explanation l (command.Argument n change) why = value_explanation l n why
-explanation l (command.ArgumentInfo n) why = value_explanation l n why
-explanation l (command.CodeInsert place code blank) why = code_explanation l place why
-explanation l (command.CodeRemove statement unused) why = removal_explanation l statement why
-explanation l c why = call_explanation l c why
+abbrev pub explanation : Reading → Loaded → Command → Refusal → Explanation
+explanation reading l (command.Argument n change) why = value_explanation reading l n why
+explanation reading l (command.ArgumentInfo n) why = value_explanation reading l n why
+explanation reading l (command.CodeInsert place code blank) why = code_explanation reading l place why
+explanation reading l (command.CodeRemove statement unused) why = removal_explanation reading l statement why
+explanation reading l c why = call_explanation reading l c why

@@ -12,7 +12,7 @@ use crate::reasons::{
     no_project, no_such_value, other_kind, shared, stated, there_already, too_deep, too_large,
 };
 use crate::targets::all_reads;
-use meson_calls::Refusal;
+use meson_calls::{Reading, Refusal};
 use meson_plan::Project;
 use meson_splice::Many;
 use meson_steps::argument::ValueName;
@@ -78,18 +78,19 @@ fn explain_key(
     }
 }
 
-/// Why a change of a value is refused.
+/// Why a change of a value is refused, where build files are read so.
 pub(crate) fn explain_value(
     alloc: Global,
+    reading: Reading,
     project: &Project,
     name: &ValueName,
     refusal: &Refusal,
 ) -> Result<Explanation, AllocError>
-    ensures { IfOk result (λ e. e ≡ value_explanation project.now name.now refusal.now) }
+    ensures { IfOk result (λ e. e ≡ value_explanation reading project.now name.now refusal.now) }
 {
     match refusal {
         Refusal::NoProject => no_project(alloc, project),
-        Refusal::NotFound => place_missing(alloc, project, &name.place),
+        Refusal::NotFound => place_missing(alloc, reading, project, &name.place),
         Refusal::Ambiguous => places_meant(alloc, project, &name.place),
         Refusal::NoFile => place_without_file(alloc, project, &name.place),
         Refusal::NotLiteral(key) => with_help(

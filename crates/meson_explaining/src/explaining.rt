@@ -20,7 +20,7 @@ use crate::reasons::{
     not_statement, not_valid, other_kind, shared, there_already, too_deep, too_large, unresolved,
 };
 use crate::sources::{extras_at, source_notes, sources_at};
-use crate::subject::{Subject, reading_for, subject_of};
+use crate::subject::{Subject, subject_of};
 use crate::values::value_notes;
 use crate::ways::ways_for;
 use meson_calls::{Reading, Refusal};
@@ -221,26 +221,30 @@ pub(crate) fn unexplained(alloc: Global) -> Explanation
     }
 }
 
-/// Why a command is refused: what the project, as the command finds it, holds that the refusal is about, and what may be done.
+/// Why a command is refused: what the project, as the command finds it, holds that the refusal is about, and what may be done. `reading` is how the project's build
+/// files were read.
 ///
 /// # Errors
 /// Out of memory.
 pub fn explain(
     alloc: Global,
+    reading: Reading,
     project: &Project,
     command: &Command,
     refusal: &Refusal,
 ) -> Result<Explanation, AllocError>
-    ensures { IfOk result (λ e. e ≡ explanation project.now command.now refusal.now) }
+    ensures { IfOk result (λ e. e ≡ explanation reading project.now command.now refusal.now) }
 {
     match command {
-        Command::Argument { name, .. } => explain_value(alloc, project, name, refusal),
-        Command::ArgumentInfo { name } => explain_value(alloc, project, name, refusal),
-        Command::CodeInsert { place, .. } => explain_insertion(alloc, project, place, refusal),
-        Command::CodeRemove { statement, .. } => {
-            explain_removal(alloc, project, statement, refusal)
+        Command::Argument { name, .. } => explain_value(alloc, reading, project, name, refusal),
+        Command::ArgumentInfo { name } => explain_value(alloc, reading, project, name, refusal),
+        Command::CodeInsert { place, .. } => {
+            explain_insertion(alloc, reading, project, place, refusal)
         }
-        _ => explain_call(alloc, project, command, refusal),
+        Command::CodeRemove { statement, .. } => {
+            explain_removal(alloc, reading, project, statement, refusal)
+        }
+        _ => explain_call(alloc, reading, project, command, refusal),
     }
 }
 
@@ -258,20 +262,19 @@ fn call_missing(
     and_folder(alloc, explanation, subject.name.folder)
 }
 
-/// Why any other command is refused.
+/// Why any other command is refused, where the build files are read so.
 fn explain_call(
     alloc: Global,
+    reading: Reading,
     project: &Project,
     command: &Command,
     refusal: &Refusal,
 ) -> Result<Explanation, AllocError>
-    ensures { IfOk result (λ e. e ≡ call_explanation project.now command.now refusal.now) }
+    ensures { IfOk result (λ e. e ≡ call_explanation reading project.now command.now refusal.now) }
 {
     match refusal {
         Refusal::NoProject => no_project(alloc, project),
-        Refusal::NotFound => {
-            call_missing(alloc, reading_for(command), project, subject_of(command))
-        },
+        Refusal::NotFound => call_missing(alloc, reading, project, subject_of(command)),
         Refusal::Ambiguous => ambiguous(alloc, project, subject_of(command)),
         Refusal::UnknownKey(key) => unknown_key(alloc, command, key.get()),
         Refusal::WrongKind(key) => wrong_kind(alloc, command, key.get()),

@@ -9,7 +9,7 @@ use crate::explaining::{unexplained, with_help};
 use crate::explanation::Explanation;
 use crate::missing_places::{and_folder, place_missing, place_without_file};
 use crate::reasons::{no_project, stated, too_deep, too_large};
-use meson_calls::Refusal;
+use meson_calls::{Reading, Refusal};
 use meson_plan::Project;
 use meson_steps::argument::{PlaceName, Search};
 use meson_steps::command::CodePlace;
@@ -28,35 +28,37 @@ fn no_statement_on(alloc: Global, file: &str, line: usize) -> Result<Explanation
     )
 }
 
-/// Why no statement is found.
+/// Why no statement is found, where build files are read so.
 fn statement_missing(
     alloc: Global,
+    reading: Reading,
     project: &Project,
     search: &Search,
 ) -> Result<Explanation, AllocError>
-    ensures { IfOk result (λ e. e ≡ statement_by project.now search.now search.now.name) }
+    ensures { IfOk result (λ e. e ≡ statement_by reading project.now search.now search.now.name) }
 {
     match &search.name {
         PlaceName::Line { file, line } => {
             let explanation = no_statement_on(alloc, file.get(), *line)?;
             and_folder(alloc, explanation, search.folder.as_ref())
         }
-        _ => place_missing(alloc, project, search),
+        _ => place_missing(alloc, reading, project, search),
     }
 }
 
 /// Why a statement that is searched for cannot be changed, or code cannot be inserted beside it.
 fn explain_statement(
     alloc: Global,
+    reading: Reading,
     project: &Project,
     search: &Search,
     refusal: &Refusal,
 ) -> Result<Explanation, AllocError>
-    ensures { IfOk result (λ e. e ≡ statement_explanation project.now search.now refusal.now) }
+    ensures { IfOk result (λ e. e ≡ statement_explanation reading project.now search.now refusal.now) }
 {
     match refusal {
         Refusal::NoProject => no_project(alloc, project),
-        Refusal::NotFound => statement_missing(alloc, project, search),
+        Refusal::NotFound => statement_missing(alloc, reading, project, search),
         Refusal::Ambiguous => places_meant(alloc, project, search),
         Refusal::NoFile => place_without_file(alloc, project, search),
         Refusal::NotStatement => stated(
@@ -89,15 +91,16 @@ fn explain_end(alloc: Global, file: &str, refusal: &Refusal) -> Result<Explanati
 /// Why code is not inserted.
 pub(crate) fn explain_insertion(
     alloc: Global,
+    reading: Reading,
     project: &Project,
     place: &CodePlace,
     refusal: &Refusal,
 ) -> Result<Explanation, AllocError>
-    ensures { IfOk result (λ e. e ≡ code_explanation project.now place.now refusal.now) }
+    ensures { IfOk result (λ e. e ≡ code_explanation reading project.now place.now refusal.now) }
 {
     match place {
-        CodePlace::Above(search) => explain_statement(alloc, project, search, refusal),
-        CodePlace::Below(search) => explain_statement(alloc, project, search, refusal),
+        CodePlace::Above(search) => explain_statement(alloc, reading, project, search, refusal),
+        CodePlace::Below(search) => explain_statement(alloc, reading, project, search, refusal),
         CodePlace::End(file) => explain_end(alloc, file.get(), refusal),
     }
 }
@@ -118,14 +121,15 @@ fn needed_elsewhere(alloc: Global, name: &str) -> Result<Explanation, AllocError
 /// Why a statement is not removed.
 pub(crate) fn explain_removal(
     alloc: Global,
+    reading: Reading,
     project: &Project,
     search: &Search,
     refusal: &Refusal,
 ) -> Result<Explanation, AllocError>
-    ensures { IfOk result (λ e. e ≡ removal_explanation project.now search.now refusal.now) }
+    ensures { IfOk result (λ e. e ≡ removal_explanation reading project.now search.now refusal.now) }
 {
     match refusal {
         Refusal::InUse(name) => needed_elsewhere(alloc, name.get()),
-        _ => explain_statement(alloc, project, search, refusal),
+        _ => explain_statement(alloc, reading, project, search, refusal),
     }
 }

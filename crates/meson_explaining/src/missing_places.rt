@@ -57,17 +57,18 @@ fn no_call_notes(
     Ok(notes)
 }
 
-/// Why no call of a function has the id.
+/// Why no call of a function has the id, where build files are read so.
 fn no_call_of(
     alloc: Global,
+    reading: Reading,
     project: &Project,
     function: &str,
     id: &str,
 ) -> Result<Explanation, AllocError>
-    ensures { IfOk result (λ e. e ≡ no_call project.now (Callee.Function function.now) id.now) }
+    ensures { IfOk result (λ e. e ≡ no_call reading project.now (Callee.Function function.now) id.now) }
 {
     let calls = calls_held(alloc, project, function)?;
-    let held = holdings_of(alloc, Reading::Written, project)?;
+    let held = holdings_of(alloc, reading, project)?;
     let notes = no_call_notes(alloc, function, id, calls.get(), held.not_entered.get())?;
     with_help(
         alloc,
@@ -129,13 +130,14 @@ fn nothing_on(alloc: Global, file: &str, line: usize) -> Result<Explanation, All
     )
 }
 
-/// Why nothing has a name.
+/// Why nothing has a name, where build files are read so.
 fn nothing_there(
     alloc: Global,
+    reading: Reading,
     project: &Project,
     name: &PlaceName,
 ) -> Result<Explanation, AllocError>
-    ensures { IfOk result (λ e. e ≡ nothing_there project.now name.now) }
+    ensures { IfOk result (λ e. e ≡ nothing_there reading project.now name.now) }
 {
     match name {
         PlaceName::Project(_) => with_help(
@@ -146,11 +148,11 @@ fn nothing_there(
         PlaceName::Call {
             callee: Callee::Target,
             id,
-        } => not_found(alloc, Reading::Written, project, Role::Target, id.get()),
+        } => not_found(alloc, reading, project, Role::Target, id.get()),
         PlaceName::Call {
             callee: Callee::Function(function),
             id,
-        } => no_call_of(alloc, project, function.get(), id.get()),
+        } => no_call_of(alloc, reading, project, function.get(), id.get()),
         PlaceName::Variable(variable) => no_setting(alloc, project, variable.get()),
         PlaceName::Line { file, line } => nothing_on(alloc, file.get(), *line),
     }
@@ -178,15 +180,16 @@ pub(crate) fn and_folder(
     })
 }
 
-/// Why a search finds no place.
+/// Why a search finds no place, where build files are read so.
 pub(crate) fn place_missing(
     alloc: Global,
+    reading: Reading,
     project: &Project,
     search: &Search,
 ) -> Result<Explanation, AllocError>
-    ensures { IfOk result (λ e. e ≡ place_missing project.now search.now) }
+    ensures { IfOk result (λ e. e ≡ place_missing reading project.now search.now) }
 {
-    let explanation = nothing_there(alloc, project, &search.name)?;
+    let explanation = nothing_there(alloc, reading, project, &search.name)?;
     and_folder(alloc, explanation, search.folder.as_ref())
 }
 

@@ -1,10 +1,10 @@
 //! The call that a command is about.
 
 ghost use Rattle.std.specs.Prelude.{◌≡◌, option_map};
-ghost use Rattle.meson_explaining.specs.Explaining.{reading_for, subject};
+ghost use Rattle.meson_explaining.specs.Explaining.{subject};
 ghost use Rattle.meson_calls.specs.Searching.{name_at};
 
-use meson_calls::{BorrowedName, Reading};
+use meson_calls::BorrowedName;
 use meson_plan::Role;
 use meson_steps::command::Command;
 
@@ -61,15 +61,5 @@ pub(crate) fn subject_of(command: &Command) -> Subject<'_>
                 folder: None,
             },
         },
-    }
-}
-
-/// How the build files are read for a command.
-pub(crate) fn reading_for(command: &Command) -> Reading
-    ensures { result ≡ reading_for command.now }
-{
-    match command {
-        Command::TargetInfo { reading, .. } => *reading,
-        _ => Reading::Written,
     }
 }

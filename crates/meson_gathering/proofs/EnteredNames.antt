@@ -7,10 +7,13 @@ use Rattle.std.proofs.lemmas.List.{append_assoc}
 use Rattle.std.proofs.lemmas.List.Elements.{All-cons, All-nil}
 use Rattle.std.proofs.lemmas.List.Folds.{list_any-append}
 use Rattle.meson_lex.specs.declared.kinds.Span.{Span}
+use Rattle.meson_calls.specs.declared.call.Reading.{Reading}
+use Rattle.meson_calls.specs.declared.call.Reading.TheVariants.{Written, Followed}
+use Rattle.meson_calls.specs.Entering.{entered_as, folder_file, is_absolute, plainly}
 use Rattle.meson_calls.specs.Project.{Placed}
 use Rattle.meson_calls.specs.Calls.{Call, calls, first_literal, calls_function}
 use Rattle.meson_calls.specs.Folders.{parts_after, slash_parts, is_control, goes_nowhere, is_plain_folder, in_folder, IsFileName, folder_parts, folder_of, file_in}
-use Rattle.meson_calls.specs.Subdirs.{entered, Enters}
+use Rattle.meson_gathering.specs.Gathering.{Enters}
 
 -- ---- the parts of a folder in a folder
 
@@ -102,23 +105,34 @@ module _ (name : List ℕ) (is_name : IsFileName name) where
       go true plain = below folder plain is_name
       go false plain = tt
 
-  call_named : (c : Call Span) → IsNamed (entered name c)
+  read_named : (reading : Reading) (folder : List ℕ) → IsNamed (folder_file reading name folder)
   unfolding IsNamed
-  call_named c = go (calls_function (codes "subdir") c) (first_literal c)
+  read_named Written folder = file_named folder
+  read_named Followed folder = go (is_absolute folder)
     where
-      go : (b : Bool) (o : Option (List ℕ)) → IsNamed (if b then option_and_then (file_in name) o else None)
-      go true None = tt
-      go true (Some folder) = file_named folder
-      go false o = tt
+      go : (b : Bool) → IsNamed (if b then None else file_in name (plainly folder))
+      go true = tt
+      go false = file_named (plainly folder)
 
   cons_named : (o : Option (List ℕ)) (names : List (List ℕ)) → IsNamed o → All IsFileName names → All IsFileName (cons_option o names)
   unfolding IsNamed
   cons_named None names h all = all
   cons_named (Some n) names h all = All-cons IsFileName n names h all
 
-  calls_named : (cs : List (Placed (Call Span))) → All IsFileName (filter_map (λ c. entered name c.it) cs)
-  calls_named [] = All-nil IsFileName
-  calls_named (c ∷ cs) = cons_named (entered name c.it) (filter_map (λ d. entered name d.it) cs) (call_named c.it) (calls_named cs)
+  module _ (reading : Reading) where
+    call_named : (c : Call Span) → IsNamed (entered_as reading name c)
+    unfolding IsNamed
+    call_named c = go (calls_function (codes "subdir") c) (first_literal c)
+      where
+        go : (b : Bool) (o : Option (List ℕ)) → IsNamed (if b then option_and_then (folder_file reading name) o else None)
+        go true None = tt
+        go true (Some folder) = read_named reading folder
+        go false o = tt
 
-  pub names_named : (bytes : List ℕ) (names : List (List ℕ)) → Enters name bytes names → All IsFileName names
-  names_named bytes names (t, spanned, are) = subst (All IsFileName) (sym are) (calls_named (calls (record { name = name; tree = t } ∷ [])))
+    calls_named : (cs : List (Placed (Call Span))) → All IsFileName (filter_map (λ c. entered_as reading name c.it) cs)
+    calls_named [] = All-nil IsFileName
+    calls_named (c ∷ cs) = cons_named (entered_as reading name c.it) (filter_map (λ d. entered_as reading name d.it) cs) (call_named c.it) (calls_named cs)
+
+pub names_named : (reading : Reading) (name : List ℕ) → IsFileName name → (bytes : List ℕ) (names : List (List ℕ)) → Enters reading name bytes names → All IsFileName names
+names_named reading name is_name bytes names (t, spanned, are) =
+    subst (All IsFileName) (sym are) (calls_named name is_name reading (calls (record { name = name; tree = t } ∷ [])))

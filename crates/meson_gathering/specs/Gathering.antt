@@ -6,10 +6,13 @@ use Rattle.meson_splice.specs.declared.file_set.File.{File}
 use Rattle.meson_splice.specs.Files.{position_of_file}
 use Rattle.meson_syntax.specs.declared.fault.ParseFault.{ParseFault}
 use Rattle.meson_syntax.specs.declared.fault.ParseFault.TheVariants as parse
-use Rattle.meson_syntax.specs.Reads.{MayNotRead}
+use Rattle.meson_lex.specs.declared.kinds.Span.{Span}
+use Rattle.meson_syntax.specs.Reads.{IsSpanned, MayNotRead}
+use Rattle.meson_syntax.specs.Tree as tree
+use Rattle.meson_calls.specs.declared.call.Reading.{Reading}
+use Rattle.meson_calls.specs.Entering.{subdirs_as}
 use Rattle.meson_calls.specs.Folders.{build_file}
 use Rattle.meson_calls.specs.Loading.{max_files}
-use Rattle.meson_calls.specs.Subdirs.{Enters}
 use Rattle.meson_store.specs.Commit.{path_in}
 use Rattle.meson_store.specs.Content.{Content}
 
@@ -43,6 +46,10 @@ module _ (content : Content) (folder : Option (List ℕ)) where
 
 -- ---- one file after another
 
+-- the bytes parse as a tree which enters files of these names, if build files are read so
+abbrev pub Enters : Reading → List ℕ → List ℕ → List (List ℕ) → Type 0
+Enters reading name bytes names = (t : tree.File Span) × IsSpanned bytes t × (names ≡ subdirs_as reading name t)
+
 -- how the files of a project are found
 pub data Ending : Type 0 where
   -- these are the files, in order
@@ -65,30 +72,30 @@ pub record IsNextFile (content : Content) (folder : Option (List ℕ)) (names : 
   pub is_new : position_of_file name there ≡ None
 
 -- The files that were looked at, followed by those that are still to be looked at, in order. Each in turn enters the files of its `subdir` calls.
-pub data Gathers (content : Content) (folder : Option (List ℕ)) : List File → List File → Ending → Type 0 where
-  ended : (looked : List File) → Gathers content folder looked [] (whole looked)
-  enters : (looked todo more : List File) (f : File) (names : List (List ℕ)) (end : Ending) → Enters f.name f.bytes names
+pub data Gathers (reading : Reading) (content : Content) (folder : Option (List ℕ)) : List File → List File → Ending → Type 0 where
+  ended : (looked : List File) → Gathers reading content folder looked [] (whole looked)
+  enters : (looked todo more : List File) (f : File) (names : List (List ℕ)) (end : Ending) → Enters reading f.name f.bytes names
       → files_entered content folder names (looked ++ f ∷ todo) ≡ Some ((looked ++ f ∷ []) ++ more)
-      → Gathers content folder (looked ++ f ∷ []) more end → Gathers content folder looked (f ∷ todo) end
+      → Gathers reading content folder (looked ++ f ∷ []) more end → Gathers reading content folder looked (f ∷ todo) end
   is_unparsed : (looked todo : List File) (f : File) (fault : ParseFault) → MayNotRead f.bytes fault → fault ≢ parse.OutOfMemory
-      → Gathers content folder looked (f ∷ todo) (unparsed f.name f.bytes fault)
-  is_unread : (looked todo : List File) (f : File) (names : List (List ℕ)) (name : List ℕ) → Enters f.name f.bytes names
-      → IsNextFile content folder names (looked ++ f ∷ todo) name → Gathers content folder looked (f ∷ todo) (unread name)
-  are_too_many : (looked todo : List File) (f : File) (names : List (List ℕ)) → Enters f.name f.bytes names
-      → files_entered content folder names (looked ++ f ∷ todo) ≡ None → Gathers content folder looked (f ∷ todo) too_many
+      → Gathers reading content folder looked (f ∷ todo) (unparsed f.name f.bytes fault)
+  is_unread : (looked todo : List File) (f : File) (names : List (List ℕ)) (name : List ℕ) → Enters reading f.name f.bytes names
+      → IsNextFile content folder names (looked ++ f ∷ todo) name → Gathers reading content folder looked (f ∷ todo) (unread name)
+  are_too_many : (looked todo : List File) (f : File) (names : List (List ℕ)) → Enters reading f.name f.bytes names
+      → files_entered content folder names (looked ++ f ∷ todo) ≡ None → Gathers reading content folder looked (f ∷ todo) too_many
 
 -- The same from the root file on, which is read first.
-pub data Collects (content : Content) (folder : Option (List ℕ)) : Ending → Type 0 where
-  no_root : held_bytes content folder build_file ≡ None → Collects content folder rootless
-  unread_root : Collects content folder (unread build_file)
+pub data Collects (reading : Reading) (content : Content) (folder : Option (List ℕ)) : Ending → Type 0 where
+  no_root : held_bytes content folder build_file ≡ None → Collects reading content folder rootless
+  unread_root : Collects reading content folder (unread build_file)
   from_root : (bytes : List ℕ) (end : Ending) → held_bytes content folder build_file ≡ Some bytes
-      → Gathers content folder [] (file_of build_file bytes ∷ []) end
-      → Collects content folder end
+      → Gathers reading content folder [] (file_of build_file bytes ∷ []) end
+      → Collects reading content folder end
 
 -- P holds of what the store holds, if it reports that
 abbrev pub Told : Option Content → (Content → Type 0) → Type 0
 Told before P = (content : Content) → before ≡ Some content → P content
 
 -- a store that reported this before the files were read
-abbrev pub Finds : Option Content → Option (List ℕ) → Ending → Type 0
-Finds before folder end = Told before (λ content. Collects content folder end)
+abbrev pub Finds : Reading → Option Content → Option (List ℕ) → Ending → Type 0
+Finds reading before folder end = Told before (λ content. Collects reading content folder end)

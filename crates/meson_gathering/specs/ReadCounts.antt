@@ -3,14 +3,14 @@
 use Rattle.std.specs.Prelude.{◌≡◌, ◌<◌, ◌≤◌, ◌⊎◌, true, ℕ, suc, List, [], ◌∷◌, ◌++◌, length, Option, Some, None, IfSome, is_some}
 use Rattle.meson_splice.specs.declared.file_set.File.{File}
 use Rattle.meson_splice.specs.Files.{bytes_at, position_of_file}
+use Rattle.meson_calls.specs.declared.call.Reading.{Reading}
 use Rattle.meson_calls.specs.Folders.{build_file}
 use Rattle.meson_calls.specs.Loading.{name_of_file}
-use Rattle.meson_calls.specs.Subdirs.{Enters}
 use Rattle.meson_store.specs.StoreCalls.{one_more}
 use Rattle.meson_store.specs.Content.{Content}
 use Rattle.meson_store.specs.declared.store_fault.StoreFault.{StoreFault}
 use Rattle.meson_store.specs.declared.store_fault.StoreFault.TheVariants.{ReadFailed}
-use Rattle.meson_gathering.specs.Gathering.{Told, file_of, held_bytes, files_with}
+use Rattle.meson_gathering.specs.Gathering.{Enters, Told, file_of, held_bytes, files_with}
 use Rattle.meson_gathering.specs.declared.fault.GatherFault.{GatherFault}
 use Rattle.meson_gathering.specs.declared.fault.GatherFault.TheVariants.{Store}
 
@@ -71,17 +71,18 @@ module _ (before : Option Content) (folder : Option (List ℕ)) where
     pub entered : EntersEach files reads done there so_far
     pub last : MayAskIfNew name there so_far reads' unread
 
-  -- ---- the files, of which this number were looked at
+-- ---- the files, of which this number were looked at, if build files are read so
 
+module _ (reading : Reading) (before : Option Content) (folder : Option (List ℕ)) where
   -- the names that the file at a place enters are entered
   abbrev pub EntersFor : List File → ℕ → ℕ → List File → ℕ → Type 0
-  EntersFor files place reads new reads' = (names : List (List ℕ)) × Enters (name_of_file place files) (bytes_at place files) names
-      × EntersEach files reads names new reads'
+  EntersFor files place reads new reads' = (names : List (List ℕ)) × Enters reading (name_of_file place files) (bytes_at place files) names
+      × EntersEach before folder files reads names new reads'
 
   -- they are not known, or one of them is not entered
   abbrev pub StopsFor : List File → ℕ → ℕ → ℕ → Option (List ℕ) → Type 0
   StopsFor files place reads reads' unread = AsksNone reads reads' unread ⊎ ((place < length files) × (names : List (List ℕ))
-      × Enters (name_of_file place files) (bytes_at place files) names × StopsEntering files reads names reads' unread)
+      × Enters reading (name_of_file place files) (bytes_at place files) names × StopsEntering before folder files reads names reads' unread)
 
   pub data Looks (reads : ℕ) : List File → ℕ → ℕ → Type 0 where
     root_read : (bytes : List ℕ) → Told before (λ content. held_bytes content folder build_file ≡ Some bytes)

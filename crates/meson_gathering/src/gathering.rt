@@ -6,8 +6,8 @@ ghost use Rattle.meson_syntax.specs.Reads.{IsSpanned, MayNotRead};
 ghost use Rattle.meson_syntax.specs.View.{view};
 ghost use Rattle.meson_calls.specs.Folders.{IsFileName, build_file};
 ghost use Rattle.meson_calls.specs.Loading.{HasFileName, IsProject, max_files, name_of_file};
-ghost use Rattle.meson_calls.specs.Subdirs.{Enters};
-ghost use Rattle.meson_gathering.specs.Gathering.{Collects, Finds, Gathers, Told, files_entered, file_of, held_bytes, named_folder, whole, with_more};
+ghost use Rattle.meson_calls.specs.declared.call.Reading.{Reading};
+ghost use Rattle.meson_gathering.specs.Gathering.{Collects, Enters, Finds, Gathers, Told, files_entered, file_of, held_bytes, named_folder, whole, with_more};
 ghost use Rattle.meson_gathering.specs.Gathered.{IsUnread, StopsAt};
 ghost use Rattle.meson_gathering.specs.inside.Gathered.{Grows, IsNotAdded, IsNotEntered, LooksAt, StopsLooking};
 ghost use Rattle.meson_gathering.specs.ReadCounts.{EntersEach, EntersFor, EntersOne, MayAsk, MayAskIfNew, ReadsFiles, StopsEntering, StopsFor, StopsReading, unread_file, unread_name};
@@ -158,11 +158,16 @@ fn unparsed(
 }
 
 /// The tree of one of the files, and the names that it enters.
-fn entry_at(alloc: Global, files: &NamedFiles, place: usize) -> Result<ParsedFile, GatherFault>
+fn entry_at(
+    alloc: Global,
+    reading: Reading,
+    files: &NamedFiles,
+    place: usize,
+) -> Result<ParsedFile, GatherFault>
     requires within { place < length files.now }
     requires named { All HasFileName files.now }
     ensures reads { IfOk result (λ entry. IsSpanned (bytes_at place files.now) (view (bytes_at place files.now) entry.tree)) }
-    ensures names { IfOk result (λ entry. Enters (name_of_file place files.now) (bytes_at place files.now) (map string_bytes entry.names.items)) }
+    ensures names { IfOk result (λ entry. Enters reading (name_of_file place files.now) (bytes_at place files.now) (map string_bytes entry.names.items)) }
     ensures named { IfOk result (λ entry. All IsFileName (map string_bytes entry.names.items)) }
     ensures stopped { IfErr result (StopsLooking (name_of_file place files.now) (bytes_at place files.now)) }
 {
@@ -172,7 +177,7 @@ fn entry_at(alloc: Global, files: &NamedFiles, place: usize) -> Result<ParsedFil
         Ok(tree) => tree,
         Err(fault) => return Err(unparsed(alloc, name, bytes, fault)?),
     };
-    let names = entered_by(alloc, Reading::Written, name, bytes, &tree)?;
+    let names = entered_by(alloc, reading, name, bytes, &tree)?;
     Ok(ParsedFile { tree, names })
 }
 
@@ -181,6 +186,7 @@ fn look<S: Store>(
     alloc: Global,
     store: &mut S,
     folder: Option<&str>,
+    reading: Reading,
     files: &mut NamedFiles,
     place: usize,
 ) -> Result<Parsed, GatherFault>
@@ -188,20 +194,20 @@ fn look<S: Store>(
     requires named { All HasFileName files.old }
     requires few { length files.old ≤ max_files }
     ensures looked { OnOk result (Told (S.content store.old)
-        (λ content. LooksAt content (named_folder folder.entry) place files.old files.new)) }
+        (λ content. LooksAt reading content (named_folder folder.entry) place files.old files.new)) }
     ensures reads { IfOk result (λ tree. IsSpanned (bytes_at place files.old) (view (bytes_at place files.old) tree)) }
     ensures grows { OnOk result (Grows files.old files.new) }
     ensures stopped { IfErr result (StopsAt (S.failures store.old) (S.failures store.new)
-        (λ end. Told (S.content store.old) (λ content. Gathers content (named_folder folder.entry) (take place files.old) (drop place files.old) end))) }
+        (λ end. Told (S.content store.old) (λ content. Gathers reading content (named_folder folder.entry) (take place files.old) (drop place files.old) end))) }
     ensures kept { S.content store.new ≡ S.content store.old }
     ensures counts { S.failures store.old ≤ S.failures store.new }
     ensures no_replace { S.replaces store.new ≡ S.replaces store.old }
-    ensures asks { OnOk result (EntersFor (S.content store.old) (named_folder folder.entry) files.old place (S.reads store.old)
+    ensures asks { OnOk result (EntersFor reading (S.content store.old) (named_folder folder.entry) files.old place (S.reads store.old)
         files.new (S.reads store.new)) }
-    ensures asks_at_most { IfErr result (λ fault. StopsFor (S.content store.old) (named_folder folder.entry) files.old place (S.reads store.old)
+    ensures asks_at_most { IfErr result (λ fault. StopsFor reading (S.content store.old) (named_folder folder.entry) files.old place (S.reads store.old)
         (S.reads store.new) (unread_file fault)) }
 {
-    let ParsedFile { tree, names } = entry_at(alloc, files, place)?;
+    let ParsedFile { tree, names } = entry_at(alloc, reading, files, place)?;
     enter_all(alloc, store, folder, files, names.as_slice())?;
     Ok(tree)
 }
@@ -214,8 +220,8 @@ fn root_set<S: Store>(
 ) -> Result<NamedFiles, GatherFault>
     ensures root { IfOk result (λ files. (bytes : List ℕ) × (files ≡ file_of build_file bytes ∷ [])
         × Told (S.content store.old) (λ content. held_bytes content (named_folder folder.entry) build_file ≡ Some bytes)) }
-    ensures stopped { IfErr result (StopsAt (S.failures store.old) (S.failures store.new)
-        (Finds (S.content store.old) (named_folder folder.entry))) }
+    ensures stopped { IfErr result (λ stop. (reading : Reading) → StopsAt (S.failures store.old) (S.failures store.new)
+        (Finds reading (S.content store.old) (named_folder folder.entry)) stop) }
     ensures kept { S.content store.new ≡ S.content store.old }
     ensures counts { S.failures store.old ≤ S.failures store.new }
     ensures no_replace { S.replaces store.new ≡ S.replaces store.old }
@@ -233,7 +239,7 @@ fn root_set<S: Store>(
     Ok(files)
 }
 
-/// Reads the project in this folder: the root file, and then for each file in order those that it enters.
+/// Reads the project in this folder: the root file, and then for each file in order those that it enters, if build files are read so.
 /// A file that is entered need not exist. Each file is parsed once. The store is queried once for the root file, once for each entered name for which no file
 /// was read before, and for no other.
 ///
@@ -244,23 +250,24 @@ pub fn gather<S: Store>(
     alloc: Global,
     store: &mut S,
     folder: Option<&str>,
+    reading: Reading,
 ) -> Result<Project, GatherFault>
-    ensures files { IfOk result (λ project. Finds (S.content store.old) (named_folder folder.entry) (whole project.files)) }
+    ensures files { IfOk result (λ project. Finds reading (S.content store.old) (named_folder folder.entry) (whole project.files)) }
     ensures stopped { IfErr result (StopsAt (S.failures store.old) (S.failures store.new)
-        (Finds (S.content store.old) (named_folder folder.entry))) }
+        (Finds reading (S.content store.old) (named_folder folder.entry))) }
     ensures kept { S.content store.new ≡ S.content store.old }
     ensures counts { S.failures store.old ≤ S.failures store.new }
     ensures no_replace { S.replaces store.new ≡ S.replaces store.old }
-    ensures asks { IfOk result (λ project. ReadsFiles (S.content store.old) (named_folder folder.entry) (S.reads store.old)
+    ensures asks { IfOk result (λ project. ReadsFiles reading (S.content store.old) (named_folder folder.entry) (S.reads store.old)
         project.files (S.reads store.new)) }
-    ensures asks_at_most { IfErr result (λ fault. StopsReading (S.content store.old) (named_folder folder.entry) (S.reads store.old)
+    ensures asks_at_most { IfErr result (λ fault. StopsReading reading (S.content store.old) (named_folder folder.entry) (S.reads store.old)
         (S.reads store.new) (unread_file fault)) }
 {
     let mut files = root_set(alloc, store, folder)?;
     let mut trees = Vec::new(alloc);
     let mut looked = 0;
     'looking: while looked < files.len() {
-        let tree = look(alloc, store, folder, &mut files, looked)?;
+        let tree = look(alloc, store, folder, reading, &mut files, looked)?;
         trees.push(tree)?;
         looked += 1;
     }

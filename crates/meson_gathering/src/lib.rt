@@ -4,8 +4,6 @@
 mod fault;
 mod gathering;
 mod named_files;
-mod texts;
 
 pub use fault::GatherFault;
 pub use gathering::{gather, read_file};
-pub use texts::gather_with_texts;

@@ -2,6 +2,7 @@
 use Rattle.std.proofs.Common.{◌≡◌, ◌⊎◌, ◌≤◌, ◌||◌, Bool, false, true, ℕ, List, [], ◌∷◌, length, Option, Some, None, Result, Ok, Err, inl, inr, refl, sym, ap, ◌∙◌, subst, arith}
 use Rattle.std.specs.Prelude.{◌&&◌, IfErr, IfOk, IsTrue, if◌then◌else◌}
 use Rattle.std.proofs.lemmas.List.{append-nil}
+use Rattle.meson_calls.specs.declared.call.Reading.{Reading}
 use Rattle.meson_command.specs.Asking.{no_flags, only_asks, without_text}
 use Rattle.meson_command.specs.declared.asked.Action.{Action}
 use Rattle.meson_command.specs.declared.asked.Action.TheVariants as action
@@ -55,9 +56,11 @@ module _ (how : LogUse) (dir : Option (List ℕ)) (before : Option Content) (fir
   no-log-before _ (log_unread is rose) = log_unread is (rose_before first old new h k rose)
   no-log-before _ (bad_log is bad) = bad_log is bad
 
-  pub none-before : (stop : Stop) → OpensNone how before dir old new stop → OpensNone how before dir first new stop
-  none-before _ (no_project fault stops) = no_project fault (stops_within (Finds before dir) (Finds before dir) (λ end p. p) first old new h k fault stops)
-  none-before _ (no_log files why found lacks) = no_log files why found (no-log-before why lacks)
+pub none-before : (how : LogUse) (reading : Reading) (dir : Option (List ℕ)) (before : Option Content) (first old new : ℕ) → first ≤ old → old ≤ new → (stop : Stop)
+    → OpensNone how reading before dir old new stop → OpensNone how reading before dir first new stop
+none-before how reading dir before first old new h k _ (no_project fault stops) =
+    no_project fault (stops_within (Finds reading before dir) (Finds reading before dir) (λ end p. p) first old new h k fault stops)
+none-before how reading dir before first old new h k _ (no_log files why found lacks) = no_log files why found (no-log-before how dir before first old new h k why lacks)
 
 -- ---- what was read before a commit
 
@@ -90,11 +93,11 @@ taken-then a b c u files fault t = record {
 -- ---- a step
 
 module _ (dir : Option (List ℕ)) (step : Step) (flags : Flags) where
-  abbrev edits-before : (before middle : Option Content) → middle ≡ before → Edits (log_use flags.no_log) middle dir step flags.json → Edits (log_use flags.no_log) before dir step flags.json
+  abbrev edits-before : (before middle : Option Content) → middle ≡ before → Edits (log_use flags.no_log) flags.reading middle dir step flags.json → Edits (log_use flags.no_log) flags.reading before dir step flags.json
   edits-before before middle same e = record {
     old = e.old;
     log = e.log;
-    opens = subst (λ m. Opens (log_use flags.no_log) m dir e.old e.log) same e.opens;
+    opens = subst (λ m. Opens (log_use flags.no_log) flags.reading m dir e.old e.log) same e.opens;
     new = e.new;
     is_project = e.is_project;
     report = e.report;
@@ -106,12 +109,12 @@ module _ (dir : Option (List ℕ)) (step : Step) (flags : Flags) where
   -- the store was read before, for a script
   pub step-before : (a b c : Seen) (end : Result Said Stop) → Untouched a b → b.failures ≤ c.failures → StepEnds dir step flags b c end → StepEnds dir step flags a c end
   step-before a b c _ u k (not_opened stop v opens) =
-      not_opened stop (untouched-then a b c u v) (none-before (log_use flags.no_log) dir a.content a.failures b.failures c.failures u.counts k stop (subst (λ m. OpensNone (log_use flags.no_log) m dir b.failures c.failures stop) u.kept opens))
-  step-before a b c _ u k (refused old log stop v opens may) = refused old log stop (untouched-then a b c u v) (subst (λ m. Opens (log_use flags.no_log) m dir old log) u.kept opens) may
+      not_opened stop (untouched-then a b c u v) (none-before (log_use flags.no_log) flags.reading dir a.content a.failures b.failures c.failures u.counts k stop (subst (λ m. OpensNone (log_use flags.no_log) flags.reading m dir b.failures c.failures stop) u.kept opens))
+  step-before a b c _ u k (refused old log stop v opens may) = refused old log stop (untouched-then a b c u v) (subst (λ m. Opens (log_use flags.no_log) flags.reading m dir old log) u.kept opens) may
   step-before a b c _ u k (told old new log report said v opens does only says) =
-      told old new log report said (untouched-then a b c u v) (subst (λ m. Opens (log_use flags.no_log) m dir old log) u.kept opens) does only says
+      told old new log report said (untouched-then a b c u v) (subst (λ m. Opens (log_use flags.no_log) flags.reading m dir old log) u.kept opens) does only says
   step-before a b c _ u k (shown old new log report said v opens does writes dry shows all warns) =
-      shown old new log report said (untouched-then a b c u v) (subst (λ m. Opens (log_use flags.no_log) m dir old log) u.kept opens) does writes dry shows all warns
+      shown old new log report said (untouched-then a b c u v) (subst (λ m. Opens (log_use flags.no_log) flags.reading m dir old log) u.kept opens) does writes dry shows all warns
   step-before a b c _ u k (done e said writes wet are says all warns) =
       done (edits-before a.content b.content u.kept e) said writes wet (replaced-then a b c u (written e) are) says all warns
   step-before a b c _ u k (unwritten e fault writes wet taken) = unwritten (edits-before a.content b.content u.kept e) fault writes wet (taken-then a b c u (written e) fault taken)
@@ -120,11 +123,11 @@ module _ (dir : Option (List ℕ)) (step : Step) (flags : Flags) where
   -- ---- by what stopped it, or by what is written
 
   module _ (b a : Seen) (u : Untouched b a) where
-    pub stopped-opening : (stop : Stop) → WantsMemory stop ⊎ OpensNone (log_use flags.no_log) b.content dir b.failures a.failures stop → StepEnds dir step flags b a (Err stop)
+    pub stopped-opening : (stop : Stop) → WantsMemory stop ⊎ OpensNone (log_use flags.no_log) flags.reading b.content dir b.failures a.failures stop → StepEnds dir step flags b a (Err stop)
     stopped-opening stop (inl m) = no_memory stop u m
     stopped-opening stop (inr none) = not_opened stop u none
 
-    module _ (old : Session) (log : List ℕ) (opens : Opens (log_use flags.no_log) b.content dir old log) where
+    module _ (old : Session) (log : List ℕ) (opens : Opens (log_use flags.no_log) flags.reading b.content dir old log) where
       pub stopped-acting : (stop : Stop) → WantsMemory stop ⊎ MayRefuseStep flags step old stop → StepEnds dir step flags b a (Err stop)
       stopped-acting stop (inl m) = no_memory stop u m
       stopped-acting stop (inr may) = refused old log stop u opens may
@@ -136,11 +139,11 @@ module _ (dir : Option (List ℕ)) (step : Step) (flags : Flags) where
       dry-ends writes dry said s =
           shown old s.shown.new log s.shown.report s.plain u opens s.shown.does writes dry s.shown.shows said s.warns
 
-  module _ (b m a : Seen) (u : Untouched b m) (writes : only_tells step ≡ false) (wet : flags.dry_run ≡ false) (old : Session) (log : List ℕ) (opens : Opens (log_use flags.no_log) b.content dir old log) (edit : Edit) (w : IsEditedWith flags old log step edit) where
+  module _ (b m a : Seen) (u : Untouched b m) (writes : only_tells step ≡ false) (wet : flags.dry_run ≡ false) (old : Session) (log : List ℕ) (opens : Opens (log_use flags.no_log) flags.reading b.content dir old log) (edit : Edit) (w : IsEditedWith flags old log step edit) where
     abbrev e : IsEdited (log_use flags.no_log) old log step flags.json w.plain
     e = w.edited
 
-    abbrev edits : Edits (log_use flags.no_log) b.content dir step flags.json
+    abbrev edits : Edits (log_use flags.no_log) flags.reading b.content dir step flags.json
     edits = record {
       old = old;
       log = log;
@@ -171,8 +174,8 @@ module _ (dir : Option (List ℕ)) (listing : Listing) (flags : Flags) where
   -- the store was read before
   pub listing-before : (a b c : Seen) (end : Result Said Stop) → Untouched a b → b.failures ≤ c.failures → ListingEnds dir listing flags b c end → ListingEnds dir listing flags a c end
   listing-before a b c _ u k (has_none stop v opens) =
-      has_none stop (untouched-then a b c u v) (none-before (log_use flags.no_log) dir a.content a.failures b.failures c.failures u.counts k stop (subst (λ m. OpensNone (log_use flags.no_log) m dir b.failures c.failures stop) u.kept opens))
-  listing-before a b c _ u k (listed session log v opens) = listed session log (untouched-then a b c u v) (subst (λ m. Opens (log_use flags.no_log) m dir session log) u.kept opens)
+      has_none stop (untouched-then a b c u v) (none-before (log_use flags.no_log) flags.reading dir a.content a.failures b.failures c.failures u.counts k stop (subst (λ m. OpensNone (log_use flags.no_log) flags.reading m dir b.failures c.failures stop) u.kept opens))
+  listing-before a b c _ u k (listed session log v opens) = listed session log (untouched-then a b c u v) (subst (λ m. Opens (log_use flags.no_log) flags.reading m dir session log) u.kept opens)
   listing-before a b c _ u k (wants_memory stop v wants) = wants_memory stop (untouched-then a b c u v) wants
 
   pub listing-untouched : (before after : Seen) (end : Result Said Stop) → ListingEnds dir listing flags before after end → Untouched before after
@@ -181,12 +184,12 @@ module _ (dir : Option (List ℕ)) (listing : Listing) (flags : Flags) where
   listing-untouched before after _ (wants_memory stop u wants) = u
 
   pub listing-unopened : (before after : Seen) → Untouched before after → (stop : Stop)
-      → WantsMemory stop ⊎ OpensNone (log_use flags.no_log) before.content dir before.failures after.failures stop → ListingEnds dir listing flags before after (Err stop)
+      → WantsMemory stop ⊎ OpensNone (log_use flags.no_log) flags.reading before.content dir before.failures after.failures stop → ListingEnds dir listing flags before after (Err stop)
   listing-unopened before after u stop (inl m) = wants_memory stop u m
   listing-unopened before after u stop (inr none) = has_none stop u none
 
-  pub listing-told : (before after : Seen) → Untouched before after → (session : Session) (log : List ℕ) → Opens (log_use flags.no_log) before.content dir session log
-      → (end : Result Said Stop) → IfOk end (λ said. said ≡ shown_text (listing_text flags.json listing session)) → IfErr end WantsMemory → ListingEnds dir listing flags before after end
+  pub listing-told : (before after : Seen) → Untouched before after → (session : Session) (log : List ℕ) → Opens (log_use flags.no_log) flags.reading before.content dir session log
+      → (end : Result Said Stop) → IfOk end (λ said. said ≡ shown_text (listing_text flags.reading flags.json listing session)) → IfErr end WantsMemory → ListingEnds dir listing flags before after end
   listing-told before after u session log opens (Ok said) is none = subst (λ s. ListingEnds dir listing flags before after (Ok s)) (sym is) (listed session log u opens)
   listing-told before after u session log opens (Err stop) is none = wants_memory stop u none
 
@@ -199,11 +202,11 @@ untouched-same : (before after : Seen) → Untouched before after → IsUnchange
 untouched-same before after u = (u.kept, u.no_replace)
 
 -- each file that is written holds what it held, but perhaps for the last one, the log
-cut-old : (how : LogUse) {before : Option Content} (dir : Option (List ℕ)) (step : Step) {json : Bool} (e : Edits how before dir step json) (m : Content) → before ≡ Some m → CutLast (HasOld m) (written e)
-cut-old Kept dir step e m is =
+cut-old : (how : LogUse) {reading : Reading} {before : Option Content} (dir : Option (List ℕ)) (step : Step) {json : Bool} (e : Edits how reading before dir step json) (m : Content) → before ≡ Some m → CutLast (HasOld m) (written e)
+cut-old Kept {reading = reading} dir step e m is =
     puts-cut (HasOld m) dir e.old.project.files (file_of log_name e.log) (with_log Kept e.new.project.files e.new_log)
-    (each-map (IsHeld m dir) (λ f. (bytes : List ℕ) → HasOld m (put_at dir f bytes)) (λ f h bytes. h) e.old.project.files (held-collected m dir e.old.project.files (e.opens.found m is)))
-cut-old Ignored dir step e m is =
+    (each-map (IsHeld m dir) (λ f. (bytes : List ℕ) → HasOld m (put_at dir f bytes)) (λ f h bytes. h) e.old.project.files (held-collected m dir reading e.old.project.files (e.opens.found m is)))
+cut-old Ignored {reading = reading} dir step e m is =
     let files = puts dir e.old.project.files e.new.project.files in
     record {
       front = files;
@@ -211,11 +214,11 @@ cut-old Ignored dir step e m is =
       all = sym (append-nil files);
       few = omega arith;
       each = puts-each (HasOld m) dir e.old.project.files e.new.project.files
-          (each-map (IsHeld m dir) (λ f. (bytes : List ℕ) → HasOld m (put_at dir f bytes)) (λ f h bytes. h) e.old.project.files (held-collected m dir e.old.project.files (e.opens.found m is)));
+          (each-map (IsHeld m dir) (λ f. (bytes : List ℕ) → HasOld m (put_at dir f bytes)) (λ f h bytes. h) e.old.project.files (held-collected m dir reading e.old.project.files (e.opens.found m is)));
     }
 
 -- a commit for which memory ran out
-ran-out : (how : LogUse) (dir : Option (List ℕ)) (step : Step) (before after : Seen) {json : Bool} (e : Edits how before.content dir step json) → TakenBack (written e) before after store.OutOfMemory → after.content ≡ before.content
+ran-out : (how : LogUse) {reading : Reading} (dir : Option (List ℕ)) (step : Step) (before after : Seen) {json : Bool} (e : Edits how reading before.content dir step json) → TakenBack (written e) before after store.OutOfMemory → after.content ≡ before.content
 ran-out how dir step before after e taken = kept before.content refl
   where
     kept : (content : Option Content) → before.content ≡ content → after.content ≡ before.content
@@ -245,7 +248,7 @@ module _ (exit_code : Bool) (asked : Result Asked UsageFault) (before after : Se
   not-refused code (inr e) (inr z) = absurd (omega (arith, e, z))
 
   module _ (a : Asked) (step : Step) (is : asked ≡ Ok (without_text a)) (asks : AsksFor a.title a.action before.content (request.Step step)) where
-    unwritten-keeps : (e : Edits (log_use a.flags.no_log) before.content a.dir step a.flags.json) (fault : StoreFault) → TakenBack (written e) before after fault → Refusing (store_fault_status fault) → Keeps (store_fault_status fault)
+    unwritten-keeps : (e : Edits (log_use a.flags.no_log) a.flags.reading before.content a.dir step a.flags.json) (fault : StoreFault) → TakenBack (written e) before after fault → Refusing (store_fault_status fault) → Keeps (store_fault_status fault)
     unwritten-keeps e (store.ReadFailed name) t s = not-refused 3 s (inr refl)
     unwritten-keeps e (store.WriteFailed name still) t s = not-refused 3 s (inr refl)
     unwritten-keeps e (store.NoFile name) t s = not-refused 3 s (inr refl)

@@ -60,7 +60,7 @@ same-leaves : (dir : Option (List ℕ)) (before after : Seen) → after.content 
 same-leaves dir before after same old new is now path other = ap (λ c. get c path) (some-is (sym now ∙ same ∙ is))
 
 module _ (dir : Option (List ℕ)) (step : Step) (flags : Flags) (before after : Seen) where
-  done-leaves : (e : Edits (log_use flags.no_log) before.content dir step flags.json) (said : Said) → only_tells step ≡ false → AreReplaced (written e) before after
+  done-leaves : (e : Edits (log_use flags.no_log) flags.reading before.content dir step flags.json) (said : Said) → only_tells step ≡ false → AreReplaced (written e) before after
       → SaysStep flags.json step e.old.project.files e.new.project.files e.report said → status true (Ok said) ≡ 0 → LeavesFiles dir before after
   done-leaves e said writes_ are says is_0 old new is now path other =
       let changed = sym (says-changed flags.json step e.old e.new e.report said (inl says)) ∙ not-changed said is_0 in

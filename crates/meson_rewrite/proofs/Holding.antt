@@ -3,6 +3,7 @@ use Rattle.std.proofs.Common.{◌≡◌, ℕ, List, [], ◌∷◌, ◌++◌, Opt
 use Rattle.std.specs.Prelude.{cond, nat_lt, option_and_then}
 use Rattle.meson_splice.specs.declared.file_set.File.{File}
 use Rattle.meson_splice.specs.Files.{position_of_file}
+use Rattle.meson_calls.specs.declared.call.Reading.{Reading}
 use Rattle.meson_calls.specs.Loading.{max_files}
 use Rattle.meson_store.proofs.Restoring.{Each, each-append, each-left, each-right}
 use Rattle.meson_store.specs.Content.{Content}
@@ -37,20 +38,20 @@ module _ (content : Content) (folder : Option (List ℕ)) where
           more now result (sym (ap (option_and_then (files_entered content folder names)) is) ∙ e)
           (held-joined files name (position_of_file name files) (held_bytes content folder name) refl now is h)
 
-  held-gathered : (looked todo : List File) (end : Ending) → Gathers content folder looked todo end → (files : List File) → end ≡ whole files
+  held-gathered : (reading : Reading) (looked todo : List File) (end : Ending) → Gathers reading content folder looked todo end → (files : List File) → end ≡ whole files
       → Each IsHeld looked → Each IsHeld todo → Each IsHeld files
-  held-gathered looked _ _ (ended _) files e h k = let same : looked ≡ files = cc in subst (Each IsHeld) same h
-  held-gathered looked _ end (enters _ todo more f names _ reads is rest) files e h k =
+  held-gathered reading looked _ _ (ended _) files e h k = let same : looked ≡ files = cc in subst (Each IsHeld) same h
+  held-gathered reading looked _ end (enters _ todo more f names _ reads is rest) files e h k =
       let all = held-entered names (looked ++ f ∷ todo) ((looked ++ f ∷ []) ++ more) is (each-append IsHeld looked (f ∷ todo) h k) in
-      held-gathered (looked ++ f ∷ []) more end rest files e (each-left IsHeld (looked ++ f ∷ []) more all) (each-right IsHeld (looked ++ f ∷ []) more all)
-  held-gathered looked _ _ (is_unparsed _ todo f fault may apart) files e h k = absurd (let no : ⊥ = cc in no)
-  held-gathered looked _ _ (is_unread _ todo f names name reads next) files e h k = absurd (let no : ⊥ = cc in no)
-  held-gathered looked _ _ (are_too_many _ todo f names reads is) files e h k = absurd (let no : ⊥ = cc in no)
+      held-gathered reading (looked ++ f ∷ []) more end rest files e (each-left IsHeld (looked ++ f ∷ []) more all) (each-right IsHeld (looked ++ f ∷ []) more all)
+  held-gathered reading looked _ _ (is_unparsed _ todo f fault may apart) files e h k = absurd (let no : ⊥ = cc in no)
+  held-gathered reading looked _ _ (is_unread _ todo f names name reads next) files e h k = absurd (let no : ⊥ = cc in no)
+  held-gathered reading looked _ _ (are_too_many _ todo f names reads is) files e h k = absurd (let no : ⊥ = cc in no)
 
-  pub held-collected : (files : List File) → Collects content folder (whole files) → Each IsHeld files
-  held-collected files c = go (whole files) c refl
+  pub held-collected : (reading : Reading) (files : List File) → Collects reading content folder (whole files) → Each IsHeld files
+  held-collected reading files c = go (whole files) c refl
     where
-      go : (end : Ending) → Collects content folder end → end ≡ whole files → Each IsHeld files
+      go : (end : Ending) → Collects reading content folder end → end ≡ whole files → Each IsHeld files
       go _ (no_root absent) e = absurd (let no : ⊥ = cc in no)
       go _ unread_root e = absurd (let no : ⊥ = cc in no)
-      go end (from_root bytes _ is gathers) e = held-gathered [] _ end gathers files e tt (is, tt)
+      go end (from_root bytes _ is gathers) e = held-gathered reading [] _ end gathers files e tt (is, tt)

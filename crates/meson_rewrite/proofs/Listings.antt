@@ -4,7 +4,7 @@ use Rattle.std.specs.Prelude.{if◌then◌else◌}
 use Rattle.std.specs.Str.{is_utf8}
 use Rattle.serde_json.specs.Data.{Data, null, string}
 use Rattle.serde_json.specs.Written.{has_float}
-use Rattle.meson_calls.specs.declared.call.Reading.TheVariants.{Written}
+use Rattle.meson_calls.specs.declared.call.Reading.{Reading}
 use Rattle.meson_calls.specs.Loading.{Loaded}
 use Rattle.meson_inventory.specs.Assignments.{assignments}
 use Rattle.meson_inventory.specs.Holdings.{calls_held, holdings}
@@ -21,21 +21,21 @@ use Rattle.meson_rewrite.specs.declared.request.Step.TheVariants.{Run, Tell, Und
 
 -- ---- what a project holds
 
-pub project-plain : (l : Loaded) → has_float (project_data Written l) ≡ false
-project-plain l =
+pub project-plain : (reading : Reading) (l : Loaded) → has_float (project_data reading l) ≡ false
+project-plain reading l =
     let files = all-plain file_data l.files (λ f. refl) in
-    let spots = all-plain (spot_data l.files) (holdings Written l).not_entered (λ c. refl) in
-    let calls = all-plain (inventory.held_data l.files) (holdings Written l).targets (λ c. rw (text-plain c.head.name, text-plain c.variable) refl) in
+    let spots = all-plain (spot_data l.files) (holdings reading l).not_entered (λ c. refl) in
+    let calls = all-plain (inventory.held_data l.files) (holdings reading l).targets (λ c. rw (text-plain c.head.name, text-plain c.variable) refl) in
     rw (files, spots, calls) refl
 
 bytes-plain : (bytes : List ℕ) → has_float (bytes_data bytes) ≡ false
 bytes-plain bytes = elim (is_utf8 bytes) as (λ t. has_float (if t then string bytes else null) ≡ false) [ true ↦ refl | false ↦ refl ]
 
-pub project-with-positions-plain : (l : Loaded) → has_float (placed_project_data Written l) ≡ false
-project-with-positions-plain l =
+pub project-with-positions-plain : (reading : Reading) (l : Loaded) → has_float (placed_project_data reading l) ≡ false
+project-with-positions-plain reading l =
     let files = all-plain file_data l.files (λ f. refl) in
-    let spots = all-plain (unentered_data l.files) (holdings Written l).not_entered (λ c. rw (bytes-plain (call_text l.files c)) refl) in
-    let calls = all-plain (placed_call_data l.files) (holdings Written l).targets (λ c. rw (text-plain c.head.name, text-plain c.variable) refl) in
+    let spots = all-plain (unentered_data l.files) (holdings reading l).not_entered (λ c. rw (bytes-plain (call_text l.files c)) refl) in
+    let calls = all-plain (placed_call_data l.files) (holdings reading l).targets (λ c. rw (text-plain c.head.name, text-plain c.variable) refl) in
     rw (files, spots, calls) refl
 
 -- ---- its calls of a function, and its assignments

@@ -3,6 +3,7 @@ use Rattle.std.proofs.Common.{◌≡◌, ◌∙◌, Bool, ℕ, suc, List, [], �
 use Rattle.std.proofs.lemmas.List.{append_cancel_left}
 use Rattle.std.specs.FinMap.{get}
 use Rattle.std.specs.List.{Contains}
+use Rattle.meson_calls.specs.declared.call.Reading.{Reading}
 use Rattle.meson_calls.specs.Loading.{HasFileName}
 use Rattle.meson_command.specs.declared.asked.Asked.{Asked}
 use Rattle.meson_command.specs.declared.asked.Flags.{Flags}
@@ -54,16 +55,16 @@ module _ (dir : Option (List ℕ)) (old new : Content) where
   same-stays before after same is now = ap (λ c. get c (path_in dir log_name)) (some-is (sym now ∙ same ∙ is))
 
   module _ (step : Step) (before after : Seen) (is : before.content ≡ Some old) (now : after.content ≡ Some new) where
-    no-log : {json : Bool} (e : Edits Ignored before.content dir step json) → IsNoneOf (written e) (path_in dir log_name)
+    no-log : {reading : Reading} {json : Bool} (e : Edits Ignored reading before.content dir step json) → IsNoneOf (written e) (path_in dir log_name)
     no-log e = none-is-log dir e.old.project.files e.new.project.files e.opens.is_project.named
 
-    done-leaves : (how : LogUse) → how ≡ Ignored → {json : Bool} → (e : Edits how before.content dir step json) → AreReplaced (written e) before after → Stays
+    done-leaves : (how : LogUse) → how ≡ Ignored → {reading : Reading} → {json : Bool} → (e : Edits how reading before.content dir step json) → AreReplaced (written e) before after → Stays
     done-leaves Kept ignored e are = absurd (let no : ⊥ = cc in no)
     done-leaves Ignored ignored e are =
         let puts_are : Some new ≡ Some (writes (written e) old) = sym now ∙ are.put ∙ ap (put_all (written e)) is ∙ put_all-told (written e) old in
         ap (λ c. get c (path_in dir log_name)) (some-is puts_are) ∙ elsewhere (written e) old (path_in dir log_name) (no-log e)
 
-    taken-leaves : (how : LogUse) → how ≡ Ignored → {json : Bool} → (e : Edits how before.content dir step json) (fault : StoreFault) → TakenBack (written e) before after fault → Stays
+    taken-leaves : (how : LogUse) → how ≡ Ignored → {reading : Reading} → {json : Bool} → (e : Edits how reading before.content dir step json) (fault : StoreFault) → TakenBack (written e) before after fault → Stays
     taken-leaves Kept ignored e fault taken = absurd (let no : ⊥ = cc in no)
     taken-leaves Ignored ignored e fault taken =
         let path = path_in dir log_name in

@@ -6,7 +6,7 @@ use Rattle.meson_splice.specs.declared.file_set.File.{File}
 use Rattle.meson_splice.specs.Files.{bytes_at, position_of_file}
 use Rattle.meson_calls.specs.Folders.{build_file}
 use Rattle.meson_calls.specs.Loading.{name_of_file}
-use Rattle.meson_calls.specs.Subdirs.{Enters}
+use Rattle.meson_calls.specs.declared.call.Reading.{Reading}
 use Rattle.meson_command.specs.declared.asked.Action.{Action}
 use Rattle.meson_command.specs.declared.asked.Action.TheVariants as action
 use Rattle.meson_command.specs.declared.asked.Asked.{Asked}
@@ -17,16 +17,16 @@ use Rattle.meson_rewrite.specs.declared.opening.LogUse.{LogUse}
 use Rattle.meson_rewrite.specs.declared.opening.LogUse.TheVariants.{Kept, Ignored}
 use Rattle.meson_store.specs.StoreCalls.{one_more}
 use Rattle.meson_store.specs.Content.{Content}
-use Rattle.meson_gathering.specs.Gathering.{file_of}
+use Rattle.meson_gathering.specs.Gathering.{Enters, file_of}
 use Rattle.meson_gathering.specs.ReadCounts.{Looks, MayAskIfNew, ReadsFiles, StopsFor, StopsReading, next_file, root_read, stops_at_file, stops_at_root}
 use Rattle.meson_rewrite.proofs.EnteredAsks.{At, cuts, each, each-grows, each-is, more, names-same, passed, some-same}
 
-module _ (held : Content) (folder : Option (List ℕ)) where
+module _ (reading : Reading) (held : Content) (folder : Option (List ℕ)) where
   module _ (reads : ℕ) where
     -- ---- one file after another
 
     abbrev Looked : List File → ℕ → ℕ → Type 0
-    Looked = Looks (Some held) folder reads
+    Looked = Looks reading (Some held) folder reads
 
     looked-same : (files files' : List File) (p p' n n' : ℕ) → p ≡ p' → Looked files p n → Looked files' p' n' → ◌≡◌ {A = At} (files, n) (files', n')
     looked-same _ _ _ _ _ _ e (root_read bytes told) (root_read bytes' told') =
@@ -39,7 +39,7 @@ module _ (held : Content) (folder : Option (List ℕ)) where
         let at : place ≡ place' = omega (arith, e) in
         let same = looked-same files files' place place' n n' at looks looks' in
         let is_names : names ≡ names' =
-        names-same (name_of_file place' files') (bytes_at place' files') names names' (subst (λ fs. Enters (name_of_file place' fs) (bytes_at place' fs) names) (ap (λ a. a.0) same) (subst (λ q. Enters (name_of_file q files) (bytes_at q files) names) at enters)) enters' in
+        names-same reading (name_of_file place' files') (bytes_at place' files') names names' (subst (λ fs. Enters reading (name_of_file place' fs) (bytes_at place' fs) names) (ap (λ a. a.0) same) (subst (λ q. Enters reading (name_of_file q files) (bytes_at q files) names) at enters)) enters' in
         some-same held folder (new, m) (new', m') (sym (each-is held folder files n names new m all) ∙ ap (each held folder names) same ∙ ap (λ ns. each held folder ns (files', n')) is_names ∙ each-is held folder files' n' names' new' m' all')
 
     looked-grows : (files : List File) (p n : ℕ) → Looked files p n → n < 2 ^ 64 - 1 → reads + 1 ≤ n
@@ -53,7 +53,7 @@ module _ (held : Content) (folder : Option (List ℕ)) where
     -- the names that the file at a place enters were all entered, where later ones were looked at
     record Passes (files : List File) (p n n' : ℕ) : Type 0 where
       names : List (List ℕ)
-      enters : Enters (name_of_file p files) (bytes_at p files) names
+      enters : Enters reading (name_of_file p files) (bytes_at p files) names
       after : At
       all : each held folder names (files, n) ≡ Some after
       before : after.1 ≤ n'
@@ -66,7 +66,7 @@ module _ (held : Content) (folder : Option (List ℕ)) where
           | inl e ↦
               let same = looked-same files' files place p n' n (sym e) looks l in
               let all_names = ap (each held folder names) (sym same) ∙ each-is held folder files' n' names new m all in
-              let here = subst (λ fs. Enters (name_of_file p fs) (bytes_at p fs) names) (ap (λ a. a.0) same) (subst (λ q. Enters (name_of_file q files') (bytes_at q files') names) (sym e) enters) in
+              let here = subst (λ fs. Enters reading (name_of_file p fs) (bytes_at p fs) names) (ap (λ a. a.0) same) (subst (λ q. Enters reading (name_of_file q files') (bytes_at q files') names) (sym e) enters) in
               let le : m ≤ m = omega arith in
               let here_too : p < length files = subst (λ a. p < length a.0) same (subst (λ q. q < length files') (sym e) within) in
               record { names = names; enters = here; after = (new, m); all = all_names; before = le; inside = here_too }
@@ -83,7 +83,7 @@ module _ (held : Content) (folder : Option (List ℕ)) where
 
     record Stop (files : List File) (p n reads' : ℕ) (name : List ℕ) : Type 0 where
       names : List (List ℕ)
-      enters : Enters (name_of_file p files) (bytes_at p files) names
+      enters : Enters reading (name_of_file p files) (bytes_at p files) names
       done : List (List ℕ)
       rest : List (List ℕ)
       cut : names ≡ done ++ name ∷ rest
@@ -93,7 +93,7 @@ module _ (held : Content) (folder : Option (List ℕ)) where
       once : reads' ≡ there.1 + 1
       inside : p < length files
 
-    stop-of : (files : List File) (p n reads' : ℕ) (name : List ℕ) → reads' < 2 ^ 64 - 1 → StopsFor (Some held) folder files p n reads' (Some name) → Stop files p n reads' name
+    stop-of : (files : List File) (p n reads' : ℕ) (name : List ℕ) → reads' < 2 ^ 64 - 1 → StopsFor reading (Some held) folder files p n reads' (Some name) → Stop files p n reads' name
     stop-of files p n reads' name low (inl (same, none)) = absurd (let no : ⊥ = cc in no)
     stop-of files p n reads' name low (inr (within, names, enters, s)) = go s.last
       where
@@ -124,7 +124,7 @@ module _ (held : Content) (folder : Option (List ℕ)) where
       gone-by : (files files' : List File) (p p' n n' : ℕ) (name : List ℕ) → Looked files p n → Looked files' p' n' → p < p' → n' < 2 ^ 64 - 1 → Stop files p n reads' name → reads' ≤ n'
       gone-by files files' p p' n n' name l l' less below s =
           let h = passes files files' p p' n n' l l' less below in
-          let cut : h.names ≡ s.done ++ name ∷ s.rest = names-same (name_of_file p files) (bytes_at p files) h.names s.names h.enters s.enters ∙ s.cut in
+          let cut : h.names ≡ s.done ++ name ∷ s.rest = names-same reading (name_of_file p files) (bytes_at p files) h.names s.names h.enters s.enters ∙ s.cut in
           let before = h.before in
           let end : h.after.1 < 2 ^ 64 - 1 = omega (arith, before, below) in
           let past : s.there.1 + 1 ≤ h.after.1 = passed held folder s.done s.rest name (files, n) h.after s.there (ap (λ ns. each held folder ns (files, n)) (sym cut) ∙ h.all) s.so_far s.absent end in
@@ -142,7 +142,7 @@ module _ (held : Content) (folder : Option (List ℕ)) where
       -- and at one name there
       stops-at : (files : List File) (p n : ℕ) (name other : List ℕ) → Stop files p n reads' name → Stop files p n reads' other → name ≡ other
       stops-at files p n name other s t =
-          let both = sym s.cut ∙ names-same (name_of_file p files) (bytes_at p files) s.names t.names s.enters t.enters ∙ t.cut in
+          let both = sym s.cut ∙ names-same reading (name_of_file p files) (bytes_at p files) s.names t.names s.enters t.enters ∙ t.cut in
           let is = s.once in
           let is' = t.once in
           elim (cuts s.done t.done s.rest t.rest name other both) [
@@ -201,7 +201,7 @@ module _ (held : Content) (folder : Option (List ℕ)) where
       -- ---- by all that is said of the reads
 
       abbrev Stopped : List ℕ → Type 0
-      Stopped name = StopsReading (Some held) folder reads reads' (Some name)
+      Stopped name = StopsReading reading (Some held) folder reads reads' (Some name)
 
       one-stopped : (name other : List ℕ) → Stopped name → Stopped other → name ≡ other
       one-stopped name other (stops_at_root (inl (same, none))) b = absurd (let no : ⊥ = cc in no)
@@ -224,14 +224,14 @@ module _ (held : Content) (folder : Option (List ℕ)) where
           omega (arith, last, first)
 
       -- the log is read behind all files
-      log-behind : (all : List File) (m : ℕ) → ReadsFiles (Some held) folder reads all m → reads' ≡ one_more m → reads + 2 ≤ reads'
+      log-behind : (all : List File) (m : ℕ) → ReadsFiles reading (Some held) folder reads all m → reads' ≡ one_more m → reads + 2 ≤ reads'
       log-behind all m r once =
           let is = more m (subst (λ c. c < 2 ^ 64 - 1) once low) in
           let below : m < 2 ^ 64 - 1 = omega (arith, is, once, low) in
           let first = looked-grows all r.place m r.looks below in
           omega (arith, first, is, once)
 
-      not-both : (name : List ℕ) (all : List File) (m : ℕ) → Stopped name → ReadsFiles (Some held) folder reads all m → reads' ≡ one_more m → ⊥
+      not-both : (name : List ℕ) (all : List File) (m : ℕ) → Stopped name → ReadsFiles reading (Some held) folder reads all m → reads' ≡ one_more m → ⊥
       not-both name all m (stops_at_root (inl (same, none))) r once = let no : ⊥ = cc in no
       not-both name all m (stops_at_root (inr (first, is))) r once =
           let one = more reads (subst (λ k. k < 2 ^ 64 - 1) first low) in
@@ -240,7 +240,7 @@ module _ (held : Content) (folder : Option (List ℕ)) where
       not-both name all m (stops_at_file files p n l s) r once = stops-before files all p r.place n m name l (stop-of files p n reads' name low s) r.looks r.past once
 
       abbrev Read : LogUse → List ℕ → Type 0
-      Read how name = ReadsAtMost how (Some held) folder reads reads' (Some name)
+      Read how name = ReadsAtMost how reading (Some held) folder reads reads' (Some name)
 
       -- where the log is ignored, a file that could not be read is none of those that were
       no-log : (name : List ℕ) (n : ℕ) → MayAskLog Ignored n reads' (Some name) → ⊥
@@ -276,10 +276,10 @@ named-one (action.UndoChecked count n) reads reads' name other h k = h.1 ∙ sym
 named-one _ reads reads' name other h k = absurd h
 
 not-named : (a : Asked) (held : Content) (reads reads' : ℕ) (name other : List ℕ) → reads' < 2 ^ 64 - 1 → AsksNamed a.action reads reads' (Some name)
-    → ReadsAtMost (log_use a.flags.no_log) (Some held) a.dir (file_read a.action reads) reads' (Some other) → ⊥
+    → ReadsAtMost (log_use a.flags.no_log) a.flags.reading (Some held) a.dir (file_read a.action reads) reads' (Some other) → ⊥
 not-named a held reads reads' name other low h k =
     let is = named-count a.action reads reads' name h in
-    let behind = read-behind held a.dir (file_read a.action reads) reads' low (log_use a.flags.no_log) other k in
+    let behind = read-behind a.flags.reading held a.dir (file_read a.action reads) reads' low (log_use a.flags.no_log) other k in
     omega (arith, behind, is)
 
 pub one-unread : (asked : Result Asked UsageFault) (held : Content) (reads reads' : ℕ) (name other : List ℕ) → reads' < 2 ^ 64 - 1
@@ -291,4 +291,4 @@ one-unread (Ok a) held reads reads' name other low (inr (inl h)) (inr (inl k)) =
 one-unread (Ok a) held reads reads' name other low (inr (inl h)) (inr (inr (asks, k))) = absurd (not-named a held reads reads' name other low h k)
 one-unread (Ok a) held reads reads' name other low (inr (inr (asks, h))) (inr (inl k)) = absurd (not-named a held reads reads' other name low k h)
 one-unread (Ok a) held reads reads' name other low (inr (inr (asks, h))) (inr (inr (asks', k))) =
-    one-read held a.dir (file_read a.action reads) reads' low (log_use a.flags.no_log) name other h k
+    one-read a.flags.reading held a.dir (file_read a.action reads) reads' low (log_use a.flags.no_log) name other h k

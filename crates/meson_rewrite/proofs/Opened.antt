@@ -4,6 +4,7 @@ use Rattle.meson_splice.specs.declared.file_set.File.{File}
 use Rattle.meson_splice.specs.declared.history.History.{History}
 use Rattle.meson_json.specs.Log.{logged}
 use Rattle.meson_json.specs.declared.fault.ScriptFault.TheVariants as script
+use Rattle.meson_calls.specs.declared.call.Reading.{Reading}
 use Rattle.meson_store.specs.Content.{Content}
 use Rattle.meson_store.specs.declared.store_fault.StoreFault.{StoreFault}
 use Rattle.meson_store.specs.declared.store_fault.StoreFault.TheVariants as store
@@ -41,8 +42,8 @@ unread-log before dir failed failed' store.OutputFailed h = absurd h
 unread-log before dir failed failed' store.OutOfMemory h = inl (refl, refl)
 
 -- the files were read before
-pub no-log-opens : (how : LogUse) (before middle : Option Content) (dir : Option (List ℕ)) (first old new : ℕ) → middle ≡ before → first ≤ old → old ≤ new → (files : List File) → Finds before dir (whole files)
-    → (why : Stop) → WantsMemory why ⊎ IsNoLog how middle dir old new why → WantsMemory why ⊎ OpensNone how before dir first new why
-no-log-opens how before middle dir first old new e h k files found why (inl m) = inl m
-no-log-opens how before middle dir first old new e h k files found why (inr lacks) =
+pub no-log-opens : (how : LogUse) (reading : Reading) (before middle : Option Content) (dir : Option (List ℕ)) (first old new : ℕ) → middle ≡ before → first ≤ old → old ≤ new → (files : List File) → Finds reading before dir (whole files)
+    → (why : Stop) → WantsMemory why ⊎ IsNoLog how middle dir old new why → WantsMemory why ⊎ OpensNone how reading before dir first new why
+no-log-opens how reading before middle dir first old new e h k files found why (inl m) = inl m
+no-log-opens how reading before middle dir first old new e h k files found why (inr lacks) =
     inr (no_log files why found (no-log-before how dir before first old new h k why (subst (λ m. IsNoLog how m dir old new why) e lacks)))

@@ -79,7 +79,7 @@ gathering-plain gather.TooManyFiles = refl
 gathering-plain (gather.Store fault) = refl
 
 opening-plain : (dir : Option (List ℕ)) (flags : Flags) (before after : Seen) (stop : Stop)
-    → OpensNone (log_use flags.no_log) before.content dir before.failures after.failures stop → unexplained stop ≡ stop
+    → OpensNone (log_use flags.no_log) flags.reading before.content dir before.failures after.failures stop → unexplained stop ≡ stop
 opening-plain dir flags before after _ (no_project fault stops) = gathering-plain fault
 opening-plain dir flags before after _ (no_log files _ found (log_unread kept rose)) = refl
 opening-plain dir flags before after _ (no_log files _ found (bad_log kept bad)) = refl
@@ -150,7 +150,7 @@ no-warnings flags old step said = record { warnings = warnings.Nothing; are = no
 
 pub explained_ends_as_plain : ExplainedEndsAsPlain
 explained_ends_as_plain dir step flags before after _ (not_opened stop u opens) =
-    let ends = not_opened (unexplained stop) u (subst (OpensNone (log_use flags.no_log) before.content dir before.failures after.failures) (sym (opening-plain dir flags before after stop opens)) opens) in
+    let ends = not_opened (unexplained stop) u (subst (OpensNone (log_use flags.no_log) flags.reading before.content dir before.failures after.failures) (sym (opening-plain dir flags before after stop opens)) opens) in
     (Err (unexplained stop), ends, stopped flags.json stop)
 explained_ends_as_plain dir step flags before after _ (refused old log stop u opens may) =
     (Err (unexplained stop), refused old log (unexplained stop) u opens (refused-plain flags step old stop may), stopped flags.json stop)
@@ -177,10 +177,10 @@ module _ (dir : Option (List ℕ)) (listing : Listing) (flags : Flags) (before a
   listing-plain : (end : Result Said Stop) → ListingEnds dir listing flags before after end
       → (plain : Result Said Stop) × ListingEnds dir listing (plain_flags flags) before after plain × IsPlainEnd flags.json end plain
   listing-plain _ (has_none stop u opens) =
-      let none = subst (OpensNone (log_use flags.no_log) before.content dir before.failures after.failures) (sym (opening-plain dir flags before after stop opens)) opens in
+      let none = subst (OpensNone (log_use flags.no_log) flags.reading before.content dir before.failures after.failures) (sym (opening-plain dir flags before after stop opens)) opens in
       (Err (unexplained stop), has_none (unexplained stop) u none, stopped flags.json stop)
   listing-plain _ (listed session log u opens) =
-      let said = shown_text (listing_text flags.json listing session) in
+      let said = shown_text (listing_text flags.reading flags.json listing session) in
       (Ok said, listed session log u opens, same-said flags.json said)
   listing-plain _ (wants_memory stop u wants) = (Err (unexplained stop), wants_memory (unexplained stop) u (memory-plain stop wants), stopped flags.json stop)
 

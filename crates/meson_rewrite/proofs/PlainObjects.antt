@@ -13,6 +13,7 @@ use Rattle.meson_splice.specs.declared.file_set.File.{File}
 use Rattle.meson_splice.specs.Files.{bytes_at}
 use Rattle.meson_splice.proofs.Sets.{bytes_at-get_or}
 use Rattle.meson_splice.specs.declared.history.History as history
+use Rattle.meson_calls.specs.declared.call.Reading.{Reading}
 use Rattle.meson_calls.specs.Loading.{AreParsed, IsProject, Loaded}
 use Rattle.meson_ranges.specs.declared.files.FileEdits.{FileEdits}
 use Rattle.meson_script.specs.declared.session.Session.{Session}
@@ -43,12 +44,12 @@ history-plain h = rw (past-plain _, past-plain _) refl
 pub sums-plain : (files : List File) → has_float (sums_data files) ≡ false
 sums-plain files = rw (all-plain sum_data files (λ f. refl)) refl
 
-pub listed-plain : (listing : Listing) (session : Session) → has_float (listed_data listing session) ≡ false
-listed-plain History session = history-plain session.history
-listed-plain (Holdings json) session = project-with-positions-plain session.project
-listed-plain (Calls function json) session = calls-with-positions-plain session.project function
-listed-plain (Assignments json) session = assignments-with-positions-plain session.project
-listed-plain Sums session = sums-plain session.project.files
+pub listed-plain : (reading : Reading) (listing : Listing) (session : Session) → has_float (listed_data reading listing session) ≡ false
+listed-plain reading History session = history-plain session.history
+listed-plain reading (Holdings json) session = project-with-positions-plain reading session.project
+listed-plain reading (Calls function json) session = calls-with-positions-plain session.project function
+listed-plain reading (Assignments json) session = assignments-with-positions-plain session.project
+listed-plain reading Sums session = sums-plain session.project.files
 
 -- ---- text
 

@@ -7,6 +7,7 @@ use Rattle.meson_command.specs.declared.asked.Action.TheVariants as action
 use Rattle.meson_command.specs.declared.asked.Asked.{Asked}
 use Rattle.meson_command.specs.declared.fault.UsageFault.{UsageFault}
 use Rattle.meson_command.specs.declared.fault.UsageFault.TheVariants as usage
+use Rattle.meson_calls.specs.declared.call.Reading.{Reading}
 use Rattle.meson_splice.specs.declared.file_set.File.{File}
 use Rattle.meson_store.specs.Content.{Content}
 use Rattle.meson_store.specs.declared.store_fault.StoreFault.{StoreFault}
@@ -38,11 +39,11 @@ may-ask-log : (how : LogUse) (n m : ℕ) (unread : Option (List ℕ)) → m ≡ 
 may-ask-log Kept n m unread is none = inr (asks_and_reads log_name n m unread is none)
 may-ask-log Ignored n m unread is none = (is, none)
 
-module _ (how : LogUse) (before : Option Content) (dir : Option (List ℕ)) (reads : ℕ) (files : List File) (n m : ℕ) (same : m ≡ n) (all : ReadsWithLog how before dir reads files n) where
-  pub with-log-at-most : (unread : Option (List ℕ)) → unread ≡ None → ReadsAtMost how before dir reads m unread
+module _ (how : LogUse) (reading : Reading) (before : Option Content) (dir : Option (List ℕ)) (reads : ℕ) (files : List File) (n m : ℕ) (same : m ≡ n) (all : ReadsWithLog how reading before dir reads files n) where
+  pub with-log-at-most : (unread : Option (List ℕ)) → unread ≡ None → ReadsAtMost how reading before dir reads m unread
   with-log-at-most unread none = inr (files, all.0, all.1, may-ask-log how all.0 m unread (same ∙ all.2) none)
 
-  pub with-log-all : Finds before dir (whole files) → ReadsProject how before dir reads m
+  pub with-log-all : Finds reading before dir (whole files) → ReadsProject how reading before dir reads m
   with-log-all found = (files, found, (all.0, all.1, same ∙ all.2))
 
 -- ---- a run
@@ -110,19 +111,19 @@ module _ (a : Asked) (before : Option Content) (reads : ℕ) where
   shown-may-read text reads' asks e = inl (e ∙ shown-file a.title a.action before text reads asks, refl)
 
   module _ (middle : Option Content) (dir : Option (List ℕ)) (n reads' : ℕ) (kept : middle ≡ before) (named : dir ≡ a.dir) (is_read : n ≡ file_read a.action reads) where
-    pub step-may-read : (unread : Option (List ℕ)) → AsksForProject a.title a.action before → ReadsAtMost (log_use a.flags.no_log) middle dir n reads' unread → MayRead (Ok (without_text a)) before reads reads' unread
+    pub step-may-read : (unread : Option (List ℕ)) → AsksForProject a.title a.action before → ReadsAtMost (log_use a.flags.no_log) a.flags.reading middle dir n reads' unread → MayRead (Ok (without_text a)) before reads reads' unread
     step-may-read unread asks h =
         inr (inr (
           same-project a.title a.action before asks,
-          subst (λ k. ReadsAtMost (log_use a.flags.no_log) before a.dir k reads' unread) (is_read ∙ sym (same-file a.action reads)) (subst (λ d. ReadsAtMost (log_use a.flags.no_log) before d n reads' unread) named (subst (λ b. ReadsAtMost (log_use a.flags.no_log) b dir n reads' unread) kept h)),
+          subst (λ k. ReadsAtMost (log_use a.flags.no_log) a.flags.reading before a.dir k reads' unread) (is_read ∙ sym (same-file a.action reads)) (subst (λ d. ReadsAtMost (log_use a.flags.no_log) a.flags.reading before d n reads' unread) named (subst (λ b. ReadsAtMost (log_use a.flags.no_log) a.flags.reading b dir n reads' unread) kept h)),
         ))
 
-    pub step-reads-all : {E : Type 0} (step : Step) → AsksFor a.title a.action before (request.Step step) → (end : Result Said E) → OnOk end (ReadsProject (log_use a.flags.no_log) middle dir n reads')
+    pub step-reads-all : {E : Type 0} (step : Step) → AsksFor a.title a.action before (request.Step step) → (end : Result Said E) → OnOk end (ReadsProject (log_use a.flags.no_log) a.flags.reading middle dir n reads')
         → OnOk end (ReadsAll (Ok (without_text a)) before reads reads')
     step-reads-all step asks (Ok said) h =
-        of-action a.action asks (subst (λ k. ReadsProject (log_use a.flags.no_log) before a.dir k reads') is_read (subst (λ d. ReadsProject (log_use a.flags.no_log) before d n reads') named (subst (λ b. ReadsProject (log_use a.flags.no_log) b dir n reads') kept h)))
+        of-action a.action asks (subst (λ k. ReadsProject (log_use a.flags.no_log) a.flags.reading before a.dir k reads') is_read (subst (λ d. ReadsProject (log_use a.flags.no_log) a.flags.reading before d n reads') named (subst (λ b. ReadsProject (log_use a.flags.no_log) a.flags.reading b dir n reads') kept h)))
       where
-        of-action : (x : Action) → AsksFor a.title x before (request.Step step) → ReadsProject (log_use a.flags.no_log) before a.dir (file_read x reads) reads' → ReadsFor (without_help_text x) (log_use a.flags.no_log) before a.dir reads reads'
+        of-action : (x : Action) → AsksFor a.title x before (request.Step step) → ReadsProject (log_use a.flags.no_log) a.flags.reading before a.dir (file_read x reads) reads' → ReadsFor (without_help_text x) (log_use a.flags.no_log) a.flags.reading before a.dir reads reads'
         of-action (action.Run s) is h = h
         of-action (action.Info c) is h = h
         of-action (action.ScriptText text unknown) is h = h
@@ -142,12 +143,12 @@ module _ (a : Asked) (before : Option Content) (reads : ℕ) where
         of-action action.Version is h = absurd (let no : ⊥ = cc in no)
     step-reads-all step asks (Err stop) h = h
 
-    pub listing-reads-all : {E : Type 0} (listing : Listing) → AsksFor a.title a.action before (request.List listing) → (end : Result Said E) → OnOk end (ReadsProject (log_use a.flags.no_log) middle dir n reads')
+    pub listing-reads-all : {E : Type 0} (listing : Listing) → AsksFor a.title a.action before (request.List listing) → (end : Result Said E) → OnOk end (ReadsProject (log_use a.flags.no_log) a.flags.reading middle dir n reads')
         → OnOk end (ReadsAll (Ok (without_text a)) before reads reads')
     listing-reads-all listing asks (Ok said) h =
-        of-action a.action asks (subst (λ k. ReadsProject (log_use a.flags.no_log) before a.dir k reads') is_read (subst (λ d. ReadsProject (log_use a.flags.no_log) before d n reads') named (subst (λ b. ReadsProject (log_use a.flags.no_log) b dir n reads') kept h)))
+        of-action a.action asks (subst (λ k. ReadsProject (log_use a.flags.no_log) a.flags.reading before a.dir k reads') is_read (subst (λ d. ReadsProject (log_use a.flags.no_log) a.flags.reading before d n reads') named (subst (λ b. ReadsProject (log_use a.flags.no_log) a.flags.reading b dir n reads') kept h)))
       where
-        of-action : (x : Action) → AsksFor a.title x before (request.List listing) → ReadsProject (log_use a.flags.no_log) before a.dir (file_read x reads) reads' → ReadsFor (without_help_text x) (log_use a.flags.no_log) before a.dir reads reads'
+        of-action : (x : Action) → AsksFor a.title x before (request.List listing) → ReadsProject (log_use a.flags.no_log) a.flags.reading before a.dir (file_read x reads) reads' → ReadsFor (without_help_text x) (log_use a.flags.no_log) a.flags.reading before a.dir reads reads'
         of-action (action.Run s) is h = absurd (let no : ⊥ = cc in no)
         of-action (action.Info c) is h = absurd (let no : ⊥ = cc in no)
         of-action (action.ScriptText text unknown) (cs, of, is) h = absurd (let no : ⊥ = cc in no)
@@ -170,7 +171,7 @@ module _ (a : Asked) (before : Option Content) (reads : ℕ) where
   pub shown-reads-none : (text : List ℕ) (reads' : ℕ) → AsksFor a.title a.action before (request.Show text) → reads' ≡ file_read a.action reads → ReadsAll (Ok (without_text a)) before reads reads'
   shown-reads-none text reads' asks e = of-action a.action asks e
     where
-      of-action : (x : Action) → AsksFor a.title x before (request.Show text) → reads' ≡ file_read x reads → ReadsFor (without_help_text x) (log_use a.flags.no_log) before a.dir reads reads'
+      of-action : (x : Action) → AsksFor a.title x before (request.Show text) → reads' ≡ file_read x reads → ReadsFor (without_help_text x) (log_use a.flags.no_log) a.flags.reading before a.dir reads reads'
       of-action (action.Run s) is e = absurd (let no : ⊥ = cc in no)
       of-action (action.Info c) is e = absurd (let no : ⊥ = cc in no)
       of-action (action.ScriptText t unknown) (cs, of, is) e = absurd (let no : ⊥ = cc in no)

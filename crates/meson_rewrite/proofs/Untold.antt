@@ -3,6 +3,7 @@ use Rattle.std.proofs.Common.{◌≡◌, ◌⊎◌, Bool, ℕ, List, [], ◌∷�
 use Rattle.std.specs.FinMap.{get}
 use Rattle.std.specs.List.{Contains}
 use Rattle.std.specs.Prelude.{IfErr}
+use Rattle.meson_calls.specs.declared.call.Reading.{Reading}
 use Rattle.meson_command.specs.declared.asked.Asked.{Asked}
 use Rattle.meson_command.specs.declared.asked.Flags.{Flags}
 use Rattle.meson_command.specs.declared.fault.UsageFault.{UsageFault}
@@ -43,11 +44,11 @@ module _ (dir : Option (List ℕ)) (old : Content) where
   abbrev Old : File → Type 0
   Old f = (bytes : List ℕ) → IsOld (put_at dir f bytes)
 
-  files-old : (how : LogUse) {before : Option Content} (step : Step) {json : Bool} (e : Edits how before dir step json) → before ≡ Some old → Each Old e.old.project.files
-  files-old how step e is =
-      each-map (IsHeld old dir) Old (λ f h bytes. record { held_so = inl h; named = refl }) e.old.project.files (held-collected old dir e.old.project.files (e.opens.found old is))
+  files-old : (how : LogUse) {reading : Reading} {before : Option Content} (step : Step) {json : Bool} (e : Edits how reading before dir step json) → before ≡ Some old → Each Old e.old.project.files
+  files-old how {reading = reading} step e is =
+      each-map (IsHeld old dir) Old (λ f h bytes. record { held_so = inl h; named = refl }) e.old.project.files (held-collected old dir reading e.old.project.files (e.opens.found old is))
 
-  are-old : {before : Option Content} (step : Step) {json : Bool} (e : Edits Kept before dir step json) → before ≡ Some old → Each IsOld (written e)
+  are-old : {reading : Reading} {before : Option Content} (step : Step) {json : Bool} (e : Edits Kept reading before dir step json) → before ≡ Some old → Each IsOld (written e)
   are-old step e is =
       puts-each IsOld dir (with_log Kept e.old.project.files e.log) (with_log Kept e.new.project.files e.new_log)
       (each-append Old e.old.project.files (file_of log_name e.log ∷ []) (files-old Kept step e is)
@@ -60,7 +61,7 @@ module _ (dir : Option (List ℕ)) (old : Content) where
 
 -- ---- files that were not written
 
-module _ (dir : Option (List ℕ)) (step : Step) (before after : Seen) {json : Bool} (e : Edits Kept before.content dir step json) (fault : StoreFault) (taken : TakenBack (written e) before after fault) (old new : Content)
+module _ (dir : Option (List ℕ)) (step : Step) (before after : Seen) {reading : Reading} {json : Bool} (e : Edits Kept reading before.content dir step json) (fault : StoreFault) (taken : TakenBack (written e) before after fault) (old new : Content)
     (is : before.content ≡ Some old) (now : after.content ≡ Some new) (path : List ℕ) (untold : (name : List ℕ) → Contains (still_new fault) name → path ≡ path_in dir name → ⊥) where
   at : (V : Option (List ℕ)) → ((p : Put) → path ≡ p.path → IsOld dir old p → V ≡ Some p.was) → (get new path ≡ V) ⊎ (get new path ≡ get old path)
   at V f =
@@ -101,7 +102,7 @@ module _ (dir : Option (List ℕ)) (step : Step) (before after : Seen) {json : B
 
 -- ---- the same where the log is ignored: each file that is written held what it gets again
 
-module _ (dir : Option (List ℕ)) (step : Step) (before after : Seen) {json : Bool} (e : Edits Ignored before.content dir step json) (fault : StoreFault) (taken : TakenBack (written e) before after fault) (old new : Content)
+module _ (dir : Option (List ℕ)) (step : Step) (before after : Seen) {reading : Reading} {json : Bool} (e : Edits Ignored reading before.content dir step json) (fault : StoreFault) (taken : TakenBack (written e) before after fault) (old new : Content)
     (is : before.content ≡ Some old) (now : after.content ≡ Some new) (path : List ℕ) (untold : (name : List ℕ) → Contains (still_new fault) name → path ≡ path_in dir name → ⊥) where
   abbrev IsHeldAt : Put → Type 0
   IsHeldAt p = (get old p.path ≡ Some p.was) × (p.path ≡ path_in dir p.name)
@@ -110,7 +111,7 @@ module _ (dir : Option (List ℕ)) (step : Step) (before after : Seen) {json : B
   are-held =
       puts-each IsHeldAt dir e.old.project.files e.new.project.files
       (each-map (IsHeld old dir) (λ f. (bytes : List ℕ) → IsHeldAt (put_at dir f bytes)) (λ f h bytes. (h, refl)) e.old.project.files
-      (held-collected old dir e.old.project.files (e.opens.found old is)))
+      (held-collected old dir reading e.old.project.files (e.opens.found old is)))
 
   no-log-keeps : get new path ≡ get old path
   no-log-keeps = elim (untold-at (written e) before after fault taken old new is now (get old path) path
@@ -120,7 +121,7 @@ module _ (dir : Option (List ℕ)) (step : Step) (before after : Seen) {json : B
         | inr kept ↦ kept
       ]
 
-unwritten-keeps : (how : LogUse) (dir : Option (List ℕ)) (step : Step) (before after : Seen) {json : Bool} (e : Edits how before.content dir step json) (fault : StoreFault) → TakenBack (written e) before after fault
+unwritten-keeps : (how : LogUse) (dir : Option (List ℕ)) (step : Step) (before after : Seen) {reading : Reading} {json : Bool} (e : Edits how reading before.content dir step json) (fault : StoreFault) → TakenBack (written e) before after fault
     → (old new : Content) → before.content ≡ Some old → after.content ≡ Some new → (path : List ℕ)
     → ((name : List ℕ) → Contains (still_new fault) name → path ≡ path_in dir name → ⊥) → IsKept how dir old new path
 unwritten-keeps Kept dir step before after e fault taken old new is now path untold = log-keeps dir step before after e fault taken old new is now path untold

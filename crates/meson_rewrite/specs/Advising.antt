@@ -44,7 +44,7 @@ subject_for flags found c why = if flags.json then subject_of found c why else N
 
 -- what explains it, where the words ask for that
 abbrev pub advice_for : Flags → Loaded → Command → Refusal → Advice
-advice_for flags found c why = if flags.explain then advice_of flags.json found.files (explanation found c why) else Nothing
+advice_for flags found c why = if flags.explain then advice_of flags.json found.files (explanation flags.reading found c why) else Nothing
 
 -- What is said beside the line: by what the project holds as the command of that number finds it. Nothing is said of memory that ran out, nor where the words
 -- ask for no more than the line.

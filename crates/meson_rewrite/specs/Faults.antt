@@ -99,7 +99,7 @@ kept_runs = codes "history lists the runs that can be undone and redone; a run w
 abbrev pub splice_words : SpliceFault → Option (List ℕ × List ℕ)
 splice_words (splice.NoFile name) = Some (
   codes "the run changed " ++ (name ++ codes ", which is not in the project now"),
-  codes "bring the file and its subdir call back, or remove meson.rewrite-log and use git",
+  codes "give --follow if the run was made with it, bring the file and its subdir call back, or remove meson.rewrite-log and use git",
 )
 splice_words (splice.OutOfRange name place) = Some (codes "the log has bytes at " ++ (decimal place ++ (codes " of " ++ (name ++ codes ", which ends before them"))), take_back)
 splice_words (splice.Stale name place) = Some (codes "at byte " ++ (decimal place ++ (codes " of " ++ (name ++ codes " are other bytes than the log has"))), take_back)

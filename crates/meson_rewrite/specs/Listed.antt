@@ -2,7 +2,7 @@
 use Rattle.std.specs.Prelude.{ℕ, Bool, true, false, List, if◌then◌else◌}
 use Rattle.serde_json.specs.Data.{Data}
 use Rattle.serde_json.specs.Written.{compact_text}
-use Rattle.meson_calls.specs.declared.call.Reading.TheVariants.{Written}
+use Rattle.meson_calls.specs.declared.call.Reading.{Reading}
 use Rattle.meson_calls.specs.Loading.{Loaded}
 use Rattle.meson_inventory.specs.Inventory.{assignments_data, assignments_lines, calls_data, calls_lines, project_data, project_lines}
 use Rattle.meson_inventory.specs.Placed.{placed_assignments_data, placed_calls_data, placed_project_data}
@@ -14,10 +14,10 @@ use Rattle.meson_rewrite.specs.Objects.{history_data, sums_data}
 use Rattle.meson_rewrite.specs.declared.request.Listing.{Listing}
 use Rattle.meson_rewrite.specs.declared.request.Listing.TheVariants.{History, Holdings, Calls, Assignments, Sums}
 
--- what a project holds: one line of JSON, or lines for people
-abbrev pub holdings_text : Bool → Loaded → List ℕ
-holdings_text true project = line (compact_text (project_data Written project))
-holdings_text false project = project_lines Written project
+-- what a project holds, with its build files read so: one line of JSON, or lines for people
+abbrev pub holdings_text : Reading → Bool → Loaded → List ℕ
+holdings_text reading true project = line (compact_text (project_data reading project))
+holdings_text reading false project = project_lines reading project
 
 -- its calls of a function
 abbrev pub calls_text : Bool → List ℕ → Loaded → List ℕ
@@ -30,20 +30,20 @@ assignments_text true project = line (compact_text (assignments_data project))
 assignments_text false project = assignments_lines project
 
 -- as lines, but for a project that is to be listed as JSON
-abbrev pub listed_text : Listing → Session → List ℕ
-listed_text History session = history_lines session.history
-listed_text (Holdings json) session = holdings_text json session.project
-listed_text (Calls function json) session = calls_text json function session.project
-listed_text (Assignments json) session = assignments_text json session.project
-listed_text Sums session = sums session.project.files
+abbrev pub listed_text : Reading → Listing → Session → List ℕ
+listed_text reading History session = history_lines session.history
+listed_text reading (Holdings json) session = holdings_text reading json session.project
+listed_text reading (Calls function json) session = calls_text json function session.project
+listed_text reading (Assignments json) session = assignments_text json session.project
+listed_text reading Sums session = sums session.project.files
 
-abbrev pub listed_data : Listing → Session → Data
-listed_data History session = history_data session.history
-listed_data (Holdings json) session = placed_project_data Written session.project
-listed_data (Calls function json) session = placed_calls_data session.project function
-listed_data (Assignments json) session = placed_assignments_data session.project
-listed_data Sums session = sums_data session.project.files
+abbrev pub listed_data : Reading → Listing → Session → Data
+listed_data reading History session = history_data session.history
+listed_data reading (Holdings json) session = placed_project_data reading session.project
+listed_data reading (Calls function json) session = placed_calls_data session.project function
+listed_data reading (Assignments json) session = placed_assignments_data session.project
+listed_data reading Sums session = sums_data session.project.files
 
 -- where the answer is JSON, one line of it
-abbrev pub listing_text : Bool → Listing → Session → List ℕ
-listing_text json listing session = if json then line (compact_text (listed_data listing session)) else listed_text listing session
+abbrev pub listing_text : Reading → Bool → Listing → Session → List ℕ
+listing_text reading json listing session = if json then line (compact_text (listed_data reading listing session)) else listed_text reading listing session

@@ -2,6 +2,7 @@
 use Rattle.std.specs.Prelude.{◌≡◌, ◌≢◌, ◌⊎◌, ◌||◌, ⊤, Bool, IsTrue, false, true, if◌then◌else◌, ℕ, List, [], Option, Some, None, Result, Ok, Err, IfErr}
 use Rattle.std.specs.FinMap.{get}
 use Rattle.std.specs.List.{Contains}
+use Rattle.meson_calls.specs.declared.call.Reading.{Reading}
 use Rattle.meson_calls.specs.Loading.{IsProject}
 use Rattle.meson_json.specs.Log.{log_of}
 use Rattle.meson_json.specs.TextsFile.{GivenText, HasNoTexts, HasTexts}
@@ -45,11 +46,11 @@ use Rattle.meson_rewrite.specs.declared.stop.Stop.TheVariants.{Usage, BadTexts, 
 
 -- ---- a step on the project of a folder
 
--- the session of the store becomes another one; a log that is kept is the last of the files, and the answer may be in JSON
-pub record Edits (how : LogUse) (before : Option Content) (dir : Option (List ℕ)) (step : Step) (json : Bool) : Type 0 where
+-- the session of the store becomes another one; a log that is kept is the last of the files, its build files are read so, and the answer may be in JSON
+pub record Edits (how : LogUse) (reading : Reading) (before : Option Content) (dir : Option (List ℕ)) (step : Step) (json : Bool) : Type 0 where
   pub old : Session
   pub log : List ℕ
-  pub opens : Opens how before dir old log
+  pub opens : Opens how reading before dir old log
   pub new : Session
   -- its files parse as its trees
   pub is_project : IsProject new.project
@@ -59,34 +60,34 @@ pub record Edits (how : LogUse) (before : Option Content) (dir : Option (List �
   pub is_log : log_of new.history ≡ Ok new_log
 
 -- the files that get other bytes, each with them, with a log that is kept after them
-abbrev pub written : {how : LogUse} {before : Option Content} {dir : Option (List ℕ)} {step : Step} {json : Bool} → Edits how before dir step json → List Put
+abbrev pub written : {how : LogUse} {reading : Reading} {before : Option Content} {dir : Option (List ℕ)} {step : Step} {json : Bool} → Edits how reading before dir step json → List Put
 written {how = how} {dir = dir} e = puts dir (with_log how e.old.project.files e.log) (with_log how e.new.project.files e.new_log)
 
 -- in a dry run it is shown, and not done; what is said of it may be JSON; and the log may be ignored
 module _ (dir : Option (List ℕ)) (step : Step) (flags : Flags) (before after : Seen) where
   pub data StepEnds : Result Said Stop → Type 0 where
     -- there is no session
-    not_opened : (stop : Stop) → Untouched before after → OpensNone (log_use flags.no_log) before.content dir before.failures after.failures stop
+    not_opened : (stop : Stop) → Untouched before after → OpensNone (log_use flags.no_log) flags.reading before.content dir before.failures after.failures stop
         → StepEnds (Err stop)
     -- the step is refused on it
-    refused : (old : Session) (log : List ℕ) (stop : Stop) → Untouched before after → Opens (log_use flags.no_log) before.content dir old log
+    refused : (old : Session) (log : List ℕ) (stop : Stop) → Untouched before after → Opens (log_use flags.no_log) flags.reading before.content dir old log
         → MayRefuseStep flags step old stop → StepEnds (Err stop)
     -- its listings are reported, and nothing is written
     told : (old new : Session) (log : List ℕ) (report : Report) (said : Said) → Untouched before after
-        → Opens (log_use flags.no_log) before.content dir old log → Does flags.json step old report new
+        → Opens (log_use flags.no_log) flags.reading before.content dir old log → Does flags.json step old report new
         → only_tells step ≡ true → SaysStep flags.json step old.project.files new.project.files report said → StepEnds (Ok said)
     -- what it makes of the files is shown, with its warnings, and nothing is written
     shown : (old new : Session) (log : List ℕ) (report : Report) (said : Said) → Untouched before after
-        → Opens (log_use flags.no_log) before.content dir old log → Does flags.json step old report new
+        → Opens (log_use flags.no_log) flags.reading before.content dir old log → Does flags.json step old report new
         → only_tells step ≡ false → flags.dry_run ≡ true → ShowsStep flags.json step old report new said
         → (all : Said) → Warns flags old.project step said all → StepEnds (Ok all)
     -- each file that differs was replaced, then the log, and no other; what is said has the warnings
-    done : (edits : Edits (log_use flags.no_log) before.content dir step flags.json) (said : Said) → only_tells step ≡ false → flags.dry_run ≡ false
+    done : (edits : Edits (log_use flags.no_log) flags.reading before.content dir step flags.json) (said : Said) → only_tells step ≡ false → flags.dry_run ≡ false
         → AreReplaced (written edits) before after
         → SaysStep flags.json step edits.old.project.files edits.new.project.files edits.report said
         → (all : Said) → Warns flags edits.old.project step said all → StepEnds (Ok all)
     -- one could not be replaced, what was replaced got its old bytes again, and the fault reports it
-    unwritten : (edits : Edits (log_use flags.no_log) before.content dir step flags.json) (fault : StoreFault) → only_tells step ≡ false → flags.dry_run ≡ false
+    unwritten : (edits : Edits (log_use flags.no_log) flags.reading before.content dir step flags.json) (fault : StoreFault) → only_tells step ≡ false → flags.dry_run ≡ false
         → TakenBack (written edits) before after fault
         → StepEnds (Err (Store fault Nothing))
     no_memory : (stop : Stop) → Untouched before after → WantsMemory stop → StepEnds (Err stop)
@@ -95,10 +96,10 @@ module _ (dir : Option (List ℕ)) (step : Step) (flags : Flags) (before after :
 
 pub data ListingEnds (dir : Option (List ℕ)) (listing : Listing) (flags : Flags) (before after : Seen) : Result Said Stop → Type 0 where
   -- there is no session
-  has_none : (stop : Stop) → Untouched before after → OpensNone (log_use flags.no_log) before.content dir before.failures after.failures stop
+  has_none : (stop : Stop) → Untouched before after → OpensNone (log_use flags.no_log) flags.reading before.content dir before.failures after.failures stop
       → ListingEnds dir listing flags before after (Err stop)
-  listed : (session : Session) (log : List ℕ) → Untouched before after → Opens (log_use flags.no_log) before.content dir session log
-      → ListingEnds dir listing flags before after (Ok (shown_text (listing_text flags.json listing session)))
+  listed : (session : Session) (log : List ℕ) → Untouched before after → Opens (log_use flags.no_log) flags.reading before.content dir session log
+      → ListingEnds dir listing flags before after (Ok (shown_text (listing_text flags.reading flags.json listing session)))
   wants_memory : (stop : Stop) → Untouched before after → WantsMemory stop → ListingEnds dir listing flags before after (Err stop)
 
 -- ---- a request, by what the store holds
@@ -153,7 +154,7 @@ pub record RanOut (asked : Result Asked UsageFault) (before after : Seen) : Type
   pub is_asked : asked ≡ Ok (without_text a)
   pub step : Step
   pub asks : AsksFor a.title a.action before.content (request.Step step)
-  pub edits : Edits (log_use a.flags.no_log) before.content a.dir step a.flags.json
+  pub edits : Edits (log_use a.flags.no_log) a.flags.reading before.content a.dir step a.flags.json
   pub taken : TakenBack (written edits) before after OutOfMemory
 
 -- All is as before, or memory ran out so: then the files are as before, and the status is 1.

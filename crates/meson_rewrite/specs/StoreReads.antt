@@ -1,6 +1,7 @@
 -- The number of reads of the store by a run: one for the file that the words name, if they name one, one for each queried file of the project, and one for the
 -- log, if it is kept. If it reports a file as unreadable, it is the last file that the store was queried for.
 use Rattle.std.specs.Prelude.{◌≡◌, ◌≤◌, ◌+◌, ◌⊎◌, ℕ, List, Option, Some, None, Result, Ok, Err}
+use Rattle.meson_calls.specs.declared.call.Reading.{Reading}
 use Rattle.meson_json.specs.TextsFile.{GivenText, HasTexts}
 use Rattle.meson_command.specs.declared.asked.Action.{Action}
 use Rattle.meson_command.specs.declared.asked.Action.TheVariants as action
@@ -54,19 +55,19 @@ MayAskLog Ignored reads reads' unread = AsksNone reads reads' unread
 
 -- ---- the project of a folder, in a store that reported this before
 
-module _ (how : LogUse) (before : Option Content) (dir : Option (List ℕ)) where
+module _ (how : LogUse) (reading : Reading) (before : Option Content) (dir : Option (List ℕ)) where
   -- these files, and then the log if it is kept
   abbrev pub ReadsWithLog : ℕ → List File → ℕ → Type 0
-  ReadsWithLog reads files reads' = (n : ℕ) × ReadsFiles before dir reads files n × (reads' ≡ log_read how n)
+  ReadsWithLog reads files reads' = (n : ℕ) × ReadsFiles reading before dir reads files n × (reads' ≡ log_read how n)
 
   -- the files of the project, and then the log if it is kept
   abbrev pub ReadsProject : ℕ → ℕ → Type 0
-  ReadsProject reads reads' = (files : List File) × Finds before dir (whole files) × ReadsWithLog reads files reads'
+  ReadsProject reads reads' = (files : List File) × Finds reading before dir (whole files) × ReadsWithLog reads files reads'
 
   -- the same, or no more than a part of them
   abbrev pub ReadsAtMost : ℕ → ℕ → Option (List ℕ) → Type 0
-  ReadsAtMost reads reads' unread = StopsReading before dir reads reads' unread
-      ⊎ ((files : List File) × (n : ℕ) × ReadsFiles before dir reads files n × MayAskLog how n reads' unread)
+  ReadsAtMost reads reads' unread = StopsReading reading before dir reads reads' unread
+      ⊎ ((files : List File) × (n : ℕ) × ReadsFiles reading before dir reads files n × MayAskLog how n reads' unread)
 
 -- ---- a request without texts
 
@@ -79,17 +80,17 @@ AsksForProject title a before =
 abbrev pub MayRead : Result Asked UsageFault → Option Content → ℕ → ℕ → Option (List ℕ) → Type 0
 MayRead (Err fault) before reads reads' unread = AsksNone reads reads' unread
 MayRead (Ok a) before reads reads' unread = AsksNone reads reads' unread ⊎ AsksNamed a.action reads reads' unread
-    ⊎ (AsksForProject a.title a.action before × ReadsAtMost (log_use a.flags.no_log) before a.dir (file_read a.action reads) reads' unread)
+    ⊎ (AsksForProject a.title a.action before × ReadsAtMost (log_use a.flags.no_log) a.flags.reading before a.dir (file_read a.action reads) reads' unread)
 
-abbrev pub ReadsFor : Action → LogUse → Option Content → Option (List ℕ) → ℕ → ℕ → Type 0
-ReadsFor (action.Help text) how before dir reads reads' = reads' ≡ reads
-ReadsFor action.Version how before dir reads reads' = reads' ≡ reads
-ReadsFor a how before dir reads reads' = ReadsProject how before dir (file_read a reads) reads'
+abbrev pub ReadsFor : Action → LogUse → Reading → Option Content → Option (List ℕ) → ℕ → ℕ → Type 0
+ReadsFor (action.Help text) how reading before dir reads reads' = reads' ≡ reads
+ReadsFor action.Version how reading before dir reads reads' = reads' ≡ reads
+ReadsFor a how reading before dir reads reads' = ReadsProject how reading before dir (file_read a reads) reads'
 
 -- all of them, but for help and the version, which read nothing
 abbrev pub ReadsAll : Result Asked UsageFault → Option Content → ℕ → ℕ → Type 0
 ReadsAll (Err fault) before reads reads' = reads' ≡ reads
-ReadsAll (Ok a) before reads reads' = ReadsFor a.action (log_use a.flags.no_log) before a.dir reads reads'
+ReadsAll (Ok a) before reads reads' = ReadsFor a.action (log_use a.flags.no_log) a.flags.reading before a.dir reads reads'
 
 -- ---- a request with the texts of the file of that name
 

@@ -108,7 +108,7 @@ fn advice_for(
     if !flags.explain {
         return Ok(Advice::Nothing);
     }
-    let explanation = explain(alloc, project, command, refusal)?;
+    let explanation = explain(alloc, flags.reading, project, command, refusal)?;
     advice_of(alloc, flags.json, project.files(), explanation)
 }
 

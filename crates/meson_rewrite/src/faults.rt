@@ -201,7 +201,7 @@ fn splice_words(
     match fault {
         SpliceFault::NoFile(name) => Ok(Some((
             format!(in alloc; "the run changed {name}, which is not in the project now")?,
-            "bring the file and its subdir call back, or remove meson.rewrite-log and use git",
+            "give --follow if the run was made with it, bring the file and its subdir call back, or remove meson.rewrite-log and use git",
         ))),
         SpliceFault::OutOfRange(name, at) => Ok(Some((
             format!(in alloc; "the log has bytes at {at} of {name}, which ends before them")?,

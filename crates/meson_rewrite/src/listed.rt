@@ -13,6 +13,7 @@ use crate::request::Listing;
 use crate::said::{Said, json_line};
 use crate::stop::Stop;
 use meson_calls::Reading;
+use meson_command::Flags;
 use meson_inventory::{
     assignments_lines, assignments_object, calls_lines, calls_object, placed_assignments_object,
     placed_calls_object, placed_project_object, project_lines, project_object,
@@ -25,14 +26,19 @@ use serde_json::Value;
 use std::alloc::{AllocError, Global};
 
 /// What a project holds, as JSON or as lines.
-fn holdings_text(alloc: Global, project: &Project, json: bool) -> Result<Vec<u8>, AllocError>
-    ensures { IfOk result (λ text. text.items ≡ holdings_text json project.now) }
+fn holdings_text(
+    alloc: Global,
+    reading: Reading,
+    project: &Project,
+    json: bool,
+) -> Result<Vec<u8>, AllocError>
+    ensures { IfOk result (λ text. text.items ≡ holdings_text reading json project.now) }
 {
     if json {
-        let listing = project_object(alloc, Reading::Written, project)?;
+        let listing = project_object(alloc, reading, project)?;
         return json_line(alloc, &listing);
     }
-    let lines = project_lines(alloc, Reading::Written, project)?;
+    let lines = project_lines(alloc, reading, project)?;
     Ok(lines.into_bytes())
 }
 
@@ -66,16 +72,17 @@ fn assignments_text(alloc: Global, project: &Project, json: bool) -> Result<Vec<
 }
 
 /// The content of a listing of a session, as JSON.
-fn listed_object(alloc: Global, session: &Session, listing: &Listing) -> Result<Value, AllocError>
-    ensures { IfOk result (λ v. view v ≡ listed_data listing.now session.now) }
+fn listed_object(
+    alloc: Global,
+    reading: Reading,
+    session: &Session,
+    listing: &Listing,
+) -> Result<Value, AllocError>
+    ensures { IfOk result (λ v. view v ≡ listed_data reading listing.now session.now) }
 {
     match listing {
         Listing::History => history_object(alloc, &session.history),
-        Listing::Holdings { .. } => placed_project_object(
-            alloc,
-            Reading::Written,
-            session.project(),
-        ),
+        Listing::Holdings { .. } => placed_project_object(alloc, reading, session.project()),
         Listing::Calls { function, .. } => {
             placed_calls_object(alloc, session.project(), function.get())
         }
@@ -85,12 +92,17 @@ fn listed_object(alloc: Global, session: &Session, listing: &Listing) -> Result<
 }
 
 /// The content of a listing of a session, as lines.
-fn listed_text(alloc: Global, session: &Session, listing: &Listing) -> Result<Vec<u8>, AllocError>
-    ensures { IfOk result (λ text. text.items ≡ listed_text listing.now session.now) }
+fn listed_text(
+    alloc: Global,
+    reading: Reading,
+    session: &Session,
+    listing: &Listing,
+) -> Result<Vec<u8>, AllocError>
+    ensures { IfOk result (λ text. text.items ≡ listed_text reading listing.now session.now) }
 {
     match listing {
         Listing::History => history_text(alloc, &session.history),
-        Listing::Holdings { json } => holdings_text(alloc, session.project(), *json),
+        Listing::Holdings { json } => holdings_text(alloc, reading, session.project(), *json),
         Listing::Calls { function, json } => {
             calls_text(alloc, session.project(), function.get(), *json)
         }
@@ -102,17 +114,18 @@ fn listed_text(alloc: Global, session: &Session, listing: &Listing) -> Result<Ve
 /// The content of a listing of a session, as one line of JSON or as lines.
 fn listing_text(
     alloc: Global,
+    reading: Reading,
     session: &Session,
     listing: &Listing,
     json: bool,
 ) -> Result<Vec<u8>, AllocError>
-    ensures { IfOk result (λ text. text.items ≡ listing_text json listing.now session.now) }
+    ensures { IfOk result (λ text. text.items ≡ listing_text reading json listing.now session.now) }
 {
     if json {
-        let listed = listed_object(alloc, session, listing)?;
+        let listed = listed_object(alloc, reading, session, listing)?;
         return json_line(alloc, &listed);
     }
-    listed_text(alloc, session, listing)
+    listed_text(alloc, reading, session, listing)
 }
 
 /// What is printed when this is listed of a session.
@@ -120,13 +133,13 @@ pub(crate) fn listed(
     alloc: Global,
     opened: StoredSession,
     listing: Listing,
-    json: bool,
+    flags: Flags,
 ) -> Result<Said, Stop>
-    ensures told { IfOk result (λ said. said ≡ shown_text (listing_text json listing opened.session)) }
+    ensures told { IfOk result (λ said. said ≡ shown_text (listing_text flags.reading flags.json listing opened.session)) }
     ensures none { IfErr result WantsMemory }
 {
     let StoredSession { session, log: _ } = opened;
-    let text = listing_text(alloc, &session, &listing, json);
+    let text = listing_text(alloc, flags.reading, &session, &listing, flags.json);
     leave(session);
     Ok(Said {
         out: Bytes::of(text?),

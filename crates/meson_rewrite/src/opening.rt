@@ -15,6 +15,8 @@ ghost use Rattle.meson_gathering.specs.ReadCounts.{MayAsk};
 
 use crate::advice::Advice;
 use crate::stop::Stop;
+use meson_calls::Reading;
+use meson_command::Flags;
 use meson_gathering::{gather, read_file};
 use meson_json::{empty_log, read_log};
 use meson_script::Session;
@@ -146,25 +148,26 @@ pub(crate) fn leave<T: Drop>(it: T) {
     mem::forget(it);
 }
 
-/// The session of the project in this folder: its files, each parsed once, and then the history that its log holds, if the log is kept.
+/// The session of the project in this folder: its files, read so and each parsed once, and then the history that its log holds, if the log is kept.
 fn open_with<S: Store>(
     alloc: Global,
     store: &mut S,
     dir: Option<&str>,
     log_use: LogUse,
+    reading: Reading,
 ) -> Result<StoredSession, Stop>
-    ensures opens { IfOk result (λ o. Opens log_use (S.content store.old) (named_folder dir.entry) o.session o.log.items) }
+    ensures opens { IfOk result (λ o. Opens log_use reading (S.content store.old) (named_folder dir.entry) o.session o.log.items) }
     ensures none { IfErr result (λ why. WantsMemory why
-        ⊎ OpensNone log_use (S.content store.old) (named_folder dir.entry) (S.failures store.old) (S.failures store.new) why) }
+        ⊎ OpensNone log_use reading (S.content store.old) (named_folder dir.entry) (S.failures store.old) (S.failures store.new) why) }
     ensures kept { S.content store.new ≡ S.content store.old }
     ensures counts { S.failures store.old ≤ S.failures store.new }
     ensures no_replace { S.replaces store.new ≡ S.replaces store.old }
-    ensures reads { IfOk result (λ o. ReadsWithLog log_use (S.content store.old) (named_folder dir.entry) (S.reads store.old)
+    ensures reads { IfOk result (λ o. ReadsWithLog log_use reading (S.content store.old) (named_folder dir.entry) (S.reads store.old)
         o.session.project.files (S.reads store.new)) }
-    ensures reads_at_most { IfErr result (λ why. ReadsAtMost log_use (S.content store.old) (named_folder dir.entry) (S.reads store.old)
+    ensures reads_at_most { IfErr result (λ why. ReadsAtMost log_use reading (S.content store.old) (named_folder dir.entry) (S.reads store.old)
         (S.reads store.new) (unread_by why)) }
 {
-    let project = match gather(alloc, store, dir) {
+    let project = match gather(alloc, store, dir, reading) {
         Ok(project) => project,
         Err(fault) => return Err(Stop::from(fault)),
     };
@@ -175,24 +178,25 @@ fn open_with<S: Store>(
     })
 }
 
-/// The session of the project in this folder: its files, each parsed once, and then the history that its log holds. If the words
+/// The session of the project in this folder, by the words before the subcommand: its files, each parsed once, and then the history that its log holds. If they
 /// leave the log alone, it is the empty history.
 pub(crate) fn open<S: Store>(
     alloc: Global,
     store: &mut S,
     dir: Option<&str>,
-    no_log: bool,
+    flags: Flags,
 ) -> Result<StoredSession, Stop>
-    ensures opens { IfOk result (λ o. Opens (log_use no_log) (S.content store.old) (named_folder dir.entry) o.session o.log.items) }
+    ensures opens { IfOk result (λ o. Opens (log_use flags.no_log) flags.reading (S.content store.old) (named_folder dir.entry) o.session o.log.items) }
     ensures none { IfErr result (λ why. WantsMemory why
-        ⊎ OpensNone (log_use no_log) (S.content store.old) (named_folder dir.entry) (S.failures store.old) (S.failures store.new) why) }
+        ⊎ OpensNone (log_use flags.no_log) flags.reading (S.content store.old) (named_folder dir.entry) (S.failures store.old)
+        (S.failures store.new) why) }
     ensures kept { S.content store.new ≡ S.content store.old }
     ensures counts { S.failures store.old ≤ S.failures store.new }
     ensures no_replace { S.replaces store.new ≡ S.replaces store.old }
-    ensures reads { IfOk result (λ o. ReadsWithLog (log_use no_log) (S.content store.old) (named_folder dir.entry) (S.reads store.old)
+    ensures reads { IfOk result (λ o. ReadsWithLog (log_use flags.no_log) flags.reading (S.content store.old) (named_folder dir.entry) (S.reads store.old)
         o.session.project.files (S.reads store.new)) }
-    ensures reads_at_most { IfErr result (λ why. ReadsAtMost (log_use no_log) (S.content store.old) (named_folder dir.entry) (S.reads store.old)
-        (S.reads store.new) (unread_by why)) }
+    ensures reads_at_most { IfErr result (λ why. ReadsAtMost (log_use flags.no_log) flags.reading (S.content store.old) (named_folder dir.entry)
+        (S.reads store.old) (S.reads store.new) (unread_by why)) }
 {
-    open_with(alloc, store, dir, LogUse::of(no_log))
+    open_with(alloc, store, dir, LogUse::of(flags.no_log), flags.reading)
 }

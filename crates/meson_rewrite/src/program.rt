@@ -56,12 +56,12 @@ fn do_step<S: Store>(
     ensures ends { StepEnds (named_folder dir.entry) step.now flags (seen_by S.content S.failures S.replaces store.old)
         (seen_by S.content S.failures S.replaces store.new) result }
     ensures counts { S.failures store.old ≤ S.failures store.new }
-    ensures reads { ReadsAtMost (log_use flags.no_log) (S.content store.old) (named_folder dir.entry) (S.reads store.old) (S.reads store.new)
-        (unread_in result) }
-    ensures reads_all { OnOk result (ReadsProject (log_use flags.no_log) (S.content store.old) (named_folder dir.entry) (S.reads store.old)
+    ensures reads { ReadsAtMost (log_use flags.no_log) flags.reading (S.content store.old) (named_folder dir.entry) (S.reads store.old)
+        (S.reads store.new) (unread_in result) }
+    ensures reads_all { OnOk result (ReadsProject (log_use flags.no_log) flags.reading (S.content store.old) (named_folder dir.entry) (S.reads store.old)
         (S.reads store.new)) }
 {
-    let opened = open(alloc, store, dir, flags.no_log)?;
+    let opened = open(alloc, store, dir, flags)?;
     if only_tells(step) {
         return told(alloc, opened, step, flags);
     }
@@ -89,13 +89,13 @@ fn list<S: Store>(
     ensures ends { ListingEnds (named_folder dir.entry) listing flags (seen_by S.content S.failures S.replaces store.old)
         (seen_by S.content S.failures S.replaces store.new) result }
     ensures counts { S.failures store.old ≤ S.failures store.new }
-    ensures reads { ReadsAtMost (log_use flags.no_log) (S.content store.old) (named_folder dir.entry) (S.reads store.old) (S.reads store.new)
-        (unread_in result) }
-    ensures reads_all { OnOk result (ReadsProject (log_use flags.no_log) (S.content store.old) (named_folder dir.entry) (S.reads store.old)
+    ensures reads { ReadsAtMost (log_use flags.no_log) flags.reading (S.content store.old) (named_folder dir.entry) (S.reads store.old)
+        (S.reads store.new) (unread_in result) }
+    ensures reads_all { OnOk result (ReadsProject (log_use flags.no_log) flags.reading (S.content store.old) (named_folder dir.entry) (S.reads store.old)
         (S.reads store.new)) }
 {
-    let opened = open(alloc, store, dir, flags.no_log)?;
-    listed(alloc, opened, listing, flags.json)
+    let opened = open(alloc, store, dir, flags)?;
+    listed(alloc, opened, listing, flags)
 }
 
 /// The name of the folder.

@@ -4,10 +4,10 @@ use Rattle.meson_splice.specs.declared.file_set.File.{File}
 use Rattle.meson_splice.specs.Files.{bytes_at}
 use Rattle.meson_syntax.specs.declared.fault.ParseFault.TheVariants as parse
 use Rattle.meson_syntax.specs.Reads.{MayNotRead}
+use Rattle.meson_calls.specs.declared.call.Reading.{Reading}
 use Rattle.meson_calls.specs.Loading.{max_files, name_of_file, HasFileName}
-use Rattle.meson_calls.specs.Subdirs.{Enters}
 use Rattle.meson_store.specs.Content.{Content}
-use Rattle.meson_gathering.specs.Gathering.{files_entered, with_more, IsNextFile, Ending, unread, too_many}
+use Rattle.meson_gathering.specs.Gathering.{Enters, files_entered, with_more, IsNextFile, Ending, unread, too_many}
 use Rattle.meson_gathering.specs.declared.fault.GatherFault.{GatherFault}
 use Rattle.meson_gathering.specs.declared.fault.GatherFault.TheVariants.{Parse, TooManyFiles, Store}
 use Rattle.meson_store.specs.declared.store_fault.StoreFault.TheVariants as store
@@ -37,7 +37,7 @@ StopsLooking name bytes TooManyFiles = ⊥
 StopsLooking name bytes (Store fault) = fault ≡ store.OutOfMemory
 
 -- the file at that place enters what the new files have more
-pub record LooksAt (content : Content) (folder : Option (List ℕ)) (place : ℕ) (old new : List File) : Type 0 where
+pub record LooksAt (reading : Reading) (content : Content) (folder : Option (List ℕ)) (place : ℕ) (old new : List File) : Type 0 where
   pub names : List (List ℕ)
-  pub enters : Enters (name_of_file place old) (bytes_at place old) names
+  pub enters : Enters reading (name_of_file place old) (bytes_at place old) names
   pub are_entered : files_entered content folder names old ≡ Some new

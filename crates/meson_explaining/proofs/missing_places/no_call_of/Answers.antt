@@ -11,5 +11,5 @@ returns c =
     let calls = c.get.ensures ∙ c.in_ok-calls.ensures in
     let left = c.get-2.ensures ∙ ap (λ (h : Holdings). h.not_entered) c.in_ok-held.ensures in
     let notes = c.in_ok-notes.ensures ∙ ap₂ (no_call_notes function c.args.id.now) calls left in
-    IfOk-weaker c.with_help.result _ _ (λ e is. is ∙ ap (λ ns. record { notes = ns; help = (no_call c.args.project.now (callee.Function function) c.args.id.now).help }) notes)
+    IfOk-weaker c.with_help.result _ _ (λ e is. is ∙ ap (λ ns. record { notes = ns; help = (no_call c.args.reading c.args.project.now (callee.Function function) c.args.id.now).help }) notes)
     c.with_help.ensures

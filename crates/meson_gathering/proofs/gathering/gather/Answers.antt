@@ -27,9 +27,9 @@ looking-init g c =
       named = subst (All HasFileName) (sym root.1) (All-cons HasFileName f [] (inl refl) (All-nil HasFileName));
       many = ap length c.new-trees.ensures.items;
       parsed = subst (AreParsed []) (sym c.new-trees.ensures.items) tt;
-      ends = λ content is end gathers. from_root root.0 end (root.2 content is) (subst (λ fs. Gathers content folder [] fs end) root.1 gathers);
-      asks = subst (λ fs. Looks (S.content c.args.store.now) folder (S.reads c.args.store.now) fs 0 (S.reads c.root_set.new.store)) (sym root.1)
-          (subst (Looks (S.content c.args.store.now) folder (S.reads c.args.store.now) (f ∷ []) 0) (sym c.in_ok-files.ensures.once) (root_read root.0 root.2));
+      ends = λ content is end gathers. from_root root.0 end (root.2 content is) (subst (λ fs. Gathers c.args.reading content folder [] fs end) root.1 gathers);
+      asks = subst (λ fs. Looks c.args.reading (S.content c.args.store.now) folder (S.reads c.args.store.now) fs 0 (S.reads c.root_set.new.store)) (sym root.1)
+          (subst (Looks c.args.reading (S.content c.args.store.now) folder (S.reads c.args.store.now) (f ∷ []) 0) (sym c.in_ok-files.ensures.once) (root_read root.0 root.2));
     }
 
 pub returns-in_err-tree-clause-stopped : goal.returns-in_err-tree-clause-stopped
@@ -38,8 +38,8 @@ returns-in_err-tree-clause-stopped g c =
     let folder = option_map (λ f. f.now) c.args.folder in
     let files = c.looking.files in
     let place = c.looking.looked in
-    let P : Ending → Type 0 = λ end. Told (g.S.Store.content c.looking.store) (λ content. Gathers content folder (take place files) (drop place files) end) in
-    let Q : Ending → Type 0 = Finds (g.S.Store.content c.args.store.now) folder in
+    let P : Ending → Type 0 = λ end. Told (g.S.Store.content c.looking.store) (λ content. Gathers c.args.reading content folder (take place files) (drop place files) end) in
+    let Q : Ending → Type 0 = Finds c.args.reading (g.S.Store.content c.args.store.now) folder in
     rw (error.1, error.2) (stops_within P Q (λ end p content is. c.looking.invariant.ends content is end (p content (c.looking.invariant.kept ∙ is)))
     (g.S.Store.failures c.args.store.now) (g.S.Store.failures c.looking.store) (g.S.Store.failures c.look.new.store) c.looking.invariant.counts c.look.ensures.counts c.in_err-tree.field-0.0 c.in_err-tree.ensures.stopped)
 
@@ -67,19 +67,19 @@ looking-preserved g c =
           (parsed_more old grows.more new trees c.push.new.self.items c.in_ok-tree.tree place c.looking.invariant.many grows.is_more c.in_ok-push.ensures.items within c.in_ok-tree.ensures.reads c.looking.invariant.parsed);
       ends = λ content is end gathers.
           c.looking.invariant.ends content is end
-          (looks content folder old place within new grows.more grows.is_more (c.in_ok-tree.ensures.looked content (c.looking.invariant.kept ∙ is)) end
-          (subst (λ k. Gathers content folder (take k new) (drop k new) end) (sym next) gathers));
-      asks = subst (λ k. Looks (S.content c.args.store.now) folder (S.reads c.args.store.now) new k m) next
-          (next_file old new place n m c.looking.invariant.asks within (subst (λ b. EntersFor b folder old place n new m) c.looking.invariant.kept c.in_ok-tree.ensures.asks));
+          (looks c.args.reading content folder old place within new grows.more grows.is_more (c.in_ok-tree.ensures.looked content (c.looking.invariant.kept ∙ is)) end
+          (subst (λ k. Gathers c.args.reading content folder (take k new) (drop k new) end) (sym next) gathers));
+      asks = subst (λ k. Looks c.args.reading (S.content c.args.store.now) folder (S.reads c.args.store.now) new k m) next
+          (next_file old new place n m c.looking.invariant.asks within (subst (λ b. EntersFor c.args.reading b folder old place n new m) c.looking.invariant.kept c.in_ok-tree.ensures.asks));
     }
 
 pub returns-clause-files : goal.returns-clause-files
 returns-clause-files g c =
     let past : length c.looking.files ≤ c.looking.looked = omega arith in
     let folder = option_map (λ f. f.now) c.args.folder in
-    λ content is. subst (λ p. Collects content folder (whole p.files)) (sym c.of.ensures)
-    (subst (λ fs. Collects content folder (whole fs)) (sym c.take.ensures)
-    (c.looking.invariant.ends content is (whole c.looking.files) (ended_all content folder c.looking.files c.looking.looked past)))
+    λ content is. subst (λ p. Collects c.args.reading content folder (whole p.files)) (sym c.of.ensures)
+    (subst (λ fs. Collects c.args.reading content folder (whole fs)) (sym c.take.ensures)
+    (c.looking.invariant.ends content is (whole c.looking.files) (ended_all c.args.reading content folder c.looking.files c.looking.looked past)))
 
 pub of-requires : goal.of-requires
 of-requires g c =
@@ -95,9 +95,14 @@ returns-clause-asks g c =
     let S = g.S.Store in
     let folder = option_map (λ f. f.now) c.args.folder in
     let past : length c.looking.files ≤ c.looking.looked = omega arith in
-    subst (λ p. ReadsFiles (S.content c.args.store.now) folder (S.reads c.args.store.now) p.files (S.reads c.looking.store)) (sym c.of.ensures)
-    (subst (λ fs. ReadsFiles (S.content c.args.store.now) folder (S.reads c.args.store.now) fs (S.reads c.looking.store)) (sym c.take.ensures)
+    subst (λ p. ReadsFiles c.args.reading (S.content c.args.store.now) folder (S.reads c.args.store.now) p.files (S.reads c.looking.store)) (sym c.of.ensures)
+    (subst (λ fs. ReadsFiles c.args.reading (S.content c.args.store.now) folder (S.reads c.args.store.now) fs (S.reads c.looking.store)) (sym c.take.ensures)
     (record { place = c.looking.looked; past = past; looks = c.looking.invariant.asks }))
+
+pub returns-in_err-files-clause-stopped : goal.returns-in_err-files-clause-stopped
+returns-in_err-files-clause-stopped g c =
+    let p = err_from_is_err_and c.from_residual.result c.from_residual.ensures.1 in
+    rw (p.1, p.2) (c.in_err-files.ensures.stopped c.args.reading)
 
 pub returns-in_err-files-clause-asks_at_most : goal.returns-in_err-files-clause-asks_at_most
 returns-in_err-files-clause-asks_at_most g c =
@@ -113,7 +118,7 @@ returns-in_err-tree-clause-asks_at_most g c =
     let place = c.looking.looked in
     let n = S.reads c.looking.store in
     rw (error.1, error.2) (stops_at_file files place n c.looking.invariant.asks
-    (subst (λ b. StopsFor b folder files place n (S.reads c.look.new.store) (unread_file c.in_err-tree.field-0.0)) c.looking.invariant.kept c.in_err-tree.ensures.asks_at_most))
+    (subst (λ b. StopsFor c.args.reading b folder files place n (S.reads c.look.new.store) (unread_file c.in_err-tree.field-0.0)) c.looking.invariant.kept c.in_err-tree.ensures.asks_at_most))
 
 pub returns-in_err-push-clause-asks_at_most : goal.returns-in_err-push-clause-asks_at_most
 returns-in_err-push-clause-asks_at_most g c =
@@ -125,6 +130,6 @@ returns-in_err-push-clause-asks_at_most g c =
     let n = S.reads c.looking.store in
     let m = S.reads c.look.new.store in
     let within : place < length old = omega arith in
-    let looked = next_file old new place n m c.looking.invariant.asks within (subst (λ b. EntersFor b folder old place n new m) c.looking.invariant.kept c.in_ok-tree.ensures.asks) in
+    let looked = next_file old new place n m c.looking.invariant.asks within (subst (λ b. EntersFor c.args.reading b folder old place n new m) c.looking.invariant.kept c.in_ok-tree.ensures.asks) in
     let p = err_from_is_err_and c.from_residual-in_err-push.result c.from_residual-in_err-push.ensures.1 in
     rw (p.1, p.2) (stops_at_file new (suc place) m looked (inl (refl, refl)))

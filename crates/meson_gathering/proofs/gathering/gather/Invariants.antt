@@ -15,8 +15,8 @@ invariant-looking g l = record {
   named : All HasFileName l.files;
   many : length l.trees.items ≡ l.looked;
   parsed : AreParsed (take l.looked l.files) l.trees.items;
-  ends : Told (g.S.Store.content l.fn.store) (λ content. (end : Ending) → Gathers content (option_map (λ f. f.now) l.folder) (take l.looked l.files) (drop l.looked l.files) end → Collects content (option_map (λ f. f.now) l.folder) end);
-  asks : Looks (g.S.Store.content l.fn.store) (option_map (λ f. f.now) l.folder) (g.S.Store.reads l.fn.store) l.files l.looked (g.S.Store.reads l.store);
+  ends : Told (g.S.Store.content l.fn.store) (λ content. (end : Ending) → Gathers l.fn.reading content (option_map (λ f. f.now) l.folder) (take l.looked l.files) (drop l.looked l.files) end → Collects l.fn.reading content (option_map (λ f. f.now) l.folder) end);
+  asks : Looks l.fn.reading (g.S.Store.content l.fn.store) (option_map (λ f. f.now) l.folder) (g.S.Store.reads l.fn.store) l.files l.looked (g.S.Store.reads l.store);
 }
 
 abbrev pub decreases-looking : goal.decreases-looking

@@ -32,10 +32,10 @@ returns-in_err-enter_all-clause-stopped g c =
     let given = map string_bytes c.as_slice.result.now in
     let same : given ≡ names = ap (map string_bytes) c.as_slice.ensures.value in
     let P : Ending → Type 0 = λ end. Told held (λ content. IsNotEntered content folder given files end) in
-    let Q : Ending → Type 0 = λ end. Told held (λ content. Gathers content folder (take place files) (drop place files) end) in
+    let Q : Ending → Type 0 = λ end. Told held (λ content. Gathers c.args.reading content folder (take place files) (drop place files) end) in
     let from : first ≤ first = omega arith in
     let p = err_from_is_err_and c.from_residual-in_err-enter_all.result c.from_residual-in_err-enter_all.ensures.1 in
-    rw (p.1, p.2) (stops_within P Q (λ end p content is. not_entered content folder files place c.requires.within names c.in_ok-tree.ensures.names end (subst (λ ns. IsNotEntered content folder ns files end) same (p content is)))
+    rw (p.1, p.2) (stops_within P Q (λ end p content is. not_entered c.args.reading content folder files place c.requires.within names c.in_ok-tree.ensures.names end (subst (λ ns. IsNotEntered content folder ns files end) same (p content is)))
     first first last from c.enter_all.ensures.counts c.in_err-enter_all.field-0.0 c.in_err-enter_all.ensures.stopped)
 
 pub returns-in_err-tree-clause-stopped : goal.returns-in_err-tree-clause-stopped
@@ -44,9 +44,9 @@ returns-in_err-tree-clause-stopped g c =
     let place = c.args.place in
     let folder = option_map (λ f. f.now) c.args.folder in
     let first = g.S.Store.failures c.args.store.now in
-    let Q : Ending → Type 0 = λ end. Told (g.S.Store.content c.args.store.now) (λ content. Gathers content folder (take place files) (drop place files) end) in
+    let Q : Ending → Type 0 = λ end. Told (g.S.Store.content c.args.store.now) (λ content. Gathers c.args.reading content folder (take place files) (drop place files) end) in
     let p = err_from_is_err_and c.from_residual.result c.from_residual.ensures.1 in
-    rw (p.1, p.2) (looking_stops Q first first (name_of_file place files) (bytes_at place files) (λ fault why told content is. not_parsed content folder files place c.requires.within fault why told) c.in_err-tree.field-0.0 c.in_err-tree.ensures.stopped)
+    rw (p.1, p.2) (looking_stops Q first first (name_of_file place files) (bytes_at place files) (λ fault why told content is. not_parsed c.args.reading content folder files place c.requires.within fault why told) c.in_err-tree.field-0.0 c.in_err-tree.ensures.stopped)
 
 pub returns-clause-asks : goal.returns-clause-asks
 returns-clause-asks g c =

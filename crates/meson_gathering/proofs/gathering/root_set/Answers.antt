@@ -7,11 +7,11 @@ use Rattle.meson_gathering.proofs.gathering.root_set.Goals as goal
 pub returns-in-Ok-None-clause-stopped : goal.returns-in-Ok-None-clause-stopped
 returns-in-Ok-None-clause-stopped g c =
     let read = rw c.in-Ok-None.field-0-is at c.in-Ok-None.ensures.read in
-    (c.of-name.ensures ∙ c.in_ok-from_str.ensures.ok, λ content is. no_root (sym (read content is)))
+    λ reading. (c.of-name.ensures ∙ c.in_ok-from_str.ensures.ok, λ content is. no_root (sym (read content is)))
 
 pub returns-in-Err-clause-stopped : goal.returns-in-Err-clause-stopped
 returns-in-Err-clause-stopped g c =
-    unread_stops (Finds (g.S.Store.content c.args.store.now) (option_map (λ f. f.now) c.args.folder)) (g.S.Store.failures c.args.store.now) (g.S.Store.failures c.read_file.new.store) build_file c.in-Err.fault
+    λ reading. unread_stops (Finds reading (g.S.Store.content c.args.store.now) (option_map (λ f. f.now) c.args.folder)) (g.S.Store.failures c.args.store.now) (g.S.Store.failures c.read_file.new.store) build_file c.in-Err.fault
     (λ content is. unread_root) c.in-Err.ensures.failed
 
 pub returns-clause-root : goal.returns-clause-root

@@ -4,4 +4,4 @@ use Rattle.meson_rewrite.proofs.PlainObjects.{listed-plain}
 use Rattle.meson_rewrite.proofs.listed.listing_text.Goals as goal
 
 pub json_line-requires : goal.json_line-requires
-json_line-requires c = ap has_float c.in_ok-listed.ensures ∙ listed-plain c.args.listing.now c.args.session.now
+json_line-requires c = ap has_float c.in_ok-listed.ensures ∙ listed-plain c.args.reading c.args.listing.now c.args.session.now

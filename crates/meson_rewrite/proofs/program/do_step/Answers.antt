@@ -21,13 +21,13 @@ use Rattle.meson_store.specs.Seen.{Seen, Untouched, seen}
 use Rattle.meson_rewrite.proofs.program.do_step.Goals as goal
 
 -- what is told, or why it is not, is the end
-ends-by-telling : (dir : Option (List ℕ)) (step : Step) (flags : Flags) (b a : Seen) (u : Untouched b a) (old : Session) (log : List ℕ) → Opens (log_use flags.no_log) b.content dir old log → only_tells step ≡ true
+ends-by-telling : (dir : Option (List ℕ)) (step : Step) (flags : Flags) (b a : Seen) (u : Untouched b a) (old : Session) (log : List ℕ) → Opens (log_use flags.no_log) flags.reading b.content dir old log → only_tells step ≡ true
     → (end : Result Said Stop) → IfOk end (OnlyTells old step flags.json) → IfErr end (λ why. WantsMemory why ⊎ MayRefuseStep flags step old why) → StepEnds dir step flags b a end
 ends-by-telling dir step flags b a u old log opens only (Ok said) is_told refused = told-ends dir step flags b a u old log opens only said is_told
 ends-by-telling dir step flags b a u old log opens only (Err stop) is_told refused = stopped-acting dir step flags b a u old log opens stop refused
 
 -- the same of what is shown
-ends-by-showing : (dir : Option (List ℕ)) (step : Step) (flags : Flags) (b a : Seen) (u : Untouched b a) (old : Session) (log : List ℕ) → Opens (log_use flags.no_log) b.content dir old log → only_tells step ≡ false → flags.dry_run ≡ true
+ends-by-showing : (dir : Option (List ℕ)) (step : Step) (flags : Flags) (b a : Seen) (u : Untouched b a) (old : Session) (log : List ℕ) → Opens (log_use flags.no_log) flags.reading b.content dir old log → only_tells step ≡ false → flags.dry_run ≡ true
     → (end : Result Said Stop) → IfOk end (IsShownWith flags old step) → IfErr end (λ why. WantsMemory why ⊎ MayRefuseStep flags step old why) → StepEnds dir step flags b a end
 ends-by-showing dir step flags b a u old log opens writes dry (Ok said) is_shown refused = dry-ends dir step flags b a u old log opens writes dry said is_shown
 ends-by-showing dir step flags b a u old log opens writes dry (Err stop) is_shown refused = stopped-acting dir step flags b a u old log opens stop refused
@@ -106,51 +106,51 @@ pub returns-then-only_tells-clause-reads : goal.returns-then-only_tells-clause-r
 returns-then-only_tells-clause-reads g c =
     let S = g.S.Store in
     let dir = option_map (λ d. d.now) c.args.dir in
-    with-log-at-most (log_use c.args.flags.no_log) (S.content c.args.store.now) dir (S.reads c.args.store.now) c.in_ok-opened.opened.session.project.files (S.reads c.open.new.store) _ refl c.in_ok-opened.ensures.reads
+    with-log-at-most (log_use c.args.flags.no_log) c.args.flags.reading (S.content c.args.store.now) dir (S.reads c.args.store.now) c.in_ok-opened.opened.session.project.files (S.reads c.open.new.store) _ refl c.in_ok-opened.ensures.reads
     (unread_in c.told.result) (acting-unread c.args.flags c.args.step.now c.in_ok-opened.opened.session c.told.result c.told.ensures.refused)
 
 pub returns-then-only_tells-clause-reads_all : goal.returns-then-only_tells-clause-reads_all
 returns-then-only_tells-clause-reads_all g c =
     let S = g.S.Store in
     let dir = option_map (λ d. d.now) c.args.dir in
-    on_ok c.told.result (with-log-all (log_use c.args.flags.no_log) (S.content c.args.store.now) dir (S.reads c.args.store.now) c.in_ok-opened.opened.session.project.files (S.reads c.open.new.store) _ refl c.in_ok-opened.ensures.reads c.in_ok-opened.ensures.opens.found)
+    on_ok c.told.result (with-log-all (log_use c.args.flags.no_log) c.args.flags.reading (S.content c.args.store.now) dir (S.reads c.args.store.now) c.in_ok-opened.opened.session.project.files (S.reads c.open.new.store) _ refl c.in_ok-opened.ensures.reads c.in_ok-opened.ensures.opens.found)
 
 pub returns-then-flags-clause-reads : goal.returns-then-flags-clause-reads
 returns-then-flags-clause-reads g c =
     let S = g.S.Store in
     let dir = option_map (λ d. d.now) c.args.dir in
-    with-log-at-most (log_use c.args.flags.no_log) (S.content c.args.store.now) dir (S.reads c.args.store.now) c.in_ok-opened.opened.session.project.files (S.reads c.open.new.store) _ refl c.in_ok-opened.ensures.reads
+    with-log-at-most (log_use c.args.flags.no_log) c.args.flags.reading (S.content c.args.store.now) dir (S.reads c.args.store.now) c.in_ok-opened.opened.session.project.files (S.reads c.open.new.store) _ refl c.in_ok-opened.ensures.reads
     (unread_in c.shown.result) (acting-unread c.args.flags c.args.step.now c.in_ok-opened.opened.session c.shown.result c.shown.ensures.refused)
 
 pub returns-then-flags-clause-reads_all : goal.returns-then-flags-clause-reads_all
 returns-then-flags-clause-reads_all g c =
     let S = g.S.Store in
     let dir = option_map (λ d. d.now) c.args.dir in
-    on_ok c.shown.result (with-log-all (log_use c.args.flags.no_log) (S.content c.args.store.now) dir (S.reads c.args.store.now) c.in_ok-opened.opened.session.project.files (S.reads c.open.new.store) _ refl c.in_ok-opened.ensures.reads c.in_ok-opened.ensures.opens.found)
+    on_ok c.shown.result (with-log-all (log_use c.args.flags.no_log) c.args.flags.reading (S.content c.args.store.now) dir (S.reads c.args.store.now) c.in_ok-opened.opened.session.project.files (S.reads c.open.new.store) _ refl c.in_ok-opened.ensures.reads c.in_ok-opened.ensures.opens.found)
 
 pub returns-in_err-edit-clause-reads : goal.returns-in_err-edit-clause-reads
 returns-in_err-edit-clause-reads g c =
     let S = g.S.Store in
     let dir = option_map (λ d. d.now) c.args.dir in
     let error = err_from_is_err_and c.from_residual-in_err-edit.result c.from_residual-in_err-edit.ensures.1 in
-    rw (error.1, error.2) (with-log-at-most (log_use c.args.flags.no_log) (S.content c.args.store.now) dir (S.reads c.args.store.now) c.in_ok-opened.opened.session.project.files (S.reads c.open.new.store) _ refl c.in_ok-opened.ensures.reads
+    rw (error.1, error.2) (with-log-at-most (log_use c.args.flags.no_log) c.args.flags.reading (S.content c.args.store.now) dir (S.reads c.args.store.now) c.in_ok-opened.opened.session.project.files (S.reads c.open.new.store) _ refl c.in_ok-opened.ensures.reads
     (unread_by c.in_err-edit.field-0.0) (stop-unread c.args.flags c.args.step.now c.in_ok-opened.opened.session c.in_err-edit.field-0.0 c.in_err-edit.ensures.refused))
 
 pub returns-in-Ok-clause-reads : goal.returns-in-Ok-clause-reads
 returns-in-Ok-clause-reads g c =
     let S = g.S.Store in
     let dir = option_map (λ d. d.now) c.args.dir in
-    with-log-at-most (log_use c.args.flags.no_log) (S.content c.args.store.now) dir (S.reads c.args.store.now) c.in_ok-opened.opened.session.project.files (S.reads c.open.new.store) _ c.commit.ensures.no_read c.in_ok-opened.ensures.reads None refl
+    with-log-at-most (log_use c.args.flags.no_log) c.args.flags.reading (S.content c.args.store.now) dir (S.reads c.args.store.now) c.in_ok-opened.opened.session.project.files (S.reads c.open.new.store) _ c.commit.ensures.no_read c.in_ok-opened.ensures.reads None refl
 
 pub returns-in-Ok-clause-reads_all : goal.returns-in-Ok-clause-reads_all
 returns-in-Ok-clause-reads_all g c =
     let S = g.S.Store in
     let dir = option_map (λ d. d.now) c.args.dir in
-    with-log-all (log_use c.args.flags.no_log) (S.content c.args.store.now) dir (S.reads c.args.store.now) c.in_ok-opened.opened.session.project.files (S.reads c.open.new.store) _ c.commit.ensures.no_read c.in_ok-opened.ensures.reads c.in_ok-opened.ensures.opens.found
+    with-log-all (log_use c.args.flags.no_log) c.args.flags.reading (S.content c.args.store.now) dir (S.reads c.args.store.now) c.in_ok-opened.opened.session.project.files (S.reads c.open.new.store) _ c.commit.ensures.no_read c.in_ok-opened.ensures.reads c.in_ok-opened.ensures.opens.found
 
 pub returns-in-Err-clause-reads : goal.returns-in-Err-clause-reads
 returns-in-Err-clause-reads g c =
     let S = g.S.Store in
     let dir = option_map (λ d. d.now) c.args.dir in
-    with-log-at-most (log_use c.args.flags.no_log) (S.content c.args.store.now) dir (S.reads c.args.store.now) c.in_ok-opened.opened.session.project.files (S.reads c.open.new.store) _ c.commit.ensures.no_read c.in_ok-opened.ensures.reads
+    with-log-at-most (log_use c.args.flags.no_log) c.args.flags.reading (S.content c.args.store.now) dir (S.reads c.args.store.now) c.in_ok-opened.opened.session.project.files (S.reads c.open.new.store) _ c.commit.ensures.no_read c.in_ok-opened.ensures.reads
     (unread_name c.in-Err.fault) (commit-unread _ _ _ c.in-Err.fault c.in-Err.ensures.failed)

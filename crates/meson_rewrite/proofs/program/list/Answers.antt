@@ -36,11 +36,11 @@ pub returns-clause-reads : goal.returns-clause-reads
 returns-clause-reads g c =
     let S = g.S.Store in
     let dir = option_map (λ d. d.now) c.args.dir in
-    with-log-at-most (log_use c.args.flags.no_log) (S.content c.args.store.now) dir (S.reads c.args.store.now) c.in_ok-opened.opened.session.project.files (S.reads c.open.new.store) _ refl c.in_ok-opened.ensures.reads
+    with-log-at-most (log_use c.args.flags.no_log) c.args.flags.reading (S.content c.args.store.now) dir (S.reads c.args.store.now) c.in_ok-opened.opened.session.project.files (S.reads c.open.new.store) _ refl c.in_ok-opened.ensures.reads
     (unread_in c.listed.result) (listing-unread c.listed.result c.listed.ensures.none)
 
 pub returns-clause-reads_all : goal.returns-clause-reads_all
 returns-clause-reads_all g c =
     let S = g.S.Store in
     let dir = option_map (λ d. d.now) c.args.dir in
-    on_ok c.listed.result (with-log-all (log_use c.args.flags.no_log) (S.content c.args.store.now) dir (S.reads c.args.store.now) c.in_ok-opened.opened.session.project.files (S.reads c.open.new.store) _ refl c.in_ok-opened.ensures.reads c.in_ok-opened.ensures.opens.found)
+    on_ok c.listed.result (with-log-all (log_use c.args.flags.no_log) c.args.flags.reading (S.content c.args.store.now) dir (S.reads c.args.store.now) c.in_ok-opened.opened.session.project.files (S.reads c.open.new.store) _ refl c.in_ok-opened.ensures.reads c.in_ok-opened.ensures.opens.found)
