@@ -1,5 +1,5 @@
 # complete.zsh SITE LINE FILE: what zsh makes of a line that begins with a command of SITE, when it completes the last word: a line for
-# each match, as it is put in. A shell in a terminal writes them to FILE. Run by examples_help.
+# each match, as it is put in. A shell in a terminal writes them to FILE. Run by examples_shells.py.
 zmodload zsh/zpty
 zpty shell zsh -f -i
 zpty -w shell "fpath=(${(q)1} \$fpath); autoload -U compinit; compinit -u -D; pick() { count=\$compstate[nmatches] compstate[insert]=\$at }"
