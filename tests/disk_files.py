@@ -95,7 +95,7 @@ ENTERS_BOTH = f"{OLD}subdir('real')\nsubdir('also')\n"
 
 
 def edit_by(name, has):
-    """Steps that edit a file by one of its names. The edit is taken back and done again by that name."""
+    """Steps that edit a file by one of its names. The edit is undone and redone by that name."""
     added = has(f"{X}executable('{name}', 'a.c')\n", LOGGED)
     return [
         *(does(f"target {name} add_target a.c --subdir {name}", ONE_DONE), added),

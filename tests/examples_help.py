@@ -1,4 +1,4 @@
-"""Examples of help, and what help, the manual page and the documents say of the same; what a terminal is told. Read by examples."""
+"""Compares help with its examples, the manual page and the documents, and checks what is printed on a terminal. Used by examples."""
 
 import os
 import re

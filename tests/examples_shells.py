@@ -1,4 +1,4 @@
-"""What completes words in a shell: behind each line, what may stand there. Read by examples."""
+"""Checks completions in shells: each line, and the words that may come next. Used by examples."""
 
 import os
 import re
