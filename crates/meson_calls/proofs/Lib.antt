@@ -55,7 +55,6 @@ pub mod NotesWith
 pub mod SetterReadings
 pub mod SettersKept
 mod AssignmentsKept
-mod NoSubdirs
 pub mod PlainFolders
 pub mod KeywordArguments
 pub mod AtMostOnce

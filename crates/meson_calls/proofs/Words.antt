@@ -96,7 +96,6 @@ pub use Rattle.meson_calls.specs.Setters.{any_sets_by_call, AreAssignments, AreK
 pub use Rattle.meson_calls.specs.Setters.{is_among, is_known, is_loop, is_setter, IsKept, NoCallSets, notes_asked, sets_by_call, setters_in}
 pub use Rattle.meson_calls.specs.Spelling.{AreNotesOf, AreNotesWith, HasNone, HasNoneOf, passed, setter_words, sought_words, whole}
 pub use Rattle.meson_calls.specs.Strings.{AreGood, IsGood, note_words, NotesGood, part_words, PartsGood}
-pub use Rattle.meson_calls.specs.Subdirs.{HasNoSubdir}
 pub use Rattle.meson_calls.specs.Walks.{assignments_kept, keeper_view, kept_so_far, KeptParts, notes_kept, notes_of_kept, part_view, read_at, read_in}
 pub use Rattle.meson_calls.specs.Walks.{reads_kept, reads_of_kept, setters_kept, with_part, with_parts}
 pub use Rattle.meson_calls.specs.declared.call.CallRef.{CallRef}

@@ -1,14 +1,11 @@
--- The files that a build file enters, by how the build files are read. Meson manual, Reference manual, `subdir`: the name of the folder is put after the folder
+-- The files that folders mean, by how the build files are read. Meson manual, Reference manual, `subdir`: the name of the folder is put after the folder
 -- of the file, with a slash between. It is not absolute, and no part of it is `..`. So a part that is empty or `.` means nothing.
 use Rattle.std.specs.Prelude.{◌≡◌, ℕ, ◌==◌, Bool, true, false, not, ◌||◌, List, [], ◌∷◌, filter, if◌then◌else◌, bytes_eq, codes, Option, Some, None, option_and_then}
-use Rattle.std.specs.List.{filter_map, join_with_byte}
-use Rattle.meson_syntax.specs.Tree.{File}
+use Rattle.std.specs.List.{join_with_byte}
 use Rattle.meson_calls.specs.declared.call.Reading.{Reading}
 use Rattle.meson_calls.specs.declared.call.Reading.TheVariants.{Written, Followed}
-use Rattle.meson_calls.specs.Calls.{Call, calls, calls_function, first_literal}
+use Rattle.meson_calls.specs.Calls.{Call, first_literal}
 use Rattle.meson_calls.specs.Folders.{file_in, is_plain_folder, slash_parts}
-use Rattle.meson_calls.specs.Notes.{Note, a_call, an_assignment, a_loop}
-use Rattle.meson_calls.specs.Project.{Placed}
 
 -- ---- folders written otherwise
 
@@ -29,28 +26,9 @@ abbrev pub folder_file : Reading → List ℕ → List ℕ → Option (List ℕ)
 folder_file Written name folder = file_in name folder
 folder_file Followed name folder = if is_absolute folder then None else file_in name (plainly folder)
 
--- ---- the files that are entered
-
-module _ {S : Type 0} (reading : Reading) (name : List ℕ) where
-  -- what a `subdir` in the file of this name means
-  abbrev pub meant_as : Call S → Option (List ℕ)
-  meant_as c = option_and_then (folder_file reading name) (first_literal c)
-
-  abbrev pub entered_as : Call S → Option (List ℕ)
-  entered_as c = if calls_function (codes "subdir") c then meant_as c else None
-
-  -- of each `subdir` with a literal, in order
-  abbrev pub subdirs_as : File S → List (List ℕ)
-  subdirs_as tree = filter_map (λ c. entered_as c.it) (calls (record { name = name; tree = tree } ∷ []))
-
-  -- the same of notes
-  abbrev pub note_enters : Note S → Option (List ℕ)
-  note_enters (a_call c) = entered_as c
-  note_enters (an_assignment x sets e) = None
-  note_enters (a_loop xs) = None
-
-  abbrev pub entered_names : List (Placed (Note S)) → List (List ℕ)
-  entered_names ns = filter_map (λ n. note_enters n.it) ns
+-- what a `subdir` with a literal means in the file of this name
+abbrev pub meant_as : {S : Type 0} → Reading → List ℕ → Call S → Option (List ℕ)
+meant_as reading name c = option_and_then (folder_file reading name) (first_literal c)
 
 -- ---- the laws
 

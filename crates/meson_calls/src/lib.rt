@@ -33,7 +33,6 @@ pub mod walk;
 pub mod walk_statements;
 
 pub use call::{BorrowedName, BorrowedPlace, CallName, CallRef, Reading, Role};
-pub use entering::{entered_by, subdirs};
 pub use load_fault::{LoadFault, Unloaded};
 pub use loading::MAX_FILES;
 pub use refusal::Refusal;

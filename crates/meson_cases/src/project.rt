@@ -4,9 +4,10 @@ use crate::command::role_of;
 use crate::files::Files;
 use meson_calls::folders::is_file_name;
 use meson_case_files::{Transcript, text_of};
-use meson_plan::{BorrowedName, CallRef, LoadFault, Project, Refusal, Role, Unloaded, subdirs};
+use meson_entering::{SourceFile, entered_by};
+use meson_plan::{BorrowedName, CallRef, LoadFault, Project, Reading, Refusal, Role, Unloaded};
 use meson_splice::FileSet;
-use meson_syntax::{Many, Path};
+use meson_syntax::{Many, ParseFault, Path, parse};
 use std::alloc::{AllocError, Global};
 
 /// Writes why the files cannot be loaded, and how many were handed back.
@@ -153,7 +154,7 @@ fn put_names(names: &[String], to: &mut Transcript) {
     }
 }
 
-/// The files that the file of a name enters.
+/// The files that the file of a name enters, as files are written.
 pub fn put_entered(files: &Files, alloc: Global, name: &str, to: &mut Transcript) {
     let Some(bytes) = files.bytes(name) else {
         return to.line("no file");
@@ -161,8 +162,17 @@ pub fn put_entered(files: &Files, alloc: Global, name: &str, to: &mut Transcript
     if !is_file_name(name.as_bytes()) {
         return to.line("no build file");
     }
-    match subdirs(alloc, name, bytes) {
+    let tree = match parse(alloc, bytes) {
+        Ok(tree) => tree,
+        Err(fault) => return to.show_line(&fault),
+    };
+    let file = SourceFile {
+        name,
+        source: bytes,
+        tree: &tree,
+    };
+    match entered_by(alloc, Reading::Written, file) {
         Ok(names) => put_names(names.as_slice(), to),
-        Err(fault) => to.show_line(&fault),
+        Err(_) => to.show_line(&ParseFault::OutOfMemory),
     }
 }

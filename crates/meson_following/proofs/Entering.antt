@@ -6,28 +6,30 @@ use Rattle.std.proofs.lemmas.Iterator.Adapters.{position_from-zero}
 use Rattle.meson_splice.specs.declared.file_set.File.{File}
 use Rattle.meson_splice.specs.Files.{position_of_file}
 use Rattle.meson_syntax.specs.declared.tree.Parsed.{Parsed}
-use Rattle.meson_calls.specs.Calls.{Call, calls_function, first_literal}
+use Rattle.meson_calls.specs.Calls.{Call, calls_function, first_argument, first_literal}
+use Rattle.meson_calls.specs.declared.call.CallRef.{CallRef}
 use Rattle.meson_calls.specs.declared.call.Reading.TheVariants.{Followed}
 use Rattle.meson_calls.specs.Entering.{folder_file, meant_as}
 use Rattle.meson_calls.specs.Loading.{AreParsed, loaded_from, named_trees, project, views}
-use Rattle.meson_calls.specs.Project.{Project}
+use Rattle.meson_calls.specs.Project.{BuildFile, Project, placed}
 use Rattle.meson_following.specs.declared.effects.Effect.TheVariants.{MaySet, Sets, Unsets}
-use Rattle.meson_following.specs.Effects.{by_fit, effect_of, entering, number_of}
+use Rattle.meson_following.specs.Effects.{by_fit, effect_of, entering, entering_by, number_of}
 use Rattle.meson_following.specs.Names.{fit, named_by}
 
-module _ {S : Type 0} (p : Project S) (x name : List ℕ) (c : Call S) where
-  pub sets_chosen : calls_function (codes "set_variable") c ≡ true → by_fit Sets (fit x (named_by c)) ≡ effect_of p x name c
+module _ {S : Type 0} (p : Project S) (x : List ℕ) (f : BuildFile S) (q : CallRef) (c : Call S) where
+  pub sets_chosen : calls_function (codes "set_variable") c ≡ true → by_fit Sets (fit x (named_by c)) ≡ effect_of p x f (placed q c)
   sets_chosen is = search rules
 
-  pub unsets_chosen : calls_function (codes "set_variable") c ≡ false → calls_function (codes "unset_variable") c ≡ true → by_fit Unsets (fit x (named_by c)) ≡ effect_of p x name c
+  pub unsets_chosen : calls_function (codes "set_variable") c ≡ false → calls_function (codes "unset_variable") c ≡ true → by_fit Unsets (fit x (named_by c)) ≡ effect_of p x f (placed q c)
   unsets_chosen set is = search rules
 
   pub enters_chosen : calls_function (codes "set_variable") c ≡ false → calls_function (codes "unset_variable") c ≡ false → calls_function (codes "error") c ≡ false
-      → calls_function (codes "subdir_done") c ≡ false → calls_function (codes "subdir") c ≡ true → entering c (option_and_then (number_of p) (meant_as Followed name c)) ≡ effect_of p x name c
+      → calls_function (codes "subdir_done") c ≡ false → calls_function (codes "subdir") c ≡ true → entering_by p f (placed q c) (first_argument c) ≡ effect_of p x f (placed q c)
   enters_chosen set unset stops leaves is = search rules
 
-  -- ---- of `subdir`
+-- ---- of `subdir`
 
+module _ {S : Type 0} (p : Project S) (name : List ℕ) (c : Call S) where
   pub no_literal : first_literal c ≡ None → MaySet ≡ entering c (option_and_then (number_of p) (meant_as Followed name c))
   no_literal is = sym (ap (λ o. entering c (option_and_then (number_of p) (option_and_then (folder_file Followed name) o))) is)
 

@@ -8,6 +8,7 @@ use Rattle.meson_splice.specs.declared.file_set.File.{File}
 use Rattle.meson_splice.specs.Files.{bytes_at, position_of_file}
 use Rattle.meson_syntax.specs.declared.tree.Parsed.{Parsed}
 use Rattle.meson_syntax.specs.Grammar.{block_words, file_words}
+use Rattle.meson_syntax.specs.Reads.{IsSpanned}
 use Rattle.meson_syntax.specs.Tree.{erase}
 use Rattle.meson_syntax.specs.View.{block_view, view}
 use Rattle.meson_syntax.proofs.parsing.FileErased.{file-words-erased}
@@ -21,7 +22,7 @@ use Rattle.meson_calls.proofs.Loads.{as_many}
 use Rattle.meson_calls.proofs.Standing.{nth_past, nth_there}
 use Rattle.meson_calls.proofs.WordCounts.{file_few}
 use Rattle.meson_following.specs.declared.walk.Question.{Question}
-use Rattle.meson_following.specs.Flows.{flow_block, flow_found, flow_from, flow_project, flow_tree, going_on}
+use Rattle.meson_following.specs.Flows.{Flow, flow_block, flow_found, flow_from, flow_project, flow_tree, going_on}
 use Rattle.meson_following.specs.Effects.{effect_of}
 use Rattle.meson_following.specs.Makers.{Known, touched}
 use Rattle.meson_following.specs.Walks.{AreRead, file_flow, project_of}
@@ -64,7 +65,7 @@ module _ (q : Question) where
   pub past_files : (left n : ℕ) (k : Known Span) → length q.trees.now ≤ n → going_on (touched k) ≡ file_flow q left n k
   past_files zero n k past = refl
   past_files (suc left) n k past =
-      sym (ap (λ o. flow_found (λ f. flow_tree q.variable.now (effect_of (project_of q) q.variable.now f.name) (file_flow q left) n f.tree) o k) (nth_past q.files.now q.trees.now n past))
+      sym (ap (λ o. flow_found (λ f. flow_tree q.variable.now (effect_of (project_of q) q.variable.now f) (file_flow q left) n f.tree) o k) (nth_past q.files.now q.trees.now n past))
 
   pub within_files : (n : ℕ) → n < length q.trees.now → IsProject (loaded_from q.files.now q.trees.now) → n < length q.files.now
   within_files n lt is_project =
@@ -81,16 +82,19 @@ module _ (q : Question) where
     many : length q.trees.now ≡ length q.files.now
     many = as_many q.files.now q.trees.now is_project.parsed
 
-    there : nth_file (project_of q) n ≡ Some (record { name = name_of_file n q.files.now; tree = view bytes tree })
+    abbrev the_file : BuildFile Span
+    the_file = record { name = name_of_file n q.files.now; tree = view bytes tree }
+
+    there : nth_file (project_of q) n ≡ Some the_file
     there = nth_there q.files.now q.trees.now n d many lt
 
     pub file_is : (left : ℕ) (k : Known Span)
-        → flow_tree q.variable.now (effect_of (project_of q) q.variable.now (name_of_file n q.files.now)) (file_flow q left) n (view bytes tree) k ≡ file_flow q (suc left) n k
+        → flow_tree q.variable.now (effect_of (project_of q) q.variable.now the_file) (file_flow q left) n (view bytes tree) k ≡ file_flow q (suc left) n k
     file_is left k =
-        sym (ap (λ o. flow_found (λ f. flow_tree q.variable.now (effect_of (project_of q) q.variable.now f.name) (file_flow q left) n f.tree) o k) there)
+        sym (ap (λ o. flow_found (λ f. flow_tree q.variable.now (effect_of (project_of q) q.variable.now f) (file_flow q left) n f.tree) o k) there)
 
     pub file_within : length (file_words (view bytes tree)) ≤ all_words (project_of q)
-    file_within = words_among (project_of q) n (record { name = name_of_file n q.files.now; tree = view bytes tree }) there
+    file_within = words_among (project_of q) n the_file there
 
     pub file_read : AreRead (file_words (view bytes tree))
     file_read =
@@ -115,14 +119,26 @@ module _ (q : Question) where
     pub block_within : (b : List ℕ) (t : Parsed) → b ≡ bytes → t ≡ tree → length (block_words (block_view b t.block)) ≤ all_words (project_of q)
     block_within b t same is = block_part b t same is (λ ws. length ws ≤ all_words (project_of q)) file_within
 
+    -- the same of the file
+    abbrev file_by : List ℕ → List ℕ → Parsed → BuildFile Span
+    file_by name b t = record { name = name; tree = view b t }
+
+    abbrev flow_by : ℕ → BuildFile Span → List ℕ → List ℕ → Parsed → Known Span → Flow Span
+    flow_by left f path b t = flow_block q.variable.now (effect_of (project_of q) q.variable.now f) (file_flow q left) (place n path) (block_view b t.block)
+
     pub file_walked : (left : ℕ) (b : List ℕ) (t : Parsed) (name path : List ℕ) (k : Known Span) → 0 < left → b ≡ bytes → t ≡ tree → name ≡ name_of_file n q.files.now → path ≡ []
-        → flow_block q.variable.now (effect_of (project_of q) q.variable.now name) (file_flow q (left - 1)) (place n path) (block_view b t.block) k ≡ file_flow q left n k
+        → flow_by (left - 1) (file_by name b t) path b t k ≡ file_flow q left n k
     file_walked zero b t name path k some same is named empty = absurd (omega arith)
     file_walked (suc left) b t name path k some same is named empty =
         let one : suc left - 1 ≡ left = omega arith in
-        ap (λ m. flow_block q.variable.now (effect_of (project_of q) q.variable.now name) (file_flow q m) (place n path) (block_view b t.block) k) one
-        ∙ ap (λ x. flow_block q.variable.now (effect_of (project_of q) q.variable.now x) (file_flow q left) (place n path) (block_view b t.block) k) named
-        ∙ ap (λ x. flow_block q.variable.now (effect_of (project_of q) q.variable.now (name_of_file n q.files.now)) (file_flow q left) (place n x) (block_view b t.block) k) empty
-        ∙ ap (λ x. flow_block q.variable.now (effect_of (project_of q) q.variable.now (name_of_file n q.files.now)) (file_flow q left) (place n []) (block_view x t.block) k) same
-        ∙ ap (λ u. flow_block q.variable.now (effect_of (project_of q) q.variable.now (name_of_file n q.files.now)) (file_flow q left) (place n []) (block_view bytes u.block) k) is
+        ap (λ m. flow_by m (file_by name b t) path b t k) one
+        ∙ ap (λ x. flow_by left (file_by x b t) path b t k) named
+        ∙ ap (λ x. flow_by left (file_by (name_of_file n q.files.now) b t) x b t k) empty
+        ∙ ap (λ x. flow_by left (file_by (name_of_file n q.files.now) x t) [] x t k) same
+        ∙ ap (λ u. flow_by left (file_by (name_of_file n q.files.now) bytes u) [] bytes u k) is
         ∙ file_is left k
+
+    -- it is what its bytes are read as
+    pub spanned_by : (b : List ℕ) (t : Parsed) → b ≡ bytes → t ≡ tree → IsSpanned b (view b t)
+    spanned_by b t same is =
+        subst (λ x. IsSpanned x (view x t)) (sym same) (subst (λ u. IsSpanned bytes (view bytes u)) (sym is) (spanned_at q.files.now q.trees.now n d lt is_project.parsed))

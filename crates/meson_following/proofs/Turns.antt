@@ -21,7 +21,7 @@ use Rattle.meson_following.specs.CodeFlows.{chosen_view, flow_view}
 use Rattle.meson_following.specs.CodeMakers.{known_view}
 use Rattle.meson_following.specs.Flows.{Choice, Flow, around, both_flow, either_flow, flow_statements, going_on, known_if, looped, no_branch, with_block, with_condition}
 use Rattle.meson_following.specs.Makers.{Known, joined}
-use Rattle.meson_following.specs.Walks.{Chooses, Walks, asking, block_flow, branch_chosen, branches_chosen, call_effect, expression_flow, file_flow, found_view, here, loop_flow, met_unless, otherwise_flow, selection_flow, statement_flow, turn_flow}
+use Rattle.meson_following.specs.Walks.{Chooses, Walks, asking, block_flow, branch_chosen, branches_chosen, call_effect, each_flow, entered_flow, expression_flow, file_flow, found_view, here, loop_flow, met_unless, otherwise_flow, selection_flow, statement_flow, turn_flow}
 use Rattle.meson_following.proofs.ReadParts.{block_is}
 use Rattle.meson_following.proofs.Walked.{block_walked, both_walked, condition_walked, either_walked}
 
@@ -45,6 +45,12 @@ module _ (w : Walk) where
       pub chooses : Chooses w start now chosen meant
       pub rest : branches_flow (here w start) (2 * i) (drop i branches) meant ≡ branches_flow (here w start) 0 branches (no_branch k)
 
+    -- the same of files that may be entered
+    pub record EachTurn (flow : code.Flow) (k : Known Span) (files : List ℕ) (i : ℕ) : Type 0 where
+      pub meant : Flow Span
+      pub walks : Walks w start now flow meant
+      pub rest : each_flow w (drop i files) meant ≡ each_flow w files (going_on k)
+
 module _ (w : Walk) (start middle now : Trail) where
   -- ---- a block
 
@@ -63,6 +69,20 @@ module _ (w : Walk) (start middle now : Trail) where
           meant = both_flow turn.meant stmt_flow;
           walks = both_walked w start middle now flow next after turn.meant stmt_flow turn.walks second joins;
           rest = sym (at_drop_more (λ ss. statements_flow w (here w start) i ss turn.meant) stmts i d lt) ∙ turn.rest;
+        }
+
+  -- ---- files that may be entered
+
+  module _ (flow next after : code.Flow) (k : Known Span) (files : List ℕ) (i d : ℕ) (turn : EachTurn w start middle flow k files i) where
+    pub each_turn : i < length files → Walks w middle now next (entered_flow w (get_or files i d) true (known_view flow.now))
+        → flow_view after ≡ both_flow (flow_view flow) (flow_view next) → EachTurn w start now after k files (i + 1)
+    each_turn lt walked joins =
+        let meant = entered_flow w (get_or files i d) true turn.meant.now in
+        let second = subst (λ m. Walks w middle now next (entered_flow w (get_or files i d) true m)) turn.walks.flows.now walked in
+        record {
+          meant = both_flow turn.meant meant;
+          walks = both_walked w start middle now flow next after turn.meant meant turn.walks second joins;
+          rest = sym (at_drop_more (λ ns. each_flow w ns turn.meant) files i d lt) ∙ turn.rest;
         }
 
   -- ---- a selection
@@ -92,6 +112,10 @@ module _ (w : Walk) (start now : Trail) where
       ∙ ap (λ ss. statements_flow w (here w start) 0 ss (going_on k)) same
       ∙ ap (λ c. block_flow w (here w start) c k) (sym (block_is w.source.now b)))
       turn.walks
+
+  pub each_ended : (flow : code.Flow) (k : Known Span) (files : List ℕ) (i : ℕ) → length files ≤ i → EachTurn w start now flow k files i
+      → Walks w start now flow (each_flow w files (going_on k))
+  each_ended flow k files i past turn = subst (Walks w start now flow) (sym (at_drop_all (λ ns. each_flow w ns turn.meant) files i past) ∙ turn.rest) turn.walks
 
   -- what is meant by all conditions and their blocks
   pub selection_ended : (chosen : code_chosen.Chosen) (k : Known Span) (branches : List Branch) (i : ℕ) → length branches ≤ i

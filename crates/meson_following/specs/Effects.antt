@@ -1,15 +1,16 @@
 -- What calls do to a variable. Meson manual, Reference manual: besides assignments and `foreach`, only `set_variable`, `unset_variable` and the files that
 -- `subdir` enters set variables. `subdir_done` leaves the file, and `error` ends the evaluation.
-use Rattle.std.specs.Prelude.{ℕ, nat_lt, Bool, ◌&&◌, ◌||◌, List, [], ◌∷◌, ◌++◌, length, position, codes, if◌then◌else◌, bytes_eq, Option, Some, None, option_and_then}
-use Rattle.std.specs.List.{list_any}
+use Rattle.std.specs.Prelude.{ℕ, nat_lt, Bool, true, false, ◌&&◌, ◌||◌, List, [], ◌∷◌, ◌++◌, length, position, codes, if◌then◌else◌, bytes_eq, Option, Some, None, option_and_then}
+use Rattle.std.specs.List.{filter_map, list_any}
 use Rattle.meson_syntax.specs.Tree.{Expression, identifier, boolean, integer, string, paren, array, dictionary, call, unary, row, postfix, conditional, Operands, no_operands, operand, Tail, method, index, Tails, no_tails, tail, Listing, listing, Argument, plain, named, pair, Arguments, no_arguments, argument}
-use Rattle.meson_calls.specs.Project.{Project}
-use Rattle.meson_calls.specs.Calls.{Call, calls_function, keyword}
+use Rattle.meson_calls.specs.Project.{BuildFile, Placed, Project}
+use Rattle.meson_calls.specs.Calls.{Call, calls_function, first_argument, keyword}
 use Rattle.meson_calls.specs.Roles.{one_of}
 use Rattle.meson_calls.specs.declared.call.Reading.TheVariants.{Followed}
 use Rattle.meson_calls.specs.Entering.{meant_as}
+use Rattle.meson_entering.specs.Entering.{files_meant}
 use Rattle.meson_following.specs.declared.effects.Effect.{Effect}
-use Rattle.meson_following.specs.declared.effects.Effect.TheVariants.{Nothing, Sets, MaySet, Unsets, Stops, Leaves, Enters}
+use Rattle.meson_following.specs.declared.effects.Effect.TheVariants.{Nothing, Sets, MaySet, Unsets, Stops, Leaves, Enters, MayEnter}
 use Rattle.meson_following.specs.declared.names.Fit.{Fit}
 use Rattle.meson_following.specs.declared.names.Fit.TheVariants.{Not, Perhaps, Surely}
 use Rattle.meson_following.specs.Names.{fit, fits, named_by}
@@ -92,12 +93,32 @@ abbrev pub entering : {S : Type 0} → Call S → Option ℕ → Effect
 entering c None = MaySet
 entering c (Some n) = Enters n (has_condition c)
 
--- of a call in the file of this name
-abbrev pub effect_of : {S : Type 0} → Project S → List ℕ → List ℕ → Call S → Effect
-effect_of p x name c =
-    if calls_function (codes "set_variable") c then by_fit Sets (fit x (named_by c))
-    else (if calls_function (codes "unset_variable") c then by_fit Unsets (fit x (named_by c))
-    else (if calls_function (codes "error") c then Stops
-    else (if calls_function (codes "subdir_done") c then Leaves
-    else (if calls_function (codes "subdir") c then entering c (option_and_then (number_of p) (meant_as Followed name c))
+abbrev pub is_name : {S : Type 0} → Expression S → Bool
+is_name (identifier s x) = true
+is_name e = false
+
+-- the numbers of the files of these names, as far as there are such files
+abbrev pub numbers_of : {S : Type 0} → Project S → List (List ℕ) → List ℕ
+numbers_of p names = filter_map (number_of p) names
+
+-- of a `subdir` whose first argument is no name
+abbrev pub entering_literal : {S : Type 0} → Project S → BuildFile S → Call S → Effect
+entering_literal p f c = entering c (option_and_then (number_of p) (meant_as Followed f.name c))
+
+-- of one whose first argument is a name: the files that are known of a loop around it, and others
+abbrev pub entering_each : {S : Type 0} → Project S → BuildFile S → Placed (Call S) → Effect
+entering_each p f c = MayEnter (numbers_of p (files_meant Followed f c.place.path.steps c.it))
+
+abbrev pub entering_by : {S : Type 0} → Project S → BuildFile S → Placed (Call S) → Option (Expression S) → Effect
+entering_by p f c None = entering_literal p f c.it
+entering_by p f c (Some e) = if is_name e then entering_each p f c else entering_literal p f c.it
+
+-- of a call at a place of this file
+abbrev pub effect_of : {S : Type 0} → Project S → List ℕ → BuildFile S → Placed (Call S) → Effect
+effect_of p x f c =
+    if calls_function (codes "set_variable") c.it then by_fit Sets (fit x (named_by c.it))
+    else (if calls_function (codes "unset_variable") c.it then by_fit Unsets (fit x (named_by c.it))
+    else (if calls_function (codes "error") c.it then Stops
+    else (if calls_function (codes "subdir_done") c.it then Leaves
+    else (if calls_function (codes "subdir") c.it then entering_by p f c (first_argument c.it)
     else Nothing))))

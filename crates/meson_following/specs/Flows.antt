@@ -12,7 +12,7 @@ use Rattle.meson_calls.specs.Notes.{is_set}
 use Rattle.meson_calls.specs.Parts.{branches_child_count}
 use Rattle.meson_variables.specs.Variables.{one_of_names}
 use Rattle.meson_following.specs.declared.effects.Effect.{Effect}
-use Rattle.meson_following.specs.declared.effects.Effect.TheVariants.{Nothing, Sets, MaySet, Unsets, Stops, Leaves, Enters}
+use Rattle.meson_following.specs.declared.effects.Effect.TheVariants.{Nothing, Sets, MaySet, Unsets, Stops, Leaves, Enters, MayEnter}
 use Rattle.meson_following.specs.Effects.{any_leaves_file, any_may_set, calls_of, calls_of_listing, effect_of, number_of}
 use Rattle.meson_following.specs.Makers.{Known, Maker, assigned, joined, made_unknown, touched}
 
@@ -116,6 +116,11 @@ left_file k = record { now = None; turned = None; ended = k; leaves = true; arri
 abbrev pub left_turn : {S : Type 0} → Known S → Flow S
 left_turn k = record { now = None; turned = k; ended = None; leaves = false; arrivals = [] }
 
+-- each of these files may be entered, one after another
+abbrev pub flow_each : {S : Type 0} → (ℕ → Known S → Flow S) → List ℕ → Flow S → Flow S
+flow_each enter [] f = f
+flow_each enter (n ∷ ns) f = flow_each enter ns (then_flow f (λ k. entered k (enter n k)))
+
 abbrev pub flow_effect : {S : Type 0} → (ℕ → Known S → Flow S) → Effect → Known S → Flow S
 flow_effect enter Nothing k = going_on k
 flow_effect enter Sets k = going_on (Some made_unknown)
@@ -124,6 +129,7 @@ flow_effect enter Unsets k = going_on None
 flow_effect enter Stops k = going_on None
 flow_effect enter Leaves k = left_file k
 flow_effect enter (Enters n condition) k = entered (known_if condition k) (enter n k)
+flow_effect enter (MayEnter ns) k = flow_each enter ns (going_on (touched k))
 
 -- ---- statements of a file
 
@@ -168,11 +174,11 @@ with_condition f g =
 abbrev pub with_block : {S : Type 0} → Choice S → Flow S → Choice S
 with_block c g = record { taken = either_flow c.taken g; left = c.left }
 
-module _ {S : Type 0} (x : List ℕ) (effect : Call S → Effect) (enter : ℕ → Known S → Flow S) where
+module _ {S : Type 0} (x : List ℕ) (effect : Placed (Call S) → Effect) (enter : ℕ → Known S → Flow S) where
   -- an expression that is a statement
   abbrev pub flow_call : CallRef → Expression S → Option (Call S) → Known S → Flow S
   flow_call q e None k = flow_expression x q e k
-  flow_call q e (Some c) k = then_flow (flow_calls x (calls_of_listing c.arguments) (placed q e) k) (flow_effect enter (effect c))
+  flow_call q e (Some c) k = then_flow (flow_calls x (calls_of_listing c.arguments) (placed q e) k) (flow_effect enter (effect (placed q c)))
 
   abbrev mutual
     pub flow_statement : CallRef → Statement S → Known S → Flow S
@@ -207,7 +213,7 @@ module _ {S : Type 0} (x : List ℕ) (effect : Call S → Effect) (enter : ℕ �
 
 -- ---- files
 
-abbrev pub flow_tree : {S : Type 0} → List ℕ → (Call S → Effect) → (ℕ → Known S → Flow S) → ℕ → File S → Known S → Flow S
+abbrev pub flow_tree : {S : Type 0} → List ℕ → (Placed (Call S) → Effect) → (ℕ → Known S → Flow S) → ℕ → File S → Known S → Flow S
 flow_tree x effect enter n (file s b) k = flow_block x effect enter (place n []) b k
 
 abbrev pub flow_found : {S : Type 0} → (BuildFile S → Known S → Flow S) → Option (BuildFile S) → Known S → Flow S
@@ -218,7 +224,7 @@ flow_found flow (Some f) k = flow f k
 -- enough.
 abbrev pub flow_file : {S : Type 0} → Project S → List ℕ → ℕ → ℕ → Known S → Flow S
 flow_file p x zero n k = going_on (touched k)
-flow_file p x (suc left) n k = flow_found (λ f. flow_tree x (effect_of p x f.name) (flow_file p x left) n f.tree) (nth_file p n) k
+flow_file p x (suc left) n k = flow_found (λ f. flow_tree x (effect_of p x f) (flow_file p x left) n f.tree) (nth_file p n) k
 
 -- the whole project, from its root file on
 abbrev pub flow_from : {S : Type 0} → Project S → List ℕ → Option ℕ → Flow S

@@ -5,7 +5,7 @@ use Rattle.meson_calls.specs.declared.call.CallRef.{CallRef}
 use Rattle.meson_calls.specs.Project.{Project, place}
 use Rattle.meson_following.specs.Flows.{known_at}
 use Rattle.meson_following.specs.Makers.{Made, Maker}
-use Rattle.meson_following.specs.Samples.{adds, alone, beside_s, calling, does, each, either_way, elements, enters, enters_if_found, holding, set_variable, sets, sets_to, src, sum_of, target, text, variable, where_x}
+use Rattle.meson_following.specs.Samples.{adds, alone, beside_s, calling, does, each, either_way, elements, enters, enters_d, enters_each, enters_if_found, holding, holds_s, set_variable, sets, sets_to, src, sum_of, target, text, variable, where_x}
 
 -- ---- what is known
 
@@ -35,6 +35,10 @@ perhaps_in n path = (place n path, false)
 -- it is made by these, and whether by something that is not known too
 abbrev Tells : Project Nowhere → List ℕ → List Told → Bool → Type 0
 Tells p path makers unknown = option_map all_told (known_at p src (place 0 path)) ≡ Some (makers, unknown)
+
+-- in the second file
+abbrev TellsInside : Project Nowhere → List ℕ → List Told → Bool → Type 0
+TellsInside p path makers unknown = option_map all_told (known_at p src (place 1 path)) ≡ Some (makers, unknown)
 
 -- to read it there is an error
 abbrev Fails : Project Nowhere → List ℕ → Type 0
@@ -143,3 +147,19 @@ Entering =
     -- a folder that is not known, and one of which there is no file
     × Tells (alone (sets (codes "a.c") ∷ does (codes "subdir") (variable (codes "k") ∷ []) ∷ target ∷ [])) (read_by 2) (perhaps (0 ∷ 0 ∷ []) ∷ []) true
     × Tells (alone (sets (codes "a.c") ∷ enters (codes "s") ∷ target ∷ [])) (read_by 2) (perhaps (0 ∷ 0 ∷ []) ∷ []) true
+
+-- ---- files that are entered in a loop
+
+abbrev pub EnteringEach : Type 0
+EnteringEach =
+    -- set in the file that reads it
+    TellsInside (beside_s (enters_each ∷ []) (sets (codes "a.c") ∷ target ∷ [])) (read_by 1) (surely_in 1 (0 ∷ 0 ∷ []) ∷ []) false
+    -- set before the loop: another file may be entered first
+    × TellsInside (beside_s (sets (codes "a.c") ∷ enters_each ∷ []) (target ∷ [])) (read_by 0) (perhaps (0 ∷ 0 ∷ []) ∷ []) true
+    -- read after the loop
+    × Tells (beside_s (sets (codes "a.c") ∷ enters_each ∷ target ∷ []) (sets (codes "b.c") ∷ [])) (read_by 2)
+    (perhaps (0 ∷ 0 ∷ []) ∷ perhaps_in 1 (0 ∷ 0 ∷ []) ∷ []) true
+    -- of a list that a variable holds
+    × TellsInside (beside_s (holds_s ∷ each (codes "d") (enters_d ∷ []) ∷ []) (sets (codes "a.c") ∷ target ∷ [])) (read_by 1) (surely_in 1 (0 ∷ 0 ∷ []) ∷ []) false
+    -- of the name of no loop around it: no file is known
+    × Tells (beside_s (sets (codes "a.c") ∷ enters_d ∷ target ∷ []) (sets (codes "b.c") ∷ [])) (read_by 2) (perhaps (0 ∷ 0 ∷ []) ∷ []) true

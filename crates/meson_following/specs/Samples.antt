@@ -80,6 +80,10 @@ either_way ss ts = selection tt (branch (variable (codes "x")) (body ss) no_bran
 abbrev pub each : List ℕ → List S → S
 each x ss = iteration tt (bare_name x ∷ []) (variable (codes "xs")) (body ss)
 
+-- over these texts
+abbrev pub each_of : List ℕ → List (List ℕ) → List S → S
+each_of x texts ss = iteration tt (bare_name x ∷ []) (array (elements (map text texts))) (body ss)
+
 abbrev pub file_of : List ℕ → List S → BuildFile Nowhere
 file_of name ss = record { name = name; tree = file tt (body ss) }
 
@@ -99,6 +103,18 @@ set_variable name = does (codes "set_variable") (name ∷ holding (codes "z.c") 
 
 abbrev pub enters : List ℕ → S
 enters folder = does (codes "subdir") (text folder ∷ [])
+
+-- `subdir(d)`
+abbrev pub enters_d : S
+enters_d = does (codes "subdir") (variable (codes "d") ∷ [])
+
+-- `xs = ['s']`
+abbrev pub holds_s : S
+holds_s = assign tt (bare_name (codes "xs")) assigns.Set (holding (codes "s"))
+
+-- for the folders `s` and `t`, in a loop
+abbrev pub enters_each : S
+enters_each = each_of (codes "d") (codes "s" ∷ codes "t" ∷ []) (enters_d ∷ [])
 
 -- with a condition
 abbrev pub enters_if_found : S

@@ -3,13 +3,15 @@ use Rattle.std.specs.Prelude.{◌≡◌, ℕ, ◌+◌, ◌<◌, ◌^◌, Bool, L
 use Rattle.std.specs.List.{fold}
 use Rattle.meson_lex.specs.Significant.{Word}
 use Rattle.meson_lex.specs.declared.kinds.Span.{Span}
+use Rattle.meson_syntax.specs.Reads.{IsSpanned}
 use Rattle.meson_syntax.specs.Tree.{Block, Branches, Expression, Listing, Otherwise, Statement}
+use Rattle.meson_syntax.specs.View.{view}
 use Rattle.meson_calls.specs.declared.call.CallRef.{CallRef}
 use Rattle.meson_calls.specs.Calls.{Call, call_of}
 use Rattle.meson_calls.specs.Folders.{IsFileName}
 use Rattle.meson_calls.specs.Parts.{branches_child_count}
 use Rattle.meson_calls.specs.Loading.{IsProject, loaded_from, project}
-use Rattle.meson_calls.specs.Project.{Project, child, place, place_at, placed}
+use Rattle.meson_calls.specs.Project.{BuildFile, Placed, Project, child, place, place_at, placed}
 use Rattle.meson_calls.specs.Strings.{AreGood}
 use Rattle.meson_following.specs.declared.effects.Effect.{Effect}
 use Rattle.meson_following.specs.declared.flows.Chosen as code_chosen
@@ -22,7 +24,7 @@ use Rattle.meson_following.specs.declared.walk.Trail.{Trail}
 use Rattle.meson_following.specs.declared.walk.Walk.{Walk}
 use Rattle.meson_following.specs.CodeMakers.{known_view}
 use Rattle.meson_following.specs.Effects.{calls_of_listing, effect_of}
-use Rattle.meson_following.specs.Flows.{Arrival, Choice, Flow, all_branches, begun, flow_block, flow_branches, flow_call, flow_calls, flow_effect, flow_expression, flow_file, flow_loop, flow_otherwise, flow_project, flow_statement, met_at, no_branch, with_block, with_condition}
+use Rattle.meson_following.specs.Flows.{Arrival, Choice, Flow, all_branches, begun, entered, flow_block, flow_branches, flow_call, flow_calls, flow_each, flow_effect, flow_expression, flow_file, flow_loop, flow_otherwise, flow_project, flow_statement, known_if, met_at, no_branch, with_block, with_condition}
 use Rattle.meson_following.specs.Makers.{Known}
 use Rattle.meson_following.specs.Reads.{has_one_of, read_places}
 
@@ -73,6 +75,7 @@ answer q = met_among q nothing_found (flow_project (project_of q) q.variable.now
 pub record MayWalk (w : Walk) : Type 0 where
   pub whole : IsProject (loaded_from w.question.files.now w.question.trees.now)
   pub named : IsFileName w.name.now
+  pub spanned : IsSpanned w.source.now (view w.source.now w.tree.now)
 
 -- the words of a part of a file: its strings are of their kinds, and a number counts them
 pub record AreRead (words : List Word) : Type 0 where
@@ -85,7 +88,7 @@ here w t = place w.file t.path.items
 
 -- the same walk, which asks at the place or does not
 abbrev pub asking : Walk → (quiet : Bool) → Walk
-asking w quiet = record { question = w.question; file = w.file; name = w.name; source = w.source; left = w.left; quiet = quiet }
+asking w quiet = record { question = w.question; file = w.file; name = w.name; source = w.source; tree = w.tree; left = w.left; quiet = quiet }
 
 -- the walk is back where it began, and its flow is what was meant
 pub record Walks (w : Walk) (before after : Trail) (flow : code.Flow) (meant : Flow Span) : Type 0 where
@@ -103,8 +106,12 @@ abbrev pub file_flow : Question → ℕ → ℕ → Known Span → Flow Span
 file_flow q left n = flow_file (project_of q) q.variable.now left n
 
 module _ (w : Walk) where
-  abbrev pub call_effect : Call Span → Effect
-  call_effect = effect_of (project_of w.question) w.question.variable.now w.name.now
+  -- the file that is walked through
+  abbrev pub walked_file : BuildFile Span
+  walked_file = record { name = w.name.now; tree = view w.source.now w.tree.now }
+
+  abbrev pub call_effect : Placed (Call Span) → Effect
+  call_effect = effect_of (project_of w.question) w.question.variable.now walked_file
 
   abbrev pub expression_flow : CallRef → Expression Span → Known Span → Flow Span
   expression_flow = flow_expression w.question.variable.now
@@ -115,6 +122,14 @@ module _ (w : Walk) where
 
   abbrev pub effect_flow : Effect → Known Span → Flow Span
   effect_flow = flow_effect (file_flow w.question w.left)
+
+  -- through a file, which may be skipped under a condition
+  abbrev pub entered_flow : ℕ → (condition : Bool) → Known Span → Flow Span
+  entered_flow n condition k = entered (known_if condition k) (file_flow w.question w.left n k)
+
+  -- through files that may be entered, after others
+  abbrev pub each_flow : List ℕ → Flow Span → Flow Span
+  each_flow = flow_each (file_flow w.question w.left)
 
   abbrev pub evaluated_flow : CallRef → Expression Span → Known Span → Flow Span
   evaluated_flow q e = flow_call w.question.variable.now call_effect (file_flow w.question w.left) q e (call_of e)

@@ -16,11 +16,12 @@ ghost use Rattle.meson_following.specs.Effects.{calls_of, calls_of_argument, cal
 use crate::names::fit_of;
 use meson_calls::roles::text_of;
 use meson_lex::Span;
+use meson_splice::Many;
 use meson_syntax::{Arg, Expr, List, Operand, Tail};
 use std::alloc::{AllocError, Global};
 
 /// What a call that is a statement does to a variable.
-#[derive(Clone, Copy, Debug, PartialEq, Eq)]
+#[derive(Debug, Drop)]
 pub enum Effect {
     Nothing,
     /// Sets it to something that is not known.
@@ -34,6 +35,8 @@ pub enum Effect {
     Leaves,
     /// Enters the file of this number, perhaps under a condition.
     Enters { file: usize, condition: bool },
+    /// May enter each of the files of these numbers, and others that are not known.
+    MayEnter(Many<usize>),
 }
 
 /// What calls within an expression are searched for.

@@ -2,7 +2,7 @@
 
 ghost use Rattle.meson_following.specs.Infos.{Beginning, Either, Folders, Limit, Naming, Once, OneAfterAnother, Summing, Turning};
 ghost use Rattle.meson_following.specs.Laws.{LeftOutAreSeen};
-ghost use Rattle.meson_following.specs.Rows.{Branching, Entering, InTurn, Looping, Setting};
+ghost use Rattle.meson_following.specs.Rows.{Branching, Entering, EnteringEach, InTurn, Looping, Setting};
 
 /// What is known of a variable in some build files.
 pub fn rows()
@@ -11,6 +11,7 @@ pub fn rows()
     ensures looping { Looping }
     ensures setting { Setting }
     ensures entering { Entering }
+    ensures entering_each { EnteringEach }
 {}
 
 /// What the targets of some build files are made of.

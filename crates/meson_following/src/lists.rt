@@ -13,12 +13,12 @@ ghost use Rattle.meson_following.specs.Lists.{hides, is_list, mixes, seen_with, 
 
 use crate::follower::Follower;
 use crate::makers::{Made, Maker};
-use crate::names::are_plus;
 use meson_calls::call::BorrowedPlace;
 use meson_calls::roles::text_of;
 use meson_syntax::{Expr, Operand};
 use meson_variables::call_sources::MAX_FOLLOWED;
 use meson_variables::meeting::is_files;
+use meson_variables::sums::are_plus;
 use std::alloc::AllocError;
 
 /// A question whether expressions of a file are lists, which may go through this number of variables inside one another.

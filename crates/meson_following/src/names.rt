@@ -5,7 +5,6 @@ ghost use Rattle.meson_syntax.specs.Grammar.{expression_words, listing_words, op
 ghost use Rattle.meson_syntax.specs.Tree.{operands_of, tails_of};
 ghost use Rattle.meson_syntax.specs.View.{expr_view, list_view, operands_view, tail_view, tails_view};
 ghost use Rattle.meson_syntax.specs.declared.operator.Bracket.TheVariants as bracket;
-ghost use Rattle.meson_variables.specs.Expansion.{are_plus, is_plus};
 ghost use Rattle.meson_calls.specs.Calls.{literal_of};
 ghost use Rattle.meson_calls.specs.ChosenNotes.{Source, call_with};
 ghost use Rattle.meson_calls.specs.GoodLists.{GoodRow};
@@ -14,7 +13,8 @@ ghost use Rattle.meson_following.specs.Names.{after_placeholders, are_format, be
 
 use meson_calls::literals::literal;
 use meson_calls::roles::{first_argument, text_of};
-use meson_syntax::{Expr, List, Operand, Operator, Tail};
+use meson_syntax::{Expr, List, Operand, Tail};
+use meson_variables::sums::are_plus;
 use std::alloc::{AllocError, Global};
 
 /// Whether a variable is the one that a call names.
@@ -96,24 +96,6 @@ fn text_or_empty(alloc: Global, source: &[u8], expr: &Expr) -> Result<String, Al
         Some(text) => Ok(text),
         None => Ok(String::new(alloc)),
     }
-}
-
-fn is_plus(operand: &Operand) -> bool
-    ensures { result ≡ is_plus operand.now.operator }
-{
-    matches!(operand.operator, Operator::Plus)
-}
-
-/// Whether all operators of a row are `+`.
-pub fn are_plus(rest: &[Operand]) -> bool
-    ensures { (source : Source) → result ≡ are_plus (operands_of (operands_view source rest.now)) }
-{
-    for i in 0..rest.len() {
-        if !is_plus(&rest[i]) {
-            return false;
-        }
-    }
-    true
 }
 
 /// The last operand of a row.

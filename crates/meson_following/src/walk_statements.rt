@@ -13,8 +13,8 @@ ghost use Rattle.meson_calls.specs.Project.{child};
 ghost use Rattle.meson_calls.specs.inside.Walks.{else_view};
 ghost use Rattle.meson_variables.specs.Variables.{one_of_names};
 ghost use Rattle.meson_following.specs.CodeMakers.{known_view};
-ghost use Rattle.meson_following.specs.Flows.{Choice};
-ghost use Rattle.meson_following.specs.Walks.{AreRead, Chooses, FlowsAs, MayWalk, Walks, answer, asking, met_unless, block_flow, branch_chosen, effect_flow, evaluated_flow, file_flow, found_view, here, loop_flow, selection_flow, statement_flow, turn_flow};
+ghost use Rattle.meson_following.specs.Flows.{Choice, going_on};
+ghost use Rattle.meson_following.specs.Walks.{AreRead, Chooses, FlowsAs, MayWalk, Walks, answer, asking, met_unless, block_flow, branch_chosen, each_flow, effect_flow, entered_flow, evaluated_flow, file_flow, found_view, here, loop_flow, selection_flow, statement_flow, turn_flow};
 
 use crate::effects::Effect;
 use crate::flows::{Chosen, Flow};
@@ -59,11 +59,13 @@ impl<'t> Question<'t> {
         if left == 0 || file >= self.trees.len() {
             return Ok(Flow::going_on(touch(self.alloc, now)?));
         }
+        let tree = &self.trees[file];
         let walk = Walk {
             question: *self,
             file,
             name: self.files.name(file),
             source: self.files.bytes(file),
+            tree,
             left: left - 1,
             quiet,
         };
@@ -71,7 +73,7 @@ impl<'t> Question<'t> {
             path: Vec::new(self.alloc),
             found: found.take(self.alloc),
         };
-        let flow = walk.in_block(&self.trees[file].block, now, &mut trail)?;
+        let flow = walk.in_block(&tree.block, now, &mut trail)?;
         *found = trail.found.take(self.alloc);
         Ok(flow)
     }
@@ -198,7 +200,7 @@ impl<'t> Walk<'t> {
                 ..
             } => {
                 let mut flow = self.in_arguments(value, arguments, now, trail)?;
-                let effect = self.effect(*name, arguments)?;
+                let effect = self.effect(trail.path.as_slice(), *name, arguments)?;
                 let now = flow.now.take();
                 let next = self.after_effect(effect, now, trail)?;
                 Flow::then(self.question.alloc, flow, next)
@@ -226,18 +228,53 @@ impl<'t> Walk<'t> {
             Effect::Unsets => Ok(Flow::going_on(None)),
             Effect::Stops => Ok(Flow::going_on(None)),
             Effect::Leaves => Ok(Flow::left_file(now)),
-            Effect::Enters { file, condition } => {
-                let skipped = if condition {
-                    copy_known(alloc, &now)?
-                } else {
-                    None
-                };
-                let flow = self
-                    .question
-                    .in_file(self.left, self.quiet, file, now, &mut trail.found)?;
-                Flow::entered(alloc, skipped, flow)
-            }
+            Effect::Enters { file, condition } => self.in_entered(file, condition, now, trail),
+            Effect::MayEnter(files) => self.in_each(files.get(), touch(alloc, now)?, trail),
         }
+    }
+
+    /// The flow through files that may be entered, one after another.
+    #[cycle(evaluation)]
+    fn in_each(
+        &self,
+        files: &[usize],
+        now: Known<'t>,
+        trail: &mut Trail<'t>,
+    ) -> Result<Flow<'t>, AllocError>
+        requires { MayWalk self.now }
+        ensures { IfOk result (λ f. Walks self.now trail.old trail.new f (each_flow self.now files.now (going_on (known_view now.entry)))) }
+    {
+        let mut flow = Flow::going_on(now);
+        for i in 0..files.len() {
+            let now = flow.now.take();
+            let next = self.in_entered(files[i], true, now, trail)?;
+            flow = Flow::then(self.question.alloc, flow, next)?;
+        }
+        Ok(flow)
+    }
+
+    /// The flow through a file, which may be skipped under a condition.
+    #[cycle(evaluation)]
+    fn in_entered(
+        &self,
+        file: usize,
+        condition: bool,
+        now: Known<'t>,
+        trail: &mut Trail<'t>,
+    ) -> Result<Flow<'t>, AllocError>
+        requires { MayWalk self.now }
+        ensures { IfOk result (λ f. Walks self.now trail.old trail.new f (entered_flow self.now file condition (known_view now.entry))) }
+    {
+        let alloc = self.question.alloc;
+        let skipped = if condition {
+            copy_known(alloc, &now)?
+        } else {
+            None
+        };
+        let flow = self
+            .question
+            .in_file(self.left, self.quiet, file, now, &mut trail.found)?;
+        Flow::entered(alloc, skipped, flow)
     }
 
     /// The flow through a loop.
@@ -334,6 +371,7 @@ impl<'t> Walk<'t> {
             file: self.file,
             name: self.name,
             source: self.source,
+            tree: self.tree,
             left: self.left,
             quiet,
         };

@@ -1,4 +1,3 @@
-pub mod EnteredNames
 pub mod EnteredFiles
 pub mod Stopping
 pub mod Places

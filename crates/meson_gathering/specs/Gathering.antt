@@ -1,4 +1,5 @@
--- The files of a project as a store has them: the root file, and those that `subdir` calls enter.
+-- The files of a project as a store has them: the root file, and those that `subdir` calls may enter. Where files are followed, a call in a loop may enter
+-- several.
 use Rattle.std.specs.Prelude.{◌≡◌, ◌≢◌, ℕ, nat_lt, List, [], ◌∷◌, ◌++◌, length, if◌then◌else◌, Option, Some, None, option_and_then, option_map}
 use Rattle.std.specs.Borrow.{Bor}
 use Rattle.std.specs.FinMap.{get}
@@ -10,9 +11,9 @@ use Rattle.meson_lex.specs.declared.kinds.Span.{Span}
 use Rattle.meson_syntax.specs.Reads.{IsSpanned, MayNotRead}
 use Rattle.meson_syntax.specs.Tree as tree
 use Rattle.meson_calls.specs.declared.call.Reading.{Reading}
-use Rattle.meson_calls.specs.Entering.{subdirs_as}
 use Rattle.meson_calls.specs.Folders.{build_file}
 use Rattle.meson_calls.specs.Loading.{max_files}
+use Rattle.meson_entering.specs.Entering as entering
 use Rattle.meson_store.specs.Commit.{path_in}
 use Rattle.meson_store.specs.Content.{Content}
 
@@ -46,9 +47,9 @@ module _ (content : Content) (folder : Option (List ℕ)) where
 
 -- ---- one file after another
 
--- the bytes parse as a tree which enters files of these names, if build files are read so
+-- the bytes parse as a tree which may enter files of these names, if build files are read so
 abbrev pub Enters : Reading → List ℕ → List ℕ → List (List ℕ) → Type 0
-Enters reading name bytes names = (t : tree.File Span) × IsSpanned bytes t × (names ≡ subdirs_as reading name t)
+Enters reading name bytes names = (t : tree.File Span) × IsSpanned bytes t × (names ≡ entering.files_entered reading (record { name = name; tree = t }))
 
 -- how the files of a project are found
 pub data Ending : Type 0 where
@@ -71,7 +72,7 @@ pub record IsNextFile (content : Content) (folder : Option (List ℕ)) (names : 
   pub are_there : files_entered content folder before files ≡ Some there
   pub is_new : position_of_file name there ≡ None
 
--- The files that were looked at, followed by those that are still to be looked at, in order. Each in turn enters the files of its `subdir` calls.
+-- The files that were looked at, followed by those that are still to be looked at, in order. Each in turn enters the files that its `subdir` calls may mean.
 pub data Gathers (reading : Reading) (content : Content) (folder : Option (List ℕ)) : List File → List File → Ending → Type 0 where
   ended : (looked : List File) → Gathers reading content folder looked [] (whole looked)
   enters : (looked todo more : List File) (f : File) (names : List (List ℕ)) (end : Ending) → Enters reading f.name f.bytes names

@@ -15,7 +15,8 @@ ghost use Rattle.meson_store.specs.StoreCalls.{one_more};
 
 use crate::fault::GatherFault;
 use crate::named_files::NamedFiles;
-use meson_calls::{MAX_FILES, Reading, entered_by};
+use meson_calls::{MAX_FILES, Reading};
+use meson_entering::{SourceFile, entered_by};
 use meson_plan::Project;
 use meson_splice::{Bytes, Text};
 use meson_store::{Store, StoreError, StoreFault, path_in};
@@ -134,7 +135,7 @@ fn enter_all<S: Store>(
 #[derive(Drop)]
 struct ParsedFile {
     tree: Parsed,
-    /// The files that it enters.
+    /// The names of the files that it may enter.
     names: Vec<String>,
 }
 
@@ -157,7 +158,7 @@ fn unparsed(
     }
 }
 
-/// The tree of one of the files, and the names that it enters.
+/// The tree of one of the files, and the names of the files that it may enter.
 fn entry_at(
     alloc: Global,
     reading: Reading,
@@ -177,11 +178,16 @@ fn entry_at(
         Ok(tree) => tree,
         Err(fault) => return Err(unparsed(alloc, name, bytes, fault)?),
     };
-    let names = entered_by(alloc, reading, name, bytes, &tree)?;
+    let file = SourceFile {
+        name,
+        source: bytes,
+        tree: &tree,
+    };
+    let names = entered_by(alloc, reading, file)?;
     Ok(ParsedFile { tree, names })
 }
 
-/// Reads the files that one of the files enters, and returns its tree.
+/// Reads the files that one of the files may enter, and returns its tree.
 fn look<S: Store>(
     alloc: Global,
     store: &mut S,
@@ -239,7 +245,8 @@ fn root_set<S: Store>(
     Ok(files)
 }
 
-/// Reads the project in this folder: the root file, and then for each file in order those that it enters, if build files are read so.
+/// Reads the project in this folder: the root file, and then for each file in order those that it may enter, if build files are read so. Where they are
+/// followed, a `subdir` call in a loop may enter a file for each text that is known of the loop's list.
 /// A file that is entered need not exist. Each file is parsed once. The store is queried once for the root file, once for each entered name for which no file
 /// was read before, and for no other.
 ///

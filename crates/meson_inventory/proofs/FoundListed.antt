@@ -127,7 +127,7 @@ is_there : (id : List ℕ) (o : Option (List ℕ)) → is id o ≡ true → o �
 is_there id None t = absurd (let no : ⊥ = cc in no)
 is_there id (Some x) t = ap Some (sym (same_bytes id x t))
 
-some_if : {X : Type 0} (b : Bool) (x y : X) → (if b then Some x else None) ≡ Some y → (b ≡ true) × (x ≡ y)
+pub some_if : {X : Type 0} (b : Bool) (x y : X) → (if b then Some x else None) ≡ Some y → (b ≡ true) × (x ≡ y)
 some_if true x y same = (refl, some-injective x y same)
 some_if false x y same = absurd (let no : ⊥ = cc in no)
 

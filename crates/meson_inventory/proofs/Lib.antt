@@ -5,8 +5,9 @@ mod FoundListed
 mod AssignmentsStand
 mod CallsNamed
 mod NamedSearched
+mod FilesAt
+mod LeftCalls
 mod NotEntered
-mod MeantFiles
 mod FileSteps
 mod LinesCounted
 mod PositionsCounted

@@ -1,25 +1,32 @@
 //! What a project holds: its targets, and the `subdir` calls that enter none of its files.
 
-ghost use Rattle.std.specs.Prelude.{◌≡◌, All, IfOk, Some, option_map, string_bytes};
-ghost use Rattle.meson_calls.specs.FileNames.{AreFileNames};
-ghost use Rattle.meson_calls.specs.Loading.{HasFileName};
+ghost use Rattle.std.specs.Prelude.{◌≡◌, All, IfOk, IfSome, List, Some, map, option_map, string_bytes};
+ghost use Rattle.std.specs.List.{list_any};
+ghost use Rattle.meson_splice.specs.declared.file_set.File.{File};
+ghost use Rattle.meson_syntax.specs.Reads.{IsSpanned};
+ghost use Rattle.meson_syntax.specs.View.{view};
+ghost use Rattle.meson_calls.specs.FileNames.{AreFileNames, is_file};
+ghost use Rattle.meson_calls.specs.Folders.{IsFileName};
+ghost use Rattle.meson_calls.specs.Loading as loading;
 ghost use Rattle.meson_calls.specs.Notes.{note_view, note_views};
 ghost use Rattle.meson_calls.specs.ChosenNotes.{places_that};
+ghost use Rattle.meson_calls.specs.Project.{nth_file};
 ghost use Rattle.meson_calls.specs.Searching.{name_at};
-ghost use Rattle.meson_inventory.specs.Holdings.{calls_held, calls_named, enters_one, held_call, held_calls, holdings, meant_by, not_entered, subdirs_held, targets_held};
-ghost use Rattle.meson_inventory.specs.inside.Holdings.{AreAllNotes, IsCall, note_calls};
+ghost use Rattle.meson_entering.specs.Code.{file_view};
+ghost use Rattle.meson_inventory.specs.Holdings.{calls_held, calls_named, held_call, held_calls, holdings, subdirs_held, targets_held};
+ghost use Rattle.meson_inventory.specs.inside.Holdings.{AreAllNotes, IsCall, enters_at, not_entered_at, note_calls};
 
 use meson_calls::Reading;
 use meson_calls::chosen_notes::with_role;
-use meson_calls::entering::file_as;
 use meson_calls::file_names::names_of;
 use meson_calls::note::{Note, What};
 use meson_calls::notes::notes_of;
 use meson_calls::place::place_of;
 use meson_calls::roles::text_of;
 use meson_details::called::call_at;
+use meson_entering::entering::{SourceFile, SubdirCall, files_meant};
 use meson_plan::{BorrowedName, CallRef, Head, Project, Refusal, Role};
-use meson_splice::{FileSet, Many, Text};
+use meson_splice::{Many, Text};
 use meson_targets::variable::variable_of;
 use std::alloc::{AllocError, Global};
 use std::collections::HashSet;
@@ -108,61 +115,78 @@ fn held_calls(
     Ok(Many::of(calls))
 }
 
-/// The name of the file that a `subdir` call means, where build files are read so.
-fn meant_by(
-    alloc: Global,
-    reading: Reading,
-    files: &FileSet,
-    call: &HeldCall,
-) -> Result<Option<String>, AllocError>
-    requires { All HasFileName files.now }
-    ensures { IfOk result (λ file. option_map string_bytes file ≡ meant_by reading files.now call.now) }
+/// The build file of this number.
+fn file_at(project: &Project, file: usize) -> Option<SourceFile<'_>>
+    ensures is { nth_file (loading.project project.entry.now) file ≡ option_map file_view result }
+    ensures good { IfSome result (λ f. IsFileName f.name.now × IsSpanned f.source.now (view f.source.now f.tree.now)) }
 {
-    if call.file >= files.len() {
-        return Ok(None);
+    project.reads();
+    if file >= project.trees().len() {
+        return None;
     }
-    match &call.head.name {
-        Some(folder) => file_as(alloc, reading, files.name(call.file), folder.get()),
-        None => Ok(None),
-    }
+    Some(SourceFile {
+        name: project.files().name(file),
+        source: project.files().bytes(file),
+        tree: &project.trees()[file],
+    })
 }
 
-/// Whether a `subdir` call enters one of the files.
+/// Whether a file has one of some names.
+fn is_any(files: &HashSet<&str>, names: &[String]) -> bool
+    ensures { (all : List File) → AreFileNames files.now all → result ≡ list_any (is_file all) (map string_bytes names.now) }
+{
+    for i in 0..names.len() {
+        if files.contains(names[i].as_str()) {
+            return true;
+        }
+    }
+    false
+}
+
+/// Whether the `subdir` call at a place enters one of the files: a file that it may mean is among them.
 fn enters_one(
     alloc: Global,
     reading: Reading,
-    files: &FileSet,
+    project: &Project,
     names: &HashSet<&str>,
-    call: &HeldCall,
+    place: &CallRef,
 ) -> Result<bool, AllocError>
-    requires named { All HasFileName files.now }
-    requires names { AreFileNames names.now files.now }
-    ensures { IfOk result (λ one. one ≡ enters_one reading files.now call.now) }
+    requires there { IsCall project.now place.now }
+    requires names { AreFileNames names.now project.now.files }
+    ensures { IfOk result (λ one. one ≡ enters_at reading project.now place.now) }
 {
-    match meant_by(alloc, reading, files, call)? {
-        Some(name) => Ok(names.contains(name.as_str())),
-        None => Ok(false),
-    }
+    project.reads();
+    let Some(file) = file_at(project, place.file) else {
+        return Ok(false);
+    };
+    let called = call_at(project.files(), project.trees(), place);
+    let call = SubdirCall {
+        source: called.source,
+        path: place.path.steps.get(),
+        arguments: called.arguments,
+    };
+    let meant = files_meant(alloc, reading, file, call)?;
+    Ok(is_any(names, meant.as_slice()))
 }
 
-/// Those of some `subdir` calls that enter none of the files.
+/// The places of those of some `subdir` calls that enter none of the files.
 fn not_entered(
     alloc: Global,
     reading: Reading,
-    files: &FileSet,
-    calls: Many<HeldCall>,
-) -> Result<Many<HeldCall>, AllocError>
-    requires { All HasFileName files.now }
-    ensures { IfOk result (λ left. left ≡ not_entered reading files.now calls) }
+    project: &Project,
+    places: Vec<CallRef>,
+) -> Result<Vec<CallRef>, AllocError>
+    requires { All (IsCall project.now) places.items }
+    ensures { IfOk result (λ left. left.items ≡ not_entered_at reading project.now places.items) }
 {
-    let names = names_of(alloc, files)?;
+    let names = names_of(alloc, project.files())?;
     let mut left = Vec::new(alloc);
-    for call in calls.take() {
-        if !enters_one(alloc, reading, files, &names, &call)? {
-            left.push(call)?;
+    for place in places {
+        if !enters_one(alloc, reading, project, &names, &place)? {
+            left.push(place)?;
         }
     }
-    Ok(Many::of(left))
+    Ok(left)
 }
 
 /// The calls that make targets, among the notes of a project.
@@ -219,9 +243,9 @@ fn subdirs_held(
     requires { AreAllNotes project.now (note_views notes.now) }
     ensures { IfOk result (λ calls. calls ≡ subdirs_held reading project.now) }
 {
-    project.reads();
-    let calls = calls_among(alloc, project, b"subdir".as_slice(), notes)?;
-    not_entered(alloc, reading, project.files(), calls)
+    let places = calls_of(alloc, b"subdir".as_slice(), notes)?;
+    let left = not_entered(alloc, reading, project, places)?;
+    held_calls(alloc, project, left.as_slice())
 }
 
 /// The calls that are named, in file order and source order; none where the folder has no build file.

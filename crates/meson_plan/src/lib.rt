@@ -17,7 +17,6 @@ pub use details::{TargetDetails, told_sources};
 pub use listing::{info_argument, info_kwargs, info_target};
 pub use meson_calls::{
     BorrowedName, CallName, CallRef, LoadFault, MAX_FILES, Reading, Refusal, Role, Unloaded,
-    subdirs,
 };
 pub use meson_details::{Head, Shown};
 pub use meson_steps::argument::ValueName;

@@ -7,7 +7,7 @@ use Rattle.meson_splice.specs.declared.file_set.File.{File}
 use Rattle.meson_splice.specs.Files.{position_of_file}
 use Rattle.meson_syntax.proofs.parsing.Unique.{one-spanned}
 use Rattle.meson_calls.specs.declared.call.Reading.{Reading}
-use Rattle.meson_calls.specs.Entering.{subdirs_as}
+use Rattle.meson_entering.specs.Entering.{files_entered}
 use Rattle.meson_store.specs.StoreCalls.{one_more}
 use Rattle.meson_store.specs.Content.{Content}
 use Rattle.meson_gathering.specs.Gathering.{Enters, files_with, held_bytes}
@@ -46,7 +46,7 @@ cuts (x ∷ d1) (y ∷ d2) r1 r2 n1 n2 e =
     ]
 
 pub names-same : (reading : Reading) (name bytes : List ℕ) (a b : List (List ℕ)) → Enters reading name bytes a → Enters reading name bytes b → a ≡ b
-names-same reading name bytes a b (t, of_t, is_a) (s, of_s, is_b) = is_a ∙ ap (subdirs_as reading name) (one-spanned bytes t s of_t of_s) ∙ sym is_b
+names-same reading name bytes a b (t, of_t, is_a) (s, of_s, is_b) = is_a ∙ ap (λ tree. files_entered reading (record { name = name; tree = tree })) (one-spanned bytes t s of_t of_s) ∙ sym is_b
 
 -- ---- the files that are there, and how often the store was asked
 

@@ -13,10 +13,10 @@ use meson_calls::CallRef;
 use meson_calls::place::place_of;
 use meson_calls::roles::text_of;
 use meson_following::arguments::value_of;
-use meson_following::names::are_plus;
 use meson_lex::Span;
 use meson_syntax::{Arg, Expr, List, Operand};
 use meson_variables::meeting::is_files;
+use meson_variables::sums::are_plus;
 use std::alloc::{AllocError, Global};
 
 /// A search of the expressions of a file for ways.

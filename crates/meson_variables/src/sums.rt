@@ -25,7 +25,7 @@ fn is_plus(operand: &Operand) -> bool
 }
 
 /// Whether all operators of a row are `+`.
-fn are_plus(rest: &[Operand]) -> bool
+pub fn are_plus(rest: &[Operand]) -> bool
     ensures { (source : Source) → result ≡ are_plus (operands_of (operands_view source rest.now)) }
 {
     for i in 0..rest.len() {

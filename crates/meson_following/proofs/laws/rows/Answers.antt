@@ -22,3 +22,7 @@ returns-clause-setting c = (refl, refl, refl, refl, refl, refl, refl, refl)
 pub returns-clause-entering : goal.returns-clause-entering
 unfolding encode_utf8 chars is_utf8
 returns-clause-entering c = (refl, refl, refl, refl, refl, refl)
+
+pub returns-clause-entering_each : goal.returns-clause-entering_each
+unfolding encode_utf8 chars is_utf8
+returns-clause-entering_each c = (refl, refl, refl, refl, refl)

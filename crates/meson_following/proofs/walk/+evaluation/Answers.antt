@@ -1,5 +1,5 @@
 use Rattle.std.proofs.Common.{◌≡◌, ℕ, suc, ◌+◌, ◌*◌, ◌<◌, ◌≤◌, ◌^◌, length, get_or, refl, sym, ap, subst, ◌∙◌, arith}
-use Rattle.std.specs.Prelude.{IfOk, List, None}
+use Rattle.std.specs.Prelude.{IfOk, List, None, true}
 use Rattle.std.proofs.lemmas.Result.{IfOk-weaker}
 use Rattle.meson_lex.specs.declared.kinds.Kind.TheVariants.{WordIf}
 use Rattle.meson_syntax.specs.declared.tree.Branch.{Branch}
@@ -7,7 +7,7 @@ use Rattle.meson_syntax.specs.declared.tree.Stmt.{Stmt}
 use Rattle.meson_syntax.specs.Grammar.{block_words, branches_words, expression_words, otherwise_words, statement_words}
 use Rattle.meson_syntax.specs.Tree.{Statement, branches_of, call, iteration}
 use Rattle.meson_syntax.specs.View.{block_view, branch_view, branches_view, expr_view, list_view, name_at, names_at, stmt_view, text_at}
-use Rattle.meson_calls.specs.Project.{child}
+use Rattle.meson_calls.specs.Project.{child, place, placed}
 use Rattle.meson_calls.specs.inside.Walks.{else_view}
 use Rattle.meson_calls.proofs.StatementParts.{branch_block, foreach_view}
 use Rattle.meson_calls.proofs.WalkedWords.{condition_fits}
@@ -20,12 +20,12 @@ use Rattle.meson_following.specs.declared.walk.Trail.{Trail}
 use Rattle.meson_following.specs.CodeMakers.{known_view}
 use Rattle.meson_following.specs.Flows.{going_on, no_branch}
 use Rattle.meson_following.specs.Makers.{touched}
-use Rattle.meson_following.specs.Walks.{AreRead, Chooses, Walks, arguments_flow, branch_chosen, call_effect, effect_flow, evaluated_flow, file_flow, found_view, here, otherwise_flow, project_of, statement_flow}
+use Rattle.meson_following.specs.Walks.{AreRead, Chooses, Walks, arguments_flow, branch_chosen, call_effect, each_flow, effect_flow, entered_flow, evaluated_flow, file_flow, found_view, here, otherwise_flow, project_of, statement_flow}
 use Rattle.meson_following.proofs.Measures.{all_words, file_step, inner_step, lower_step}
-use Rattle.meson_following.proofs.ReadFiles.{block_read, block_within, file_named, file_walked, no_file_left, past_files, within_files}
+use Rattle.meson_following.proofs.ReadFiles.{block_read, block_within, file_named, file_walked, no_file_left, past_files, spanned_by, within_files}
 use Rattle.meson_following.proofs.ReadParts.{assigned_is, body_less, body_read, branch_good, branch_less, branches_long, branches_read, evaluated_is, else_read, items_read, last_read, selection_within, stmt_read, stmt_within}
 use Rattle.meson_following.proofs.Steps.{alone, moved}
-use Rattle.meson_following.proofs.Turns.{block_ended, block_turn, branch_walked, selection_ended, selection_turn, selection_walked}
+use Rattle.meson_following.proofs.Turns.{block_ended, block_turn, branch_walked, each_ended, each_turn, selection_ended, selection_turn, selection_walked}
 use Rattle.meson_following.proofs.Walked.{both_walked, nothing_walked}
 use Rattle.meson_following.proofs.walk.+evaluation.Goals as goal
 use Rattle.meson_following.proofs.walk.+evaluation.Goals.{Question::in_file-then-left-eq0-via-then-left-eq0, Question::in_file-then-left-eq0-via-else-left-eq0+then-file-self, Walk::in_selection-in-Some+in_ok-last-in-Some, Walk::in_selection-in-None}
@@ -101,17 +101,54 @@ Walk::in_nth-in_stmt-requires t c =
     let words = length (statement_words (stmt_view w.source.now c.args.stmt.now)) in
     (lower_step w.left (all_words (project_of w.question)) words words 4 5 t (omega arith) (omega arith) (sym c.decreases), (c.requires.walks, c.requires.good))
 
-pub Walk::after_effect-in_file-requires : goal.Walk::after_effect-in_file-requires
-Walk::after_effect-in_file-requires t c =
+-- ---- what a call does
+
+pub Walk::in_entered-in_file-requires : goal.Walk::in_entered-in_file-requires
+Walk::in_entered-in_file-requires t c =
     let w = c.args.self.now in
     (lower_step w.left (all_words (project_of w.question)) 0 0 0 1 t (omega arith) (omega arith) (sym c.decreases), c.requires.whole)
+
+pub Walk::in_each-in_entered-requires : goal.Walk::in_each-in_entered-requires
+Walk::in_each-in_entered-requires t c =
+    let w = c.args.self.now in
+    (lower_step w.left (all_words (project_of w.question)) 0 0 1 2 t (omega arith) (omega arith) (sym c.decreases), c.requires)
+
+pub Walk::after_effect-in_entered-requires : goal.Walk::after_effect-in_entered-requires
+Walk::after_effect-in_entered-requires t c =
+    let w = c.args.self.now in
+    (lower_step w.left (all_words (project_of w.question)) 0 0 1 3 t (omega arith) (omega arith) (sym c.decreases), c.requires)
+
+pub Walk::after_effect-in_each-requires : goal.Walk::after_effect-in_each-requires
+Walk::after_effect-in_each-requires t c =
+    let w = c.args.self.now in
+    (lower_step w.left (all_words (project_of w.question)) 0 0 2 3 t (omega arith) (omega arith) (sym c.decreases), c.requires)
+
+pub Walk::in_each-loop-i-init : goal.Walk::in_each-loop-i-init
+Walk::in_each-loop-i-init t c =
+    record {
+      meant = going_on (known_view c.args.now);
+      walks = nothing_walked c.args.self.now c.args.trail.now c.going_on-flow.result (going_on (known_view c.args.now)) c.going_on-flow.ensures;
+      rest = refl;
+    }
+
+pub Walk::in_each-loop-i-preserved : goal.Walk::in_each-loop-i-preserved
+Walk::in_each-loop-i-preserved t c =
+    let w = c.args.self.now in
+    each_turn w c.args.trail.now c.loop-i.trail c.in_entered.new.trail c.loop-i.flow c.in_ok-next.next c.in_ok-flow.flow (known_view c.args.now) c.args.files.now c.loop-i.i 0 c.loop-i.invariant c.loop-i-test.true
+    (subst (λ k. Walks w c.loop-i.trail c.in_entered.new.trail c.in_ok-next.next (entered_flow w (get_or c.args.files.now c.loop-i.i 0) true (known_view k))) c.take-now.ensures.value c.in_ok-next.ensures)
+    c.in_ok-flow.ensures
+
+pub Walk::in_each-returns : goal.Walk::in_each-returns
+Walk::in_each-returns t c =
+    each_ended c.args.self.now c.args.trail.now c.loop-i.trail c.loop-i.flow (known_view c.args.now) c.args.files.now c.loop-i.i (let e = c.loop-i-test.false in omega (arith, e)) c.loop-i.invariant
 
 pub Walk::in_evaluated-after_effect-requires : goal.Walk::in_evaluated-after_effect-requires
 Walk::in_evaluated-after_effect-requires t c =
     let w = c.args.self.now in
     let words = length (expression_words (expr_view w.source.now c.args.value.now)) in
-    let none : 0 ≤ words = omega arith in
-    (lower_step w.left (all_words (project_of w.question)) 0 words 1 2 t none (omega arith) (sym c.decreases), c.requires.walks)
+    let is = ap (λ e. length (expression_words (expr_view w.source.now e))) c.in-Call.is ∙ ap (λ e. length (expression_words e)) (call_view w.source.now c.in-Call.span c.in-Call.name c.in-Call.arguments) in
+    let some : 0 < words = omega (arith, is) in
+    (inner_step w.left (all_words (project_of w.question)) 0 words 3 2 t some (omega arith) (sym c.decreases), c.requires.walks)
 
 pub Walk::in_iteration-in_loop-requires : goal.Walk::in_iteration-in_loop-requires
 Walk::in_iteration-in_loop-requires t c =
@@ -142,7 +179,7 @@ Walk::in_turn-in_child-requires t c =
     let w = c.args.self.now in
     let words = length (block_words (block_view w.source.now c.args.body.now)) in
     let less : words < suc words = omega arith in
-    (inner_step w.left (all_words (project_of w.question)) words (suc words) 7 0 t less (omega arith) (sym c.decreases), (record { whole = c.requires.walks.whole; named = c.requires.walks.named }, c.requires.good))
+    (inner_step w.left (all_words (project_of w.question)) words (suc words) 7 0 t less (omega arith) (sym c.decreases), (record { whole = c.requires.walks.whole; named = c.requires.walks.named; spanned = c.requires.walks.spanned }, c.requires.good))
 
 -- ---- the block of a file
 
@@ -157,7 +194,11 @@ Question::in_file-in_block-requires t c =
       file_step c.args.left (all_words (project_of q)) (length (block_words (block_view c.bytes.result.now tree.block))) t some
           (block_within q c.args.file c.index-self-file.result lt c.requires c.bytes.result.now tree c.bytes.ensures refl) (sym c.decreases),
       (
-        record { whole = c.requires; named = (file_named q c.args.file c.index-self-file.result lt c.requires c.name.result.now c.name.ensures).1 },
+        record {
+          whole = c.requires;
+          named = (file_named q c.args.file c.index-self-file.result lt c.requires c.name.result.now c.name.ensures).1;
+          spanned = spanned_by q c.args.file c.index-self-file.result lt c.requires c.bytes.result.now tree c.bytes.ensures refl;
+        },
         block_read q c.args.file c.index-self-file.result lt c.requires c.bytes.result.now tree c.bytes.ensures refl,
       ),
     )
@@ -370,10 +411,12 @@ Walk::in_evaluated-returns-in_ok-next-in-Call t c =
     let F = arguments_flow w q e (list_view w.source.now c.in-Call.arguments) k in
     let first : Walks w c.args.trail.now c.in_arguments.new.trail c.in_ok-flow-in-Call.flow F =
     subst (λ x. Walks w c.args.trail.now c.in_arguments.new.trail c.in_ok-flow-in-Call.flow (arguments_flow w q x (list_view w.source.now c.in-Call.arguments) k)) is c.in_ok-flow-in-Call.ensures in
-    let second : Walks w c.in_arguments.new.trail c.after_effect.new.trail c.in_ok-next-in-Call.next (effect_flow w (call_effect w called) F.now) =
-    subst (λ f. Walks w c.in_arguments.new.trail c.after_effect.new.trail c.in_ok-next-in-Call.next (effect_flow w f F.now)) c.in_ok-effect-in-Call.ensures
+    let there : c.as_slice.result.now ≡ c.args.trail.now.path.items = c.as_slice.ensures.value ∙ first.back in
+    let effect : c.in_ok-effect-in-Call.effect ≡ call_effect w (placed q called) = c.in_ok-effect-in-Call.ensures ∙ ap (λ path. call_effect w (placed (child (place w.file path) 0) called)) there in
+    let second : Walks w c.in_arguments.new.trail c.after_effect.new.trail c.in_ok-next-in-Call.next (effect_flow w (call_effect w (placed q called)) F.now) =
+    subst (λ f. Walks w c.in_arguments.new.trail c.after_effect.new.trail c.in_ok-next-in-Call.next (effect_flow w f F.now)) effect
     (subst (λ n. Walks w c.in_arguments.new.trail c.after_effect.new.trail c.in_ok-next-in-Call.next (effect_flow w c.in_ok-effect-in-Call.effect n)) (ap known_view c.take-now.ensures.value ∙ first.flows.now) c.in_ok-next-in-Call.ensures) in
     IfOk-weaker c.then.result _ _
     (λ f joins. subst (λ x. Walks w c.args.trail.now c.after_effect.new.trail f (evaluated_flow w q x k)) (sym is)
-    (both_walked w c.args.trail.now c.in_arguments.new.trail c.after_effect.new.trail c.in_ok-flow-in-Call.flow c.in_ok-next-in-Call.next f F (effect_flow w (call_effect w called) F.now) first second joins))
+    (both_walked w c.args.trail.now c.in_arguments.new.trail c.after_effect.new.trail c.in_ok-flow-in-Call.flow c.in_ok-next-in-Call.next f F (effect_flow w (call_effect w (placed q called)) F.now) first second joins))
     c.then.ensures

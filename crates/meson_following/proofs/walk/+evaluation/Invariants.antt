@@ -7,14 +7,20 @@ use Rattle.meson_calls.specs.inside.Walks.{else_view}
 use Rattle.meson_following.specs.CodeMakers.{known_view}
 use Rattle.meson_following.specs.Walks.{project_of}
 use Rattle.meson_following.proofs.Measures.{all_words, measure}
-use Rattle.meson_following.proofs.Turns.{BlockTurn, SelectionTurn}
+use Rattle.meson_following.proofs.Turns.{BlockTurn, EachTurn, SelectionTurn}
 use Rattle.meson_following.proofs.walk.+evaluation.Given as goal
 
 abbrev pub decreases-Question::in_file : goal.decreases-Question::in_file
 decreases-Question::in_file l = measure l.left (all_words (project_of l.self.now)) 0 0
 
+abbrev pub decreases-Walk::in_entered : goal.decreases-Walk::in_entered
+decreases-Walk::in_entered l = measure l.self.now.left (all_words (project_of l.self.now.question)) 0 1
+
+abbrev pub decreases-Walk::in_each : goal.decreases-Walk::in_each
+decreases-Walk::in_each l = measure l.self.now.left (all_words (project_of l.self.now.question)) 0 2
+
 abbrev pub decreases-Walk::after_effect : goal.decreases-Walk::after_effect
-decreases-Walk::after_effect l = measure l.self.now.left (all_words (project_of l.self.now.question)) 0 1
+decreases-Walk::after_effect l = measure l.self.now.left (all_words (project_of l.self.now.question)) 0 3
 
 abbrev pub decreases-Walk::in_evaluated : goal.decreases-Walk::in_evaluated
 decreases-Walk::in_evaluated l = measure l.self.now.left (all_words (project_of l.self.now.question)) (length (expression_words (expr_view l.self.now.source.now l.value.now))) 2
@@ -54,3 +60,6 @@ invariant-Walk::in_block-loop-i l = BlockTurn l.self l.fn.trail l.trail l.flow (
 
 abbrev pub invariant-Walk::in_selection-loop-i : goal.invariant-Walk::in_selection-loop-i
 invariant-Walk::in_selection-loop-i l = SelectionTurn l.self l.fn.trail l.trail l.chosen (known_view l.fn.now) l.branches l.i
+
+abbrev pub invariant-Walk::in_each-loop-i : goal.invariant-Walk::in_each-loop-i
+invariant-Walk::in_each-loop-i l = EachTurn l.self l.fn.trail l.trail l.flow (known_view l.fn.now) l.files l.i

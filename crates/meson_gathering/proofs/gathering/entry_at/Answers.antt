@@ -6,15 +6,14 @@ use Rattle.meson_syntax.specs.View.{view}
 use Rattle.meson_calls.specs.Folders.{IsFileName}
 use Rattle.meson_gathering.specs.Gathering.{Enters}
 use Rattle.meson_gathering.specs.inside.Gathered.{StopsLooking}
-use Rattle.meson_gathering.proofs.EnteredNames.{names_named}
 use Rattle.meson_gathering.proofs.FileNames.{name_of, named_at}
 use Rattle.meson_gathering.proofs.gathering.entry_at.Goals as goal
 
 nobody : File
 nobody = record { name = []; bytes = [] }
 
-pub entered_by-requires-clause-file : goal.entered_by-requires-clause-file
-entered_by-requires-clause-file c =
+pub entered_by-requires-clause-named : goal.entered_by-requires-clause-named
+entered_by-requires-clause-named c =
     let is = c.name-name.ensures nobody ∙ name_of c.args.files.now c.args.place nobody c.requires.within in
     subst IsFileName (sym is) (named_at c.args.files.now c.args.place c.requires.within c.requires.named)
 
@@ -26,13 +25,7 @@ returns-clause-names c =
     let is = c.name-name.ensures nobody ∙ name_of c.args.files.now c.args.place nobody c.requires.within in
     let names = map string_bytes c.in_ok-names.names.items in
     subst (λ n. Enters c.args.reading n (bytes_at c.args.place c.args.files.now) names) is
-    (subst (λ b. Enters c.args.reading c.name-name.result.now b names) c.bytes-bytes.ensures (view c.bytes-bytes.result.now c.in-Ok.tree, c.in-Ok.ensures.reads, c.in_ok-names.ensures))
-
-pub returns-clause-named : goal.returns-clause-named
-returns-clause-named c =
-    let is = c.name-name.ensures nobody ∙ name_of c.args.files.now c.args.place nobody c.requires.within in
-    names_named c.args.reading c.name-name.result.now (subst IsFileName (sym is) (named_at c.args.files.now c.args.place c.requires.within c.requires.named)) c.bytes-bytes.result.now (map string_bytes c.in_ok-names.names.items)
-    (view c.bytes-bytes.result.now c.in-Ok.tree, c.in-Ok.ensures.reads, c.in_ok-names.ensures)
+    (subst (λ b. Enters c.args.reading c.name-name.result.now b names) c.bytes-bytes.ensures (view c.bytes-bytes.result.now c.in-Ok.tree, c.in-Ok.ensures.reads, c.in_ok-names.ensures.all))
 
 pub returns-in-Err-clause-stopped : goal.returns-in-Err-clause-stopped
 returns-in-Err-clause-stopped c =

@@ -1,57 +1,43 @@
-use Rattle.std.proofs.Common.{rules, ◌≡◌, ap, sym, ◌∙◌}
-use Rattle.std.specs.Prelude.{None, Some, option_map, string_bytes, nat_lt, length, codes}
-use Rattle.meson_splice.specs.Files.{position_of_file}
-use Rattle.meson_syntax.specs.View.{list_view}
+use Rattle.std.proofs.Common.{◌≡◌, sym, ap, ◌∙◌}
+use Rattle.std.specs.Prelude.{None, Some, if◌then◌else◌}
+use Rattle.std.proofs.lemmas.Result.{IfOk-weaker}
+use Rattle.meson_syntax.specs.View.{expr_view, list_view}
+use Rattle.meson_calls.specs.Calls.{first_argument}
 use Rattle.meson_calls.specs.ChosenNotes.{call_with}
-use Rattle.meson_calls.specs.declared.call.Reading.TheVariants.{Followed}
-use Rattle.meson_calls.specs.Entering.{folder_file}
-use Rattle.meson_calls.specs.Calls.{value_with_name}
-use Rattle.meson_calls.specs.NamedArguments.{kept_args}
-use Rattle.meson_calls.proofs.KeywordArguments.{keyword_is}
-use Rattle.meson_following.specs.declared.effects.Effect.TheVariants.{Enters}
-use Rattle.meson_following.specs.Effects.{entering}
-use Rattle.meson_following.specs.Walks.{project_of}
-use Rattle.meson_following.proofs.Entering.{no_literal, number_is, of_file}
+use Rattle.meson_calls.specs.Project.{child, place, placed}
+use Rattle.meson_following.specs.Effects.{entering_by, entering_each, entering_literal}
+use Rattle.meson_following.specs.Walks.{project_of, walked_file}
 use Rattle.meson_following.proofs.walk.Walk.entering.Goals as goal
 
 pub returns-in_default : goal.returns-in_default
 returns-in_default c = λ f.
-    let call = call_with f (list_view c.args.self.now.source.now c.args.arguments.now) in
-    let none : c.in_ok-folder.field-0 ≡ None = search rules in
-    no_literal (project_of c.args.self.now.question) c.args.self.now.question.variable.now c.args.self.now.name.now call (sym (c.in_ok-folder.ensures f) ∙ ap (option_map string_bytes) none)
-
-pub returns-in_default-2 : goal.returns-in_default-2
-returns-in_default-2 c = λ f.
-    let name = c.args.self.now.name.now in
-    let call = call_with f (list_view c.args.self.now.source.now c.args.arguments.now) in
-    let none : c.in_ok-name.field-0 ≡ None = search rules in
-    of_file (project_of c.args.self.now.question) c.args.self.now.question.variable.now name call (string_bytes c.in-Some.folder) None
-    (sym (c.in_ok-folder.ensures f) ∙ ap (option_map string_bytes) c.in-Some.is) (ap (folder_file Followed name) (sym c.as_str.ensures.value) ∙ sym c.in_ok-name.ensures ∙ ap (option_map string_bytes) none)
-
-pub returns-in-Some-find : goal.returns-in-Some-find
-returns-in-Some-find c = λ f.
-    let p = project_of c.args.self.now.question in
-    let name = c.args.self.now.name.now in
-    let source = c.args.self.now.source.now in
-    let files = c.args.self.now.question.files.now in
-    let trees = c.args.self.now.question.trees.now in
+    let w = c.args.self.now in
+    let source = w.source.now in
     let call = call_with f (list_view source c.args.arguments.now) in
-    let file = string_bytes c.in-Some-2.name in
-    let number = number_is files trees file c.requires.walks.whole.parsed ∙ ap (λ n. position_of_file n files) (sym c.as_str-2.ensures.value) ∙ sym c.find.ensures ∙ c.in-Some-find.is in
-    let count = c.count_named.ensures ∙ ap (λ args. length (kept_args source (value_with_name (codes "if_found")) 0 args)) c.get.ensures ∙ sym (ap length (keyword_is source c.args.arguments.now f (codes "if_found"))) in
-    ap (λ n. Enters c.in-Some-find.file (nat_lt 0 n)) count ∙ sym (ap (entering call) number)
-    ∙ of_file p c.args.self.now.question.variable.now name call (string_bytes c.in-Some.folder) (Some file)
-    (sym (c.in_ok-folder.ensures f) ∙ ap (option_map string_bytes) c.in-Some.is) (ap (folder_file Followed name) (sym c.as_str.ensures.value) ∙ sym c.in_ok-name.ensures ∙ ap (option_map string_bytes) c.in-Some-2.is)
+    let q = child (place w.file c.args.path.now) 0 in
+    let none : first_argument call ≡ None = c.in_default.ensures source f in
+    IfOk-weaker c.entering_literal.result _ _ (λ e is. is ∙ sym (ap (entering_by (project_of w.question) (walked_file w) (placed q call)) none)) (c.entering_literal.ensures f)
 
-pub returns : goal.returns
-returns c = λ f.
-    let p = project_of c.args.self.now.question in
-    let name = c.args.self.now.name.now in
-    let files = c.args.self.now.question.files.now in
-    let trees = c.args.self.now.question.trees.now in
-    let call = call_with f (list_view c.args.self.now.source.now c.args.arguments.now) in
-    let file = string_bytes c.in-Some-2.name in
-    let number = number_is files trees file c.requires.walks.whole.parsed ∙ ap (λ n. position_of_file n files) (sym c.as_str-2.ensures.value) ∙ sym c.find.ensures ∙ c.in-None.is in
-    sym (ap (entering call) number)
-    ∙ of_file p c.args.self.now.question.variable.now name call (string_bytes c.in-Some.folder) (Some file)
-    (sym (c.in_ok-folder.ensures f) ∙ ap (option_map string_bytes) c.in-Some.is) (ap (folder_file Followed name) (sym c.as_str.ensures.value) ∙ sym c.in_ok-name.ensures ∙ ap (option_map string_bytes) c.in-Some-2.is)
+pub returns-then-is_name : goal.returns-then-is_name
+returns-then-is_name c = λ f.
+    let w = c.args.self.now in
+    let source = w.source.now in
+    let p = project_of w.question in
+    let call = call_with f (list_view source c.args.arguments.now) in
+    let q = child (place w.file c.args.path.now) 0 in
+    let first : first_argument call ≡ Some (expr_view source c.in-Some.argument.now) = c.in-Some.ensures source f in
+    let name = sym (c.is_name.ensures source) ∙ c.if-is_name.true in
+    let meant = ap (entering_by p (walked_file w) (placed q call)) first ∙ ap (λ b. if b then entering_each p (walked_file w) (placed q call) else entering_literal p (walked_file w) call) name in
+    IfOk-weaker c.entering_each.result _ _ (λ e is. is ∙ sym meant) (c.entering_each.ensures f)
+
+pub returns-else-is_name : goal.returns-else-is_name
+returns-else-is_name c = λ f.
+    let w = c.args.self.now in
+    let source = w.source.now in
+    let p = project_of w.question in
+    let call = call_with f (list_view source c.args.arguments.now) in
+    let q = child (place w.file c.args.path.now) 0 in
+    let first : first_argument call ≡ Some (expr_view source c.in-Some.argument.now) = c.in-Some.ensures source f in
+    let name = sym (c.is_name.ensures source) ∙ c.if-is_name.false in
+    let meant = ap (entering_by p (walked_file w) (placed q call)) first ∙ ap (λ b. if b then entering_each p (walked_file w) (placed q call) else entering_literal p (walked_file w) call) name in
+    IfOk-weaker c.entering_literal-else-is_name.result _ _ (λ e is. is ∙ sym meant) (c.entering_literal-else-is_name.ensures f)

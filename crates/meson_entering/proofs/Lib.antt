@@ -1,0 +1,11 @@
+pub mod Turns
+pub mod Views
+pub mod Values
+pub mod Sums
+pub mod Around
+pub mod Folders
+pub mod NoSubdirs
+pub mod Entered
+pub mod FileNames
+pub mod EnteredNames
+pub mod Lawful

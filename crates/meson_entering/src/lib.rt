@@ -1,0 +1,9 @@
+//! The files that a build file enters.
+#![tactic(auto)]
+
+pub mod entering;
+pub mod laws;
+pub mod lists;
+pub mod loops;
+
+pub use entering::{SourceFile, entered_by, files_meant};
