@@ -33,7 +33,8 @@ file of this folder alone";
 pub(crate) const FOLLOW: &str = "\
 With target ID info, list, history, undo, redo and
 command: read the build files as Meson runs them, also
-in folders written as 'src/'; info follows variables";
+in folders written as 'src/' or named in a loop; info
+follows variables";
 
 pub(crate) const DRY_RUN: &str = "Show the changes as a unified diff, and write nothing";
 
