@@ -6,4 +6,4 @@ pub mod laws;
 pub mod lists;
 pub mod loops;
 
-pub use entering::{SourceFile, entered_by, files_meant};
+pub use entering::{SourceFile, SubdirCall, entered_by, files_meant};

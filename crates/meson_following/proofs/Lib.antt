@@ -20,3 +20,10 @@ pub mod Followed
 pub mod MetArguments
 pub mod Entering
 pub mod LeftOut
+mod Occurrences
+mod MuteWords
+mod MuteStatements
+mod MuteParts
+mod JoinedItself
+mod PassedFlows
+mod PassedTurns

@@ -30,7 +30,7 @@ module _ (quiet : Bool) (c : Question) where
         found = none_met k ∙ ap (λ v. met_unless quiet c k v.arrivals) is;
       }
 
-  met_both : (before middle after : Found) (xs ys : List (Arrival Span)) → middle ≡ met_unless quiet c before xs → after ≡ met_unless quiet c middle ys → after ≡ met_unless quiet c before (xs ++ ys)
+  pub met_both : (before middle after : Found) (xs ys : List (Arrival Span)) → middle ≡ met_unless quiet c before xs → after ≡ met_unless quiet c middle ys → after ≡ met_unless quiet c before (xs ++ ys)
   met_both before middle after xs ys first second = second ∙ ap (λ k. met_unless quiet c k ys) first ∙ joins quiet
     where
       joins : (q : Bool) → met_unless q c (met_unless q c before xs) ys ≡ met_unless q c before (xs ++ ys)

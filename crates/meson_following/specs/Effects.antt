@@ -93,6 +93,7 @@ abbrev pub entering : {S : Type 0} → Call S → Option ℕ → Effect
 entering c None = MaySet
 entering c (Some n) = Enters n (has_condition c)
 
+-- whether an expression is a name
 abbrev pub is_name : {S : Type 0} → Expression S → Bool
 is_name (identifier s x) = true
 is_name e = false

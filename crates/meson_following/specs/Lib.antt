@@ -6,6 +6,7 @@ pub mod CodeEffects
 pub mod Flows
 pub mod CodeFlows
 pub mod Walks
+pub mod Passing
 pub mod Reads
 pub mod CodeReads
 pub mod Lists

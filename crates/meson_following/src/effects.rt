@@ -6,7 +6,7 @@ ghost use Rattle.meson_syntax.specs.Grammar.{argument_words, expression_words, l
 ghost use Rattle.meson_syntax.specs.Tree.{operands_of, tails_of};
 ghost use Rattle.meson_syntax.specs.View.{arg_view, expr_view, list_view, operands_view, tail_view, tails_view, text_at};
 ghost use Rattle.meson_syntax.specs.declared.operator.Bracket.TheVariants as bracket;
-ghost use Rattle.meson_calls.specs.ChosenNotes.{Source, call_with};
+ghost use Rattle.meson_calls.specs.ChosenNotes.{call_with};
 ghost use Rattle.meson_calls.specs.GoodLists.{GoodListing};
 ghost use Rattle.meson_calls.specs.Roles.{one_of};
 ghost use Rattle.meson_calls.specs.Strings.{AreGood};

@@ -3,6 +3,7 @@
 
 pub mod arguments;
 pub mod effects;
+mod entered;
 pub mod flows;
 pub mod follower;
 pub mod laws;
@@ -10,11 +11,13 @@ pub mod lists;
 pub mod makers;
 pub mod marks;
 pub mod names;
+mod passing;
 mod reader;
 mod reads;
 pub mod site;
 mod sources;
 pub mod walk;
+mod walk_loops;
 mod walk_statements;
 
 pub use follower::{Follower, Value};

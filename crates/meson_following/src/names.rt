@@ -1,7 +1,7 @@
 //! Whether a variable is the one that a call names.
 
 ghost use Rattle.std.specs.Prelude.{◌≡◌, [], IfOk, option_map, position, string_bytes};
-ghost use Rattle.meson_syntax.specs.Grammar.{expression_words, listing_words, operands_words};
+ghost use Rattle.meson_syntax.specs.Grammar.{expression_words, listing_words};
 ghost use Rattle.meson_syntax.specs.Tree.{operands_of, tails_of};
 ghost use Rattle.meson_syntax.specs.View.{expr_view, list_view, operands_view, tail_view, tails_view};
 ghost use Rattle.meson_syntax.specs.declared.operator.Bracket.TheVariants as bracket;

@@ -1,6 +1,6 @@
 //! What the sources of a target hold, where variables are followed.
 
-ghost use Rattle.std.specs.Prelude.{◌≡◌, ◌++◌, IfOk, map, option_map};
+ghost use Rattle.std.specs.Prelude.{◌≡◌, IfOk, map, option_map};
 ghost use Rattle.meson_syntax.specs.View.{list_view};
 ghost use Rattle.meson_calls.specs.CallPlaces.{call_at};
 ghost use Rattle.meson_calls.specs.ChosenNotes.{Source, placed_call};

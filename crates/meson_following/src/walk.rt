@@ -1,23 +1,21 @@
 //! The walk through a project in the order of evaluation, for a question about one variable.
 
-ghost use Rattle.std.specs.Prelude.{◌≡◌, ◌∷◌, ◌++◌, [], IfOk, OnOk, bytes_eq, map, string_bytes};
-ghost use Rattle.std.specs.List.{cons_option, list_any};
+ghost use Rattle.std.specs.Prelude.{◌≡◌, ◌∷◌, ◌++◌, [], IfOk, OnOk, bytes_eq, map};
+ghost use Rattle.std.specs.List.{list_any};
 ghost use Rattle.meson_lex.specs.declared.kinds.Span.{Span};
 ghost use Rattle.meson_syntax.specs.Grammar.{expression_words, listing_words};
 ghost use Rattle.meson_syntax.specs.Tree as tree;
 ghost use Rattle.meson_syntax.specs.View.{expr_view, list_view, name_at, text_at};
 ghost use Rattle.meson_syntax.specs.declared.operator.Bracket.TheVariants as bracket;
-ghost use Rattle.meson_calls.specs.Calls.{first_argument};
-ghost use Rattle.meson_calls.specs.ChosenNotes.{Source, call_with};
+ghost use Rattle.meson_calls.specs.ChosenNotes.{call_with};
 ghost use Rattle.meson_calls.specs.Project.{child, place, place_at, placed};
 ghost use Rattle.meson_calls.specs.GoodLists.{GoodListing};
 ghost use Rattle.meson_calls.specs.Strings.{AreGood};
-ghost use Rattle.meson_calls.specs.Loading.{IsProject, loaded_from};
 ghost use Rattle.meson_following.specs.declared.walk.Trail.{Trail};
-ghost use Rattle.meson_following.specs.Walks.{AreRead, MayWalk, Walks, arguments_flow, call_effect, walked_file};
-ghost use Rattle.meson_following.specs.Walks.{expression_flow, found_view, here, met_unless, nothing_found, project_of, reads_seen, statement_flow};
+ghost use Rattle.meson_following.specs.Walks.{AreRead, MayWalk, Walks, arguments_flow, call_effect};
+ghost use Rattle.meson_following.specs.Walks.{expression_flow, found_view, here, met_unless, nothing_found, reads_seen, statement_flow};
 ghost use Rattle.meson_following.specs.CodeMakers.{known_view, maker_view};
-ghost use Rattle.meson_following.specs.Effects.{by_fit, entering_by, entering_each, entering_literal, is_name, number_of, numbers_of};
+ghost use Rattle.meson_following.specs.Effects.{by_fit};
 ghost use Rattle.meson_following.specs.Flows.{assigned_if, is_in, joined_if, maker};
 ghost use Rattle.meson_following.specs.Following.{one_of_places};
 ghost use Rattle.meson_following.specs.Reads.{has_one_of};
@@ -27,17 +25,12 @@ use crate::flows::Flow;
 use crate::makers::{Known, Maker, assign, copy_known, is_one_of, join};
 use crate::names::{Fit, fit_of};
 use crate::reads::Reader;
-use meson_calls::arguments::count_named;
+use meson_calls::CallRef;
 use meson_calls::call::BorrowedPlace;
-use meson_calls::entering::file_as;
-use meson_calls::literals::first_literal;
 use meson_calls::place::place_of;
-use meson_calls::roles::{first_argument, text_of};
-use meson_calls::{CallRef, Reading};
-use meson_entering::entering::SubdirCall;
-use meson_entering::{SourceFile, files_meant};
+use meson_calls::roles::text_of;
 use meson_lex::Span;
-use meson_splice::{FileSet, Many};
+use meson_splice::FileSet;
 use meson_syntax::{Assignment, Expr, List, Parsed};
 use std::alloc::{AllocError, Global};
 use std::mem;
@@ -120,15 +113,8 @@ fn by_fit(surely: Effect, fit: Fit) -> Effect
     }
 }
 
-/// Whether an expression is a name.
-fn is_name(expr: &Expr) -> bool
-    ensures { (source : Source) → result ≡ is_name (expr_view source expr.now) }
-{
-    matches!(expr, Expr::Identifier(_))
-}
-
 /// Whether the expression at a path of a file is the one at the place or around it.
-fn is_in(wanted: BorrowedPlace<'_>, file: usize, path: &[usize]) -> bool
+pub(crate) fn is_in(wanted: BorrowedPlace<'_>, file: usize, path: &[usize]) -> bool
     ensures { result ≡ is_in (place_at wanted.entry) (place file path.now) }
 {
     wanted.file == file && wanted.path.starts_with(path)
@@ -156,98 +142,7 @@ fn has_one_of(places: &[CallRef], known: &Known<'_>) -> bool
     }
 }
 
-impl Question<'_> {
-    /// Adds the number of the file of this name, if there is such a file.
-    fn add_number(&self, name: &str, numbers: &mut Vec<usize>) -> Result<(), AllocError>
-        requires { IsProject (loaded_from self.now.files.now self.now.trees.now) }
-        ensures { OnOk result (numbers.new.items ≡ numbers.old.items ++ cons_option (number_of (project_of self.now) name.now) []) }
-    {
-        let Some(file) = self.files.find(name) else {
-            return Ok(());
-        };
-        numbers.push(file)?;
-        Ok(())
-    }
-
-    /// The numbers of the files of these names, as far as there are such files.
-    fn numbers_of(&self, names: &[String]) -> Result<Vec<usize>, AllocError>
-        requires { IsProject (loaded_from self.now.files.now self.now.trees.now) }
-        ensures { IfOk result (λ numbers. numbers.items ≡ numbers_of (project_of self.now) (map string_bytes names.now)) }
-    {
-        let mut numbers = Vec::new(self.alloc);
-        for i in 0..names.len() {
-            self.add_number(names[i].as_str(), &mut numbers)?;
-        }
-        Ok(numbers)
-    }
-}
-
 impl<'t> Walk<'t> {
-    /// What a `subdir` call does whose first argument is no name.
-    fn entering_literal(&self, arguments: &List) -> Result<Effect, AllocError>
-        requires walks { MayWalk self.now }
-        requires good { AreGood (listing_words (list_view self.now.source.now arguments.now) bracket.Round) }
-        ensures { (f : Source) → IfOk result (λ e. e
-            ≡ entering_literal (project_of self.now.question) (walked_file self.now) (call_with f (list_view self.now.source.now arguments.now))) }
-    {
-        let alloc = self.question.alloc;
-        let Some(folder) = first_literal(alloc, self.source, arguments)? else {
-            return Ok(Effect::MaySet);
-        };
-        let Some(name) = file_as(alloc, Reading::Followed, self.name, folder.as_str())? else {
-            return Ok(Effect::MaySet);
-        };
-        match self.question.files.find(name.as_str()) {
-            Some(file) => Ok(Effect::Enters {
-                file,
-                condition: count_named(self.source, arguments.items.get(), b"if_found") > 0,
-            }),
-            None => Ok(Effect::MaySet),
-        }
-    }
-
-    /// What a `subdir` call does whose first argument is a name, at the path of its statement: it may enter each file that a loop around it is known to mean.
-    fn entering_each(&self, path: &[usize], arguments: &List) -> Result<Effect, AllocError>
-        requires walks { MayWalk self.now }
-        requires good { AreGood (listing_words (list_view self.now.source.now arguments.now) bracket.Round) }
-        ensures { (f : Source) → IfOk result (λ e. e ≡ entering_each (project_of self.now.question) (walked_file self.now)
-            (placed (child (place self.now.file path.now) 0) (call_with f (list_view self.now.source.now arguments.now)))) }
-    {
-        let alloc = self.question.alloc;
-        let mut steps = Vec::from_slice(alloc, path)?;
-        steps.push(0)?;
-        let file = SourceFile {
-            name: self.name,
-            source: self.source,
-            tree: self.tree,
-        };
-        let call = SubdirCall {
-            source: self.source,
-            path: steps.as_slice(),
-            arguments,
-        };
-        let names = files_meant(alloc, Reading::Followed, file, call)?;
-        let numbers = self.question.numbers_of(names.as_slice())?;
-        Ok(Effect::MayEnter(Many::of(numbers)))
-    }
-
-    /// What a `subdir` call does, at the path of its statement.
-    fn entering(&self, path: &[usize], arguments: &List) -> Result<Effect, AllocError>
-        requires walks { MayWalk self.now }
-        requires good { AreGood (listing_words (list_view self.now.source.now arguments.now) bracket.Round) }
-        ensures { (f : Source) → let c = call_with f (list_view self.now.source.now arguments.now) in IfOk result (λ e. e
-            ≡ entering_by (project_of self.now.question) (walked_file self.now) (placed (child (place self.now.file path.now) 0) c) (first_argument c)) }
-    {
-        let Some(argument) = first_argument(arguments) else {
-            return self.entering_literal(arguments);
-        };
-        if is_name(argument) {
-            self.entering_each(path, arguments)
-        } else {
-            self.entering_literal(arguments)
-        }
-    }
-
     /// What a call does that is a statement, at the path of this statement.
     pub(crate) fn effect(
         &self,

@@ -1,29 +1,28 @@
 //! The walk through the statements of the files of a project, in the order of evaluation.
 
-ghost use Rattle.std.specs.Prelude.{◌≡◌, ◌*◌, ◌<◌, ◌^◌, IfOk, OnOk};
+ghost use Rattle.std.specs.Prelude.{◌≡◌, ◌*◌, ◌<◌, ◌^◌, IfOk};
 ghost use Rattle.meson_lex.specs.declared.kinds.Kind.TheVariants.{WordIf};
 ghost use Rattle.meson_syntax.specs.Grammar.{block_words, branches_words, expression_words, otherwise_words, statement_words};
 ghost use Rattle.meson_syntax.specs.Tree.{branches_of};
 ghost use Rattle.meson_syntax.specs.Tree as tree;
 ghost use Rattle.meson_following.specs.declared.walk.Trail.{Trail};
 ghost use Rattle.meson_lex.specs.declared.kinds.Span.{Span};
-ghost use Rattle.meson_syntax.specs.View.{block_view, branch_view, branches_view, expr_view, names_at, stmt_view};
+ghost use Rattle.meson_syntax.specs.View.{block_view, branch_view, branches_view, expr_view, stmt_view};
 ghost use Rattle.meson_calls.specs.Loading.{IsProject, loaded_from};
 ghost use Rattle.meson_calls.specs.Project.{child};
 ghost use Rattle.meson_calls.specs.inside.Walks.{else_view};
-ghost use Rattle.meson_variables.specs.Variables.{one_of_names};
 ghost use Rattle.meson_following.specs.CodeMakers.{known_view};
 ghost use Rattle.meson_following.specs.Flows.{Choice, going_on};
-ghost use Rattle.meson_following.specs.Walks.{AreRead, Chooses, FlowsAs, MayWalk, Walks, answer, asking, met_unless, block_flow, branch_chosen, each_flow, effect_flow, entered_flow, evaluated_flow, file_flow, found_view, here, loop_flow, selection_flow, statement_flow, turn_flow};
+ghost use Rattle.meson_following.specs.Walks.{AreRead, Chooses, FlowsAs, MayWalk, Walks, answer, block_flow, branch_chosen, each_flow, effect_flow, entered_flow, evaluated_flow, file_flow, found_view, here, selection_flow, statement_flow};
 
 use crate::effects::Effect;
 use crate::flows::{Chosen, Flow};
 use crate::makers::{Known, Made, copy_known, touch};
+use crate::passing::WordSearches;
 use crate::walk::{Found, Question, Trail, Walk};
 use meson_lex::Span;
 use meson_syntax::{Block, Branch, Expr, Stmt};
-use meson_variables::setters::one_of;
-use std::alloc::{AllocError, Global};
+use std::alloc::AllocError;
 
 impl<'t> Question<'t> {
     /// What is found in the project, in whichever of the ways its expressions are reached.
@@ -73,13 +72,36 @@ impl<'t> Question<'t> {
             path: Vec::new(self.alloc),
             found: found.take(self.alloc),
         };
-        let flow = walk.in_block(&tree.block, now, &mut trail)?;
+        let flow = walk.in_tree(now, &mut trail)?;
         *found = trail.found.take(self.alloc);
         Ok(flow)
     }
 }
 
 impl<'t> Walk<'t> {
+    /// The flow through the file. Statements in which nothing matters to the variable are passed over.
+    #[cycle(evaluation)]
+    fn in_tree(&self, now: Known<'t>, trail: &mut Trail<'t>) -> Result<Flow<'t>, AllocError>
+        requires walks { MayWalk self.now }
+        requires good { AreRead (block_words (block_view self.now.source.now self.now.tree.now.block)) }
+        ensures { IfOk result (λ f. Walks self.now trail.old trail.new f
+            (block_flow self.now (here self.now trail.old) (block_view self.now.source.now self.now.tree.now.block) (known_view now.entry))) }
+    {
+        let stmts = self.tree.block.statements.get();
+        let mut searches = WordSearches::new(self.question.variable);
+        let mut flow = Flow::going_on(now);
+        for i in 0..stmts.len() {
+            let path = &mut trail.path;
+            if self.may_pass(&mut searches, i, &stmts[i], &flow.now, path)? {
+                continue;
+            }
+            let now = flow.now.take();
+            let next = self.in_nth(i, &stmts[i], now, trail)?;
+            flow = Flow::then(self.question.alloc, flow, next)?;
+        }
+        Ok(flow)
+    }
+
     /// The flow through the block at the path.
     #[cycle(evaluation)]
     fn in_block(
@@ -105,7 +127,7 @@ impl<'t> Walk<'t> {
 
     /// The flow through the block that is the n-th child.
     #[cycle(evaluation)]
-    fn in_child(
+    pub(crate) fn in_child(
         &self,
         number: usize,
         block: &'t Block,
@@ -275,107 +297,6 @@ impl<'t> Walk<'t> {
             .question
             .in_file(self.left, self.quiet, file, now, &mut trail.found)?;
         Flow::entered(alloc, skipped, flow)
-    }
-
-    /// The flow through a loop.
-    #[cycle(evaluation)]
-    fn in_iteration(
-        &self,
-        names: &[Span],
-        items: &'t Expr,
-        body: &'t Block,
-        now: Known<'t>,
-        trail: &mut Trail<'t>,
-    ) -> Result<Flow<'t>, AllocError>
-        requires walks { MayWalk self.now }
-        requires items { AreRead (expression_words (expr_view self.now.source.now items.now)) }
-        requires body { AreRead (block_words (block_view self.now.source.now body.now)) }
-        ensures { (s : Span) → let source = self.now.source.now in
-            let loop = tree.iteration s (names_at source names.now) (expr_view source items.now) (block_view source body.now) in
-            IfOk result (λ f. Walks self.now trail.old trail.new f (statement_flow self.now (here self.now trail.old) loop (known_view now.entry))) }
-    {
-        let mut flow = self.in_expr(0, items, now, trail)?;
-        let now = flow.now.take();
-        let sets = one_of(self.source, names, self.question.variable);
-        let next = self.in_loop(sets, body, now, trail)?;
-        Flow::then(self.question.alloc, flow, next)
-    }
-
-    /// The flow through the turns of a loop. A first one, in which nothing is asked, says what is known before each.
-    #[cycle(evaluation)]
-    fn in_loop(
-        &self,
-        sets: bool,
-        body: &'t Block,
-        now: Known<'t>,
-        trail: &mut Trail<'t>,
-    ) -> Result<Flow<'t>, AllocError>
-        requires walks { MayWalk self.now }
-        requires good { AreRead (block_words (block_view self.now.source.now body.now)) }
-        ensures { IfOk result (λ f. Walks self.now trail.old trail.new f
-            (loop_flow self.now (here self.now trail.old) sets (block_view self.now.source.now body.now) (known_view now.entry))) }
-    {
-        let alloc = self.question.alloc;
-        let first = copy_known(alloc, &now)?;
-        let once = self.in_turn(true, sets, body, first, trail)?;
-        let before = once.around(alloc, now)?;
-        self.ask_in_turn(sets, body, &before, trail)?;
-        Flow::looped(alloc, before, once)
-    }
-
-    /// Asks in a turn of a loop before which this is known, unless nothing is asked.
-    #[cycle(evaluation)]
-    fn ask_in_turn(
-        &self,
-        sets: bool,
-        body: &'t Block,
-        before: &Known<'t>,
-        trail: &mut Trail<'t>,
-    ) -> Result<(), AllocError>
-        requires walks { MayWalk self.now }
-        requires good { AreRead (block_words (block_view self.now.source.now body.now)) }
-        ensures back { OnOk result (trail.new.path.items ≡ trail.old.path.items) }
-        ensures found { OnOk result (found_view trail.new.found ≡ met_unless self.now.quiet self.now.question (found_view trail.old.found)
-            (turn_flow self.now (here self.now trail.old) sets (block_view self.now.source.now body.now) (known_view before.now)).arrivals) }
-    {
-        if self.quiet {
-            return Ok(());
-        }
-        let now = copy_known(self.question.alloc, before)?;
-        self.in_turn(false, sets, body, now, trail)?;
-        Ok(())
-    }
-
-    /// The flow through a turn of a loop, of which a name may be the variable.
-    #[cycle(evaluation)]
-    fn in_turn(
-        &self,
-        quiet: bool,
-        sets: bool,
-        body: &'t Block,
-        now: Known<'t>,
-        trail: &mut Trail<'t>,
-    ) -> Result<Flow<'t>, AllocError>
-        requires walks { MayWalk self.now }
-        requires good { AreRead (block_words (block_view self.now.source.now body.now)) }
-        ensures { IfOk result (λ f. Walks (asking self.now quiet) trail.old trail.new f
-            (turn_flow self.now (here self.now trail.old) sets (block_view self.now.source.now body.now) (known_view now.entry))) }
-    {
-        let now = if sets {
-            Some(Made::unknown(self.question.alloc))
-        } else {
-            now
-        };
-        let walk = Walk {
-            question: self.question,
-            file: self.file,
-            name: self.name,
-            source: self.source,
-            tree: self.tree,
-            left: self.left,
-            quiet,
-        };
-        walk.in_child(1, body, now, trail)
     }
 
     /// The flow through conditions, the blocks that they lead to, and the block after `else`.

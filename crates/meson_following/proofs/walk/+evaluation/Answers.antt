@@ -20,8 +20,10 @@ use Rattle.meson_following.specs.declared.walk.Trail.{Trail}
 use Rattle.meson_following.specs.CodeMakers.{known_view}
 use Rattle.meson_following.specs.Flows.{going_on, no_branch}
 use Rattle.meson_following.specs.Makers.{touched}
-use Rattle.meson_following.specs.Walks.{AreRead, Chooses, Walks, arguments_flow, branch_chosen, call_effect, each_flow, effect_flow, entered_flow, evaluated_flow, file_flow, found_view, here, otherwise_flow, project_of, statement_flow}
+use Rattle.meson_following.specs.Passing.{MayPass}
+use Rattle.meson_following.specs.Walks.{AreRead, Chooses, Walks, arguments_flow, branch_chosen, call_effect, effect_flow, entered_flow, evaluated_flow, file_flow, found_view, here, otherwise_flow, project_of, statement_flow}
 use Rattle.meson_following.proofs.Measures.{all_words, file_step, inner_step, lower_step}
+use Rattle.meson_following.proofs.PassedTurns.{passed_over, still_here}
 use Rattle.meson_following.proofs.ReadFiles.{block_read, block_within, file_named, file_walked, no_file_left, past_files, spanned_by, within_files}
 use Rattle.meson_following.proofs.ReadParts.{assigned_is, body_less, body_read, branch_good, branch_less, branches_long, branches_read, evaluated_is, else_read, items_read, last_read, selection_within, stmt_read, stmt_within}
 use Rattle.meson_following.proofs.Steps.{alone, moved}
@@ -51,6 +53,64 @@ pub Question::in_file-bytes-requires : goal.Question::in_file-bytes-requires
 Question::in_file-bytes-requires t c =
     let e = c.if-file-self.false in
     within_files c.args.self.now c.args.file (omega (arith, e)) c.requires
+
+-- ---- the statements of a file
+
+pub Walk::in_tree-loop-i-init : goal.Walk::in_tree-loop-i-init
+Walk::in_tree-loop-i-init t c =
+    let w = c.args.self.now in (
+      record {
+        meant = going_on (known_view c.args.now);
+        walks = nothing_walked w c.args.trail.now c.going_on-flow.result (going_on (known_view c.args.now)) c.going_on-flow.ensures;
+        rest = refl;
+      },
+      c.new-searches.ensures.searches w.source.now,
+      c.new-searches.ensures.variable,
+    )
+
+pub Walk::in_tree-in_nth-requires : goal.Walk::in_tree-in_nth-requires
+Walk::in_tree-in_nth-requires t c =
+    let w = c.args.self.now in
+    let words : Stmt → ℕ = λ x. length (statement_words (stmt_view w.source.now x)) in
+    let block = w.tree.now.block in
+    let less = stmt_within w.source.now block c.get-stmts.result.now c.get-stmts.ensures c.loop-i.i c.index-stmts-i-in-loop-i.result c.loop-i-test.true in (
+      lower_step w.left (all_words (project_of w.question)) _ (length (block_words (block_view w.source.now block))) 5 6 t (subst (λ x. words x ≤ length (block_words (block_view w.source.now block))) (sym c.index-stmts-i-in-loop-i.is) less) (omega arith) (sym c.decreases),
+      (
+        c.requires.walks,
+        subst (λ x. AreRead (statement_words (stmt_view w.source.now x))) (sym c.index-stmts-i-in-loop-i.is)
+            (stmt_read w.source.now block c.get-stmts.result.now c.get-stmts.ensures c.loop-i.i c.index-stmts-i-in-loop-i.result c.loop-i-test.true c.requires.good),
+      ),
+    )
+
+pub Walk::in_tree-loop-i-preserved-then-branch : goal.Walk::in_tree-loop-i-preserved-then-branch
+Walk::in_tree-loop-i-preserved-then-branch t c =
+    let w = c.args.self.now in
+    let may = c.in_ok-may_pass.ensures.passes c.if-branch.true c.loop-i.invariant.2 in (
+      passed_over w c.args.trail.now c.loop-i.trail _ c.loop-i.flow (known_view c.args.now) c.get-stmts.result.now c.loop-i.i c.index-stmts-i.result c.loop-i.invariant.0 c.requires.walks
+          c.get-stmts.ensures c.loop-i-test.true
+          (subst (λ x. MayPass w (child (here w c.loop-i.trail) c.loop-i.i) (stmt_view w.source.now x) (known_view c.loop-i.flow.now)) c.index-stmts-i.is may)
+          c.in_ok-may_pass.ensures.back refl,
+      c.in_ok-may_pass.ensures.passed,
+      c.in_ok-may_pass.ensures.same ∙ c.loop-i.invariant.2,
+    )
+
+pub Walk::in_tree-loop-i-preserved : goal.Walk::in_tree-loop-i-preserved
+Walk::in_tree-loop-i-preserved t c =
+    let w = c.args.self.now in
+    let middle : Trail = record { path = c.may_pass.new.path; found = c.loop-i.trail.found } in
+    let turn = still_here w c.args.trail.now c.loop-i.trail middle c.loop-i.flow (known_view c.args.now) c.get-stmts.result.now c.loop-i.i c.loop-i.invariant.0 c.in_ok-may_pass.ensures.back refl in (
+      block_turn w c.args.trail.now middle c.in_nth.new.trail c.loop-i.flow c.in_ok-next.next c.in_ok-flow.flow (known_view c.args.now) c.get-stmts.result.now c.loop-i.i c.index-stmts-i-in-loop-i.result turn c.loop-i-test.true
+          (subst (λ x. Walks w middle c.in_nth.new.trail c.in_ok-next.next (statement_flow w (child (here w middle) c.loop-i.i) (stmt_view w.source.now x) (known_view c.loop-i.flow.now))) c.index-stmts-i-in-loop-i.is
+          (subst (λ k. Walks w middle c.in_nth.new.trail c.in_ok-next.next (statement_flow w (child (here w middle) c.loop-i.i) (stmt_view w.source.now c.index-stmts-i-in-loop-i.result) (known_view k))) c.take-now.ensures.value c.in_ok-next.ensures))
+          c.in_ok-flow.ensures,
+      c.in_ok-may_pass.ensures.passed,
+      c.in_ok-may_pass.ensures.same ∙ c.loop-i.invariant.2,
+    )
+
+pub Walk::in_tree-returns : goal.Walk::in_tree-returns
+Walk::in_tree-returns t c =
+    let w = c.args.self.now in
+    block_ended w c.args.trail.now c.loop-i.trail c.loop-i.flow (known_view c.args.now) w.tree.now.block c.get-stmts.result.now c.loop-i.i c.get-stmts.ensures (let e = c.loop-i-test.false in omega (arith, e)) c.loop-i.invariant.0
 
 -- ---- a block
 
@@ -183,8 +243,8 @@ Walk::in_turn-in_child-requires t c =
 
 -- ---- the block of a file
 
-pub Question::in_file-in_block-requires : goal.Question::in_file-in_block-requires
-Question::in_file-in_block-requires t c =
+pub Question::in_file-in_tree-requires : goal.Question::in_file-in_tree-requires
+Question::in_file-in_tree-requires t c =
     let q = c.args.self.now in
     let e = c.if-file-self.false in
     let z = c.if-left-eq0.false in

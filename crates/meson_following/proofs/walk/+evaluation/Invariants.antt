@@ -1,10 +1,11 @@
-use Rattle.std.proofs.Common.{suc, ◌+◌, length}
+use Rattle.std.proofs.Common.{◌≡◌, suc, ◌+◌, length}
 use Rattle.meson_lex.specs.declared.kinds.Kind.TheVariants.{WordIf}
 use Rattle.meson_syntax.specs.Grammar.{block_words, branches_words, expression_words, otherwise_words, statement_words}
 use Rattle.meson_syntax.specs.Tree.{branches_of}
 use Rattle.meson_syntax.specs.View.{block_view, branch_view, branches_view, expr_view, stmt_view}
 use Rattle.meson_calls.specs.inside.Walks.{else_view}
 use Rattle.meson_following.specs.CodeMakers.{known_view}
+use Rattle.meson_following.specs.Passing.{AreSearches}
 use Rattle.meson_following.specs.Walks.{project_of}
 use Rattle.meson_following.proofs.Measures.{all_words, measure}
 use Rattle.meson_following.proofs.Turns.{BlockTurn, EachTurn, SelectionTurn}
@@ -54,6 +55,14 @@ decreases-Walk::in_selection l = measure l.self.now.left (all_words (project_of 
 
 abbrev pub decreases-Walk::in_branch : goal.decreases-Walk::in_branch
 decreases-Walk::in_branch l = measure l.self.now.left (all_words (project_of l.self.now.question)) (suc (length (block_words (branch_view l.self.now.source.now l.branch.now).1))) 0
+
+abbrev pub decreases-Walk::in_tree : goal.decreases-Walk::in_tree
+decreases-Walk::in_tree l = measure l.self.now.left (all_words (project_of l.self.now.question)) (length (block_words (block_view l.self.now.source.now l.self.now.tree.now.block))) 6
+
+abbrev pub invariant-Walk::in_tree-loop-i : goal.invariant-Walk::in_tree-loop-i
+invariant-Walk::in_tree-loop-i l =
+    BlockTurn l.self l.fn.trail l.trail l.flow (known_view l.fn.now) l.stmts l.i
+    × AreSearches l.self.source.now l.searches × (l.searches.variable.word ≡ l.self.question.variable.now)
 
 abbrev pub invariant-Walk::in_block-loop-i : goal.invariant-Walk::in_block-loop-i
 invariant-Walk::in_block-loop-i l = BlockTurn l.self l.fn.trail l.trail l.flow (known_view l.fn.now) l.stmts l.i
