@@ -1,9 +1,10 @@
 pub mod WayTurns
 pub mod TakerLists
 pub mod OwnMakers
-mod FirstNames
+mod ChosenNames
 pub mod ToldTargets
 pub mod Sharing
+mod AssignedValues
 pub mod ApartReads
 pub mod UseTurns
 pub mod UsesAround

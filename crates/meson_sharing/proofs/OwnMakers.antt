@@ -1,42 +1,36 @@
 -- The makers that are made of one, and the names of their variables.
-use Rattle.std.proofs.Common.{◌≡◌, ℕ, zero, suc, ◌+◌, ◌-◌, ◌<◌, List, [], ◌∷◌, ◌++◌, length, drop, flat_map, get_or, map, refl, sym, ap, ◌∙◌, append-nil, arith}
-use Rattle.std.specs.Prelude.{Bool, Option, Some, None, option_map}
+use Rattle.std.proofs.Common.{◌≡◌, ℕ, zero, suc, ◌+◌, ◌-◌, ◌<◌, List, [], ◌∷◌, ◌++◌, length, drop, flat_map, get_or, map, Bor, refl, sym, ap, ◌∙◌, append-nil, arith}
+use Rattle.std.specs.Prelude.{◌||◌, Bool, true, false, bytes_eq, if◌then◌else◌, Option, Some, None, reverse}
 use Rattle.std.specs.List.{cons_option, filter_map}
 use Rattle.meson_lex.specs.declared.kinds.Span.{Span}
-use Rattle.meson_syntax.specs.Tree.{evaluate, assign, selection, iteration, breaks, continues}
 use Rattle.meson_calls.specs.declared.call.CallRef.{CallRef}
-use Rattle.meson_calls.specs.Calls.{Call, call_of}
-use Rattle.meson_calls.specs.Notes.{Note, a_call, noted}
-use Rattle.meson_calls.specs.Parts.{Part, an_expression, a_statement}
-use Rattle.meson_calls.specs.Project.{Placed, Project, placed}
-use Rattle.meson_sharing.specs.CodeOwning.{is_closed_by, is_closed_for, name_of_note}
-use Rattle.meson_sharing.specs.Sharing.{name_of_part, reads_of, takers_of, ways_of_target, with_takers_of_takers}
+use Rattle.meson_calls.specs.Calls.{Call}
+use Rattle.meson_calls.specs.Project.{Placed, Project}
+use Rattle.meson_calls.specs.Roles.{one_of}
+use Rattle.meson_calls.specs.Setters.{is_among}
+use Rattle.meson_steps.specs.Names.{distinct_by}
+use Rattle.meson_steps.proofs.Distincts.{distinct_more, distinct_same}
+use Rattle.meson_sharing.specs.CodeOwning.{is_closed_by, is_closed_for, with_name}
+use Rattle.meson_sharing.specs.Sharing.{reads_of, takers_of, ways_of_target, with_takers_of_takers}
 use Rattle.meson_following.specs.Following.{follow_call}
 use Rattle.meson_following.proofs.TakenTurns.{taken_turn}
 
 -- ---- names
 
-module _ (ms : List CallRef) where
-  abbrev named_in : List (Placed (Part Span)) → List (List ℕ)
-  named_in ps = filter_map (name_of_note ms) (noted ps)
+pub among_names : (names : List (Bor (List ℕ))) (x : List ℕ) → is_among names x ≡ one_of (map (λ n. n.now) names) x
+among_names [] x = refl
+among_names (n ∷ names) x = ap (λ b. bytes_eq n.now x || b) (among_names names x)
 
-  call_has_none : (q : CallRef) (c : Option (Call Span)) (ns : List (Placed (Note Span)))
-      → filter_map (name_of_note ms) (cons_option (option_map (placed q) (option_map a_call c)) ns) ≡ filter_map (name_of_note ms) ns
-  call_has_none q None ns = refl
-  call_has_none q (Some c) ns = refl
-
-  pub notes_name : (ps : List (Placed (Part Span))) → named_in ps ≡ filter_map (name_of_part ms) ps
-  notes_name [] = refl
-  notes_name (q ∷ ps) = go q.it (notes_name ps)
-    where
-      go : (part : Part Span) → named_in ps ≡ filter_map (name_of_part ms) ps → named_in (placed q.place part ∷ ps) ≡ filter_map (name_of_part ms) (placed q.place part ∷ ps)
-      go (an_expression e) more = call_has_none q.place (call_of e) (noted ps) ∙ more
-      go (a_statement (evaluate e)) more = more
-      go (a_statement (assign s x a e)) more = ap (cons_option (name_of_part ms (placed q.place (a_statement (assign s x a e))))) more
-      go (a_statement (selection s bs o)) more = more
-      go (a_statement (iteration s xs e b)) more = more
-      go (a_statement (breaks s)) more = more
-      go (a_statement (continues s)) more = more
+-- a name that is kept once
+pub kept_once : (names : List (List ℕ)) (o : Option (List ℕ)) (rest : List (List ℕ))
+    → with_name names o ++ distinct_by (reverse (with_name names o)) rest ≡ names ++ distinct_by (reverse names) (cons_option o rest)
+kept_once names None rest = refl
+kept_once names (Some x) rest = go (one_of names x) refl
+  where
+    go : (b : Bool) → one_of names x ≡ b → (if b then names else names ++ x ∷ []) ++ distinct_by (reverse (if b then names else names ++ x ∷ [])) rest
+        ≡ names ++ distinct_by (reverse names) (x ∷ rest)
+    go true met = distinct_same (x ∷ rest) 0 x (omega arith) names met
+    go false new = distinct_more (x ∷ rest) 0 x (omega arith) names new
 
 -- ---- makers
 

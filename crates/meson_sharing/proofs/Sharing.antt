@@ -3,23 +3,24 @@ use Rattle.std.proofs.Common.{◌≡◌, inl, inr, ℕ, List, [], ◌∷◌, len
 use Rattle.std.specs.Prelude.{slice_index_or, ◌==◌, Bool, true, false, not, ◌&&◌, ◌||◌, zero, suc, filter, flat_map, bytes_eq, if◌then◌else◌, Option, Some, None}
 use Rattle.std.specs.List.{All, Any, Contains, cons_option, filter_map, list_all, list_any}
 use Rattle.std.proofs.lemmas.Bool.{and_from, and_parts, eq-eqb, eqb-true, false≢true, or_cases, or_left, or_right}
-use Rattle.std.proofs.lemmas.List.Elements.{All-append, All-contains, All-contains_itself, All-filter, All-head, All-map, All-nil, All-tail, All-weaker, All-cons, Contains-append_left, Contains-append_right, filter_passes}
+use Rattle.std.proofs.lemmas.List.Elements.{All-append, All-contains, All-contains_itself, All-filter, All-head, All-map, All-nil, All-tail, All-weaker, All-cons, Contains-append_left, filter_passes}
 use Rattle.std.proofs.lemmas.List.Folds.{Any-from_list_any, list_all-append, list_any-from_Any}
 use Rattle.std.proofs.lemmas.List.Sums.{AllPass-from_list_all}
 use Rattle.std.proofs.lemmas.Slice.Eq.{bytes_eq-Decides}
 use Rattle.meson_lex.specs.declared.kinds.Span.{Span}
 use Rattle.meson_syntax.proofs.parsing.Steps.{some-injective}
-use Rattle.meson_syntax.specs.Tree.{Statement, evaluate, assign, selection, iteration, breaks, continues}
 use Rattle.meson_calls.specs.declared.call.CallRef.{CallRef}
 use Rattle.meson_calls.specs.Calls.{Call}
-use Rattle.meson_calls.specs.Parts.{Part, an_expression, a_statement, parts}
-use Rattle.meson_calls.specs.Project.{Project, Placed, child, place}
+use Rattle.meson_calls.specs.Project.{Project, Placed, place}
 use Rattle.meson_calls.specs.Roles.{places}
 use Rattle.meson_following.specs.Following.{follow_call, one_of_places}
+use Rattle.meson_steps.specs.Names.{distinct}
+use Rattle.meson_steps.proofs.Distincts.{All-distinct}
 use Rattle.meson_sharing.specs.Laws.{MadeOf, itself, further, is_kept, is_left_out, MaySee, ReadFor, by_the_call, by_one, ReadOrUsed, Spreads}
 use Rattle.meson_following.specs.Makers.{Known, Maker, is_same_place}
 use Rattle.meson_following.specs.Reads.{has_one_of, keeps_one_of, may_leave_out, reads, reads_of_variable, sees}
-use Rattle.meson_sharing.specs.Sharing.{from_maker, is_own, is_unshared, is_use, is_way, is_way_of_makers, name_of_part, name_of_statement, names_of, reads_of, takes_at, uses, ways_at, ways_of_target, with_takers, with_takers_of_takers}
+use Rattle.meson_sharing.specs.Sharing.{from_maker, is_own, is_unshared, is_use, is_way, is_way_of_makers, names_of, reads_of, takes_at, uses, variable_of, ways_at, ways_of_target, with_takers, with_takers_of_takers}
+use Rattle.meson_sharing.proofs.ChosenNames.{chosen_all, chosen_has, distinct_has}
 
 -- ---- places
 
@@ -28,7 +29,7 @@ same_place c d same =
     let both = and_parts (c.file == d.file) (bytes_eq c.path.steps d.path.steps) same in
     ap (λ n. place n c.path.steps) (eqb-true c.file d.file both.0) ∙ ap (place d.file) ((bytes_eq-Decides c.path.steps d.path.steps).0 both.1)
 
-itself_same : (c : CallRef) → is_same_place c c ≡ true
+pub itself_same : (c : CallRef) → is_same_place c c ≡ true
 itself_same c =
     and_from (c.file == c.file) (bytes_eq c.path.steps c.path.steps) (eq-eqb c.file c.file refl) ((bytes_eq-Decides c.path.steps c.path.steps).1 refl)
 
@@ -89,25 +90,6 @@ module _ {S : Type 0} (test : CallRef → Bool) (ms : List CallRef) (v : CallRef
       go false true more later all = later (and_parts (test r.place) (list_all test (places (filter (sees ms) rs))) all).1
       go false false more later all = later all
 
-  -- the variable to which a statement assigns it
-  name_of_those : (q : CallRef) (s : Statement S) (x : List ℕ) → name_of_statement (v ∷ []) q s ≡ Some x → name_of_statement ms q s ≡ Some x
-  name_of_those q (assign s y a e) x is = go (one_of_places (v ∷ []) (child q 0)) (one_of_places ms (child q 0)) (of_those ms v (child q 0) has) is
-    where
-      go : (b c : Bool) → (b ≡ true → c ≡ true) → (if b then Some y.text else None) ≡ Some x → (if c then Some y.text else None) ≡ Some x
-      go true true more is = is
-      go true false more is = absurd (false≢true (more refl))
-      go false c more is = absurd (let no : ⊥ = cc in no)
-  name_of_those q (evaluate e) x is = is
-  name_of_those q (selection s bs o) x is = is
-  name_of_those q (iteration s xs e b) x is = is
-  name_of_those q (breaks s) x is = is
-  name_of_those q (continues s) x is = is
-
-  part_of_those : (q : CallRef) (part : Part S) (x : List ℕ) → name_of_part (v ∷ []) (record { place = q; it = part }) ≡ Some x
-      → name_of_part ms (record { place = q; it = part }) ≡ Some x
-  part_of_those q (an_expression e) x is = is
-  part_of_those q (a_statement s) x is = name_of_those q s x is
-
 module _ {S : Type 0} (test : CallRef → Bool) (p : Project S) (ms : List CallRef) (v : CallRef) (has : Contains ms v) where
   -- of a first variable and of others
   parts_of_all : (x : List ℕ) (names : List (List ℕ)) → list_all test (flat_map (reads_of_variable p ms) (x ∷ names)) ≡ true
@@ -116,83 +98,43 @@ module _ {S : Type 0} (test : CallRef → Bool) (p : Project S) (ms : List CallR
       and_parts (list_all test (reads_of_variable p ms x)) (list_all test (flat_map (reads_of_variable p ms) names))
       (sym (list_all-append test (reads_of_variable p ms x) (flat_map (reads_of_variable p ms) names)) ∙ all)
 
-  names_of_those : (qs : List (Placed (Part S))) → list_all test (flat_map (reads_of_variable p ms) (filter_map (name_of_part ms) qs)) ≡ true
-      → list_all test (flat_map (reads_of_variable p (v ∷ [])) (filter_map (name_of_part (v ∷ [])) qs)) ≡ true
-  names_of_those [] all = all
-  names_of_those (q ∷ qs) all = go (name_of_part (v ∷ []) q) (name_of_part ms q) (part_of_those test ms v has q.place q.it) (names_of_those qs) all
-    where
-      go : (o w : Option (List ℕ)) → ((x : List ℕ) → o ≡ Some x → w ≡ Some x)
-          → (list_all test (flat_map (reads_of_variable p ms) (filter_map (name_of_part ms) qs)) ≡ true
-          → list_all test (flat_map (reads_of_variable p (v ∷ [])) (filter_map (name_of_part (v ∷ [])) qs)) ≡ true)
-          → list_all test (flat_map (reads_of_variable p ms) (cons_option w (filter_map (name_of_part ms) qs))) ≡ true
-          → list_all test (flat_map (reads_of_variable p (v ∷ [])) (cons_option o (filter_map (name_of_part (v ∷ [])) qs))) ≡ true
-      go None None more later all = later all
-      go None (Some y) more later all = later (parts_of_all y (filter_map (name_of_part ms) qs) all).1
-      go (Some x) None more later all = absurd (let is : None ≡ Some x = more x refl in let no : ⊥ = cc in no)
-      go (Some x) (Some y) more later all =
-          let both = parts_of_all y (filter_map (name_of_part ms) qs) all in
-          let of_x : list_all test (reads_of_variable p ms x) ≡ true =
-          subst (λ z. list_all test (reads_of_variable p ms z) ≡ true) (some-injective y x (more x refl)) both.0 in
-          let names = filter_map (name_of_part (v ∷ [])) qs in
-          list_all-append test (reads_of_variable p (v ∷ []) x) (flat_map (reads_of_variable p (v ∷ [])) names)
-          ∙ and_from (list_all test (reads_of_variable p (v ∷ []) x)) (list_all test (flat_map (reads_of_variable p (v ∷ [])) names))
-          (reads_of_those test ms v has (reads p x) of_x) (later both.1)
+  each_of_all : (names : List (List ℕ)) → list_all test (flat_map (reads_of_variable p ms) names) ≡ true → All (λ x. list_all test (reads_of_variable p ms x) ≡ true) names
+  each_of_all [] all = All-nil (λ x. list_all test (reads_of_variable p ms x) ≡ true)
+  each_of_all (x ∷ names) all =
+      let both = parts_of_all x names all in
+      All-cons (λ y. list_all test (reads_of_variable p ms y) ≡ true) x names both.0 (each_of_all names both.1)
+
+  reads_of_its : list_all test (reads_of p ms) ≡ true → (o : Option (List ℕ)) → variable_of p v ≡ o
+      → list_all test (flat_map (reads_of_variable p (v ∷ [])) (distinct (cons_option o []))) ≡ true
+  reads_of_its all None is = refl
+  reads_of_its all (Some x) is =
+      let there : Contains (names_of p ms) x = distinct_has (filter_map (variable_of p) ms) x (chosen_has (variable_of p) ms v x has is) in
+      let of_x : list_all test (reads_of_variable p ms x) ≡ true =
+      All-contains (λ y. list_all test (reads_of_variable p ms y) ≡ true) (names_of p ms) x (each_of_all (names_of p ms) all) there in
+      list_all-append test (reads_of_variable p (v ∷ []) x) []
+      ∙ and_from (list_all test (reads_of_variable p (v ∷ []) x)) true (reads_of_those test ms v has (reads p x) of_x) refl
 
 pub reads_of_fewer : {S : Type 0} (test : CallRef → Bool) (p : Project S) (ms : List CallRef) (v : CallRef) → Contains ms v
     → list_all test (reads_of p ms) ≡ true → list_all test (reads_of p (v ∷ [])) ≡ true
-reads_of_fewer test p ms v has all = names_of_those test p ms v has (parts p) all
+reads_of_fewer test p ms v has all = reads_of_its test p ms v has all (variable_of p v) refl
 
 -- ---- variables to which values are assigned
 
 -- the value of one of these is assigned to the variable
-abbrev AssignsOne : List (Placed (Part Span)) → List CallRef → List ℕ → Type 0
-AssignsOne qs ms x = (u : CallRef) × Contains ms u × Contains (filter_map (name_of_part (u ∷ [])) qs) x
+abbrev AssignsOne : Project Span → List CallRef → List ℕ → Type 0
+AssignsOne p ms x = (u : CallRef) × Contains ms u × Contains (names_of p (u ∷ [])) x
 
-module _ (ms : List CallRef) where
-  -- by a statement
-  name_by_one : (q : CallRef) (s : Statement Span) (x : List ℕ) → name_of_statement ms q s ≡ Some x
-      → (u : CallRef) × Contains ms u × (name_of_statement (u ∷ []) q s ≡ Some x)
-  name_by_one q (assign s y a e) x is = go (one_of_places ms (child q 0)) refl is
-    where
-      go : (b : Bool) → one_of_places ms (child q 0) ≡ b → (if b then Some y.text else None) ≡ Some x
-          → (u : CallRef) × Contains ms u × (name_of_statement (u ∷ []) q (assign s y a e) ≡ Some x)
-      go true holds is =
-          let here : one_of_places (child q 0 ∷ []) (child q 0) ≡ true = or_left (is_same_place (child q 0) (child q 0)) false (itself_same (child q 0)) in
-          (child q 0, one_of ms (child q 0) holds, ap (λ b. if b then Some y.text else None) here ∙ is)
-      go false fails is = absurd (let no : ⊥ = cc in no)
-  name_by_one q (evaluate e) x is = absurd (let no : ⊥ = cc in no)
-  name_by_one q (selection s bs o) x is = absurd (let no : ⊥ = cc in no)
-  name_by_one q (iteration s xs e b) x is = absurd (let no : ⊥ = cc in no)
-  name_by_one q (breaks s) x is = absurd (let no : ⊥ = cc in no)
-  name_by_one q (continues s) x is = absurd (let no : ⊥ = cc in no)
+module _ (p : Project Span) where
+  only_name : (x : List ℕ) (o : Option (List ℕ)) → o ≡ Some x → Contains (distinct (cons_option o [])) x
+  only_name x None is = absurd (let no : ⊥ = cc in no)
+  only_name x (Some y) is = (0, omega arith, some-injective y x is)
 
-  part_by_one : (q : CallRef) (part : Part Span) (x : List ℕ) → name_of_part ms (record { place = q; it = part }) ≡ Some x
-      → (u : CallRef) × Contains ms u × (name_of_part (u ∷ []) (record { place = q; it = part }) ≡ Some x)
-  part_by_one q (an_expression e) x is = absurd (let no : ⊥ = cc in no)
-  part_by_one q (a_statement s) x is = name_by_one q s x is
-
-  in_more : {C : Type 0} (o : Option C) (rest : List C) (x : C) → Contains rest x → Contains (cons_option o rest) x
-  in_more None rest x has = has
-  in_more (Some y) rest x has = Contains-append_right (y ∷ []) rest x has
-
-  first_of_all : {C : Type 0} (o : Option C) (rest : List C) (x : C) → o ≡ Some x → Contains (cons_option o rest) x
-  first_of_all None rest x is = absurd (let no : ⊥ = cc in no)
-  first_of_all (Some y) rest x is = (0, omega arith, some-injective y x is)
-
-  assigned_more : (q : Placed (Part Span)) (qs : List (Placed (Part Span))) (x : List ℕ) → AssignsOne qs ms x → AssignsOne (q ∷ qs) ms x
-  assigned_more q qs x a = (a.0, a.1, in_more (name_of_part (a.0 ∷ []) q) (filter_map (name_of_part (a.0 ∷ [])) qs) x a.2)
-
-  all_assigned : (qs : List (Placed (Part Span))) → All (AssignsOne qs ms) (filter_map (name_of_part ms) qs)
-  all_assigned [] = All-nil (AssignsOne [] ms)
-  all_assigned (q ∷ qs) = go (name_of_part ms q) refl (All-weaker (AssignsOne qs ms) (AssignsOne (q ∷ qs) ms) (assigned_more q qs) (filter_map (name_of_part ms) qs) (all_assigned qs))
-    where
-      go : (o : Option (List ℕ)) → name_of_part ms q ≡ o → All (AssignsOne (q ∷ qs) ms) (filter_map (name_of_part ms) qs)
-          → All (AssignsOne (q ∷ qs) ms) (cons_option o (filter_map (name_of_part ms) qs))
-      go None is more = more
-      go (Some x) is more =
-          let one = part_by_one q.place q.it x is in
-          All-cons (AssignsOne (q ∷ qs) ms) x (filter_map (name_of_part ms) qs)
-          (one.0, one.1, first_of_all (name_of_part (one.0 ∷ []) q) (filter_map (name_of_part (one.0 ∷ [])) qs) x one.2) more
+  all_assigned : (ms : List CallRef) → All (AssignsOne p ms) (names_of p ms)
+  all_assigned ms =
+      All-distinct (AssignsOne p ms) [] (filter_map (variable_of p) ms)
+      (chosen_all (variable_of p) (AssignsOne p ms) ms
+      (All-weaker (Contains ms) (λ u. (x : List ℕ) → variable_of p u ≡ Some x → AssignsOne p ms x) (λ u has x is. (u, has, only_name x (variable_of p u) is)) ms
+      (All-contains_itself ms)))
 
 -- ---- what may be seen at a place
 
@@ -213,7 +155,7 @@ module _ (p : Project Span) (ms : List CallRef) where
   known_seen None is = absurd (false≢true is)
   known_seen (Some k) is = maker_seen k.makers is
 
-  read_sees : (x : List ℕ) (r : Placed (Known Span)) → AssignsOne (parts p) ms x → Contains (reads p x) r → sees ms r ≡ true → SeesOne p ms r.place
+  read_sees : (x : List ℕ) (r : Placed (Known Span)) → AssignsOne p ms x → Contains (reads p x) r → sees ms r ≡ true → SeesOne p ms r.place
   read_sees x r assigned has is =
       elim (or_cases (may_leave_out r.it) (keeps_one_of ms r.it) is) [
         | inl cut ↦
@@ -223,7 +165,7 @@ module _ (p : Project Span) (ms : List CallRef) where
             (one.0, one.1, record { variable = x; read = r; is_read = has; is_there = refl; is_seen = is_kept one.2 })
       ]
 
-  reads_see : (x : List ℕ) → AssignsOne (parts p) ms x → All (SeesOne p ms) (reads_of_variable p ms x)
+  reads_see : (x : List ℕ) → AssignsOne p ms x → All (SeesOne p ms) (reads_of_variable p ms x)
   reads_see x assigned =
       let rs = reads p x in
       let in_them : All (Contains rs) (filter (sees ms) rs) = All-filter (sees ms) (Contains rs) rs (All-contains_itself rs) in
@@ -231,14 +173,14 @@ module _ (p : Project Span) (ms : List CallRef) where
       All-map (SeesOne p ms) (λ r. r.place) (filter (sees ms) rs)
       (λ k d within. read_sees x (slice_index_or (filter (sees ms) rs) k d) assigned (in_them k d within) (passing k d within))
 
-  names_see : (xs : List (List ℕ)) → All (AssignsOne (parts p) ms) xs → All (SeesOne p ms) (flat_map (reads_of_variable p ms) xs)
+  names_see : (xs : List (List ℕ)) → All (AssignsOne p ms) xs → All (SeesOne p ms) (flat_map (reads_of_variable p ms) xs)
   names_see [] all = All-nil (SeesOne p ms)
   names_see (x ∷ xs) all =
-      All-append (SeesOne p ms) (reads_of_variable p ms x) (flat_map (reads_of_variable p ms) xs) (reads_see x (All-head (AssignsOne (parts p) ms) x xs all))
-      (names_see xs (All-tail (AssignsOne (parts p) ms) x xs all))
+      All-append (SeesOne p ms) (reads_of_variable p ms x) (flat_map (reads_of_variable p ms) xs) (reads_see x (All-head (AssignsOne p ms) x xs all))
+      (names_see xs (All-tail (AssignsOne p ms) x xs all))
 
   all_see : All (SeesOne p ms) (reads_of p ms)
-  all_see = names_see (names_of p ms) (all_assigned ms (parts p))
+  all_see = names_see (names_of p ms) (all_assigned p ms)
 
 -- ---- what is made of a value
 

@@ -14,8 +14,8 @@ use Rattle.meson_calls.specs.Roles.{has_role, role_calls, role_calls_among, with
 use Rattle.meson_following.specs.Following.{Item, Mark, known, opaque, empty, follow_call, follow_marks}
 use Rattle.meson_sharing.specs.CodeTargets.{sharing_names, target_of, targets_of_note}
 use Rattle.meson_sharing.specs.CodeTold.{item_by, items_by, shared_with, sharers_by}
-use Rattle.meson_sharing.specs.Sharing.{is_own, names_or_none, sharer, sharers, ways_of_target}
-use Rattle.meson_sharing.specs.Told.{Told, ToldItem, last_of, shared_by, told, told_item, told_mark, variable_of}
+use Rattle.meson_sharing.specs.Sharing.{is_own, names_or_none, sharer, sharers, ways_of_target, variable_of}
+use Rattle.meson_sharing.specs.Told.{Told, ToldItem, last_of, shared_by, told, told_item, told_mark}
 use Rattle.meson_sharing.proofs.OwnMakers.{closed}
 
 -- ---- targets

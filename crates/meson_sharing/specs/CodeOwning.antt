@@ -1,22 +1,26 @@
--- What the code's notes say of makers, and what it computes of a maker.
-use Rattle.std.specs.Prelude.{ℕ, Bool, ◌&&◌, ◌||◌, List, if◌then◌else◌, Option, Some, None}
+-- What the code computes of a maker.
+use Rattle.std.specs.Prelude.{ℕ, Bool, ◌&&◌, ◌||◌, List, [], ◌∷◌, ◌++◌, if◌then◌else◌, Option, Some, None, option_and_then}
 use Rattle.std.specs.List.{list_all}
 use Rattle.meson_calls.specs.declared.call.CallRef.{CallRef}
 use Rattle.meson_calls.specs.Calls.{Call}
-use Rattle.meson_calls.specs.Notes.{Note, a_call, an_assignment, a_loop}
-use Rattle.meson_calls.specs.Project.{Project, Placed, child}
-use Rattle.meson_following.specs.Following.{one_of_places}
+use Rattle.meson_calls.specs.Project.{Project, Placed, nth_file}
+use Rattle.meson_calls.specs.Roles.{one_of}
+use Rattle.meson_edit.specs.Blocks.{block_at, statement_in}
+use Rattle.meson_syntax.specs.Tree.{File}
 use Rattle.meson_sharing.specs.CodeWays.{is_way_in}
-use Rattle.meson_sharing.specs.Sharing.{from_followed, from_maker, is_closed, is_use, reads_of}
+use Rattle.meson_sharing.specs.Sharing.{assigned_name, from_followed, from_maker, is_closed, is_use, reads_of}
 
--- the variable to which a note assigns the value of one of these
-abbrev pub name_at : {S : Type 0} → List CallRef → CallRef → Note S → Option (List ℕ)
-name_at ms q (a_call c) = None
-name_at ms q (an_assignment x sets e) = if one_of_places ms (child q 0) then Some x else None
-name_at ms q (a_loop xs) = None
+-- the variable to which the n-th statement of a block assigns: of the block that a path names, and of the one at a place
+abbrev pub name_in : {S : Type 0} → File S → List ℕ → ℕ → Option (List ℕ)
+name_in f path n = option_and_then assigned_name (option_and_then (λ b. statement_in b.inside n) (block_at f path))
 
-abbrev pub name_of_note : {S : Type 0} → List CallRef → Placed (Note S) → Option (List ℕ)
-name_of_note ms n = name_at ms n.place n.it
+abbrev pub name_there : {S : Type 0} → Project S → CallRef → ℕ → Option (List ℕ)
+name_there p block n = option_and_then (λ f. name_in f.tree block.path.steps n) (nth_file p block.file)
+
+-- these names with one more, if it is not among them
+abbrev pub with_name : List (List ℕ) → Option (List ℕ) → List (List ℕ)
+with_name names None = names
+with_name names (Some x) = if one_of names x then names else names ++ x ∷ []
 
 -- a place is one of these ways of a call, or a way of the value of one of these makers; or a use, if uses are allowed
 abbrev pub is_read_by : {S : Type 0} → Project S → (with_uses : Bool) → (ways makers : List CallRef) → CallRef → Bool

@@ -13,8 +13,8 @@ use Rattle.meson_sharing.specs.declared.told.Told as code
 use Rattle.meson_sharing.specs.declared.told.ToldItem as code_item
 use Rattle.meson_sharing.specs.CodeOwning.{is_closed_by}
 use Rattle.meson_sharing.specs.CodeTargets.{all_targets, sharing_names, target_view}
-use Rattle.meson_sharing.specs.Sharing.{names_or_none}
-use Rattle.meson_sharing.specs.Told.{Told, ToldItem, last_of, variable_of}
+use Rattle.meson_sharing.specs.Sharing.{names_or_none, variable_of}
+use Rattle.meson_sharing.specs.Told.{Told, ToldItem, last_of}
 
 abbrev pub told_item_view : code_item.ToldItem → ToldItem Span
 told_item_view i = record { item = item_view i.item; variable = i.variable; shared = i.shared }

@@ -1,7 +1,7 @@
 -- Which lists of sources are read for one target alone. Meson manual, Syntax, "Variables": an assignment copies the value, and a value never changes. So what
 -- is in the value of an assignment is read wherever a variable may hold that value, or a value that is made of it.
 -- As in `Following`, a maker is named by the place of its value.
-use Rattle.std.specs.Prelude.{ℕ, zero, suc, ◌+◌, Bool, true, false, not, ◌&&◌, ◌||◌, List, [], ◌∷◌, ◌++◌, filter, flat_map, length, codes, bytes_eq, if◌then◌else◌, Option, Some, None}
+use Rattle.std.specs.Prelude.{ℕ, zero, suc, ◌+◌, Bool, true, false, not, ◌&&◌, ◌||◌, List, [], ◌∷◌, ◌++◌, filter, flat_map, length, slice_get, codes, bytes_eq, if◌then◌else◌, Option, Some, None}
 use Rattle.std.specs.List.{filter_map, list_all, list_any}
 use Rattle.meson_syntax.specs.Tree.{Expression, identifier, paren, array, call, row, postfix, conditional, Operands, no_operands, operand, Tail, method, index, Tails, no_tails, tail, Listing, listing, Argument, plain, named, pair, Arguments, no_arguments, argument, Statement, assign}
 use Rattle.meson_calls.specs.declared.call.CallRef.{CallRef}
@@ -11,6 +11,7 @@ use Rattle.meson_calls.specs.NamedArguments.{rest, sources_key}
 use Rattle.meson_calls.specs.Parts.{Part, an_expression, a_statement, argument_child_count, parts, tail_child_count}
 use Rattle.meson_calls.specs.Project.{Project, Placed, child, expression_at}
 use Rattle.meson_calls.specs.Roles.{one_of, role_calls, target_functions}
+use Rattle.meson_steps.specs.Names.{distinct}
 use Rattle.meson_variables.specs.Expansion.{are_plus, is_files}
 use Rattle.meson_following.specs.Flows.{is_in}
 use Rattle.meson_following.specs.Following.{Mark, known, opaque, empty, follow_call, follow_marks, one_of_places}
@@ -113,17 +114,26 @@ is_use p q = one_of_places (uses p) q
 
 -- ---- where values may be read
 
--- the variable to which a statement assigns the value of one of these
-abbrev pub name_of_statement : {S : Type 0} → List CallRef → CallRef → Statement S → Option (List ℕ)
-name_of_statement ms q (assign s x a e) = if one_of_places ms (child q 0) then Some x.text else None
-name_of_statement ms q _ = None
+-- the variable to which a statement assigns
+abbrev pub assigned_name : {S : Type 0} → Statement S → Option (List ℕ)
+assigned_name (assign s x a e) = Some x.text
+assigned_name _ = None
 
-abbrev pub name_of_part : {S : Type 0} → List CallRef → Placed (Part S) → Option (List ℕ)
-name_of_part ms q = elim q.it [ an_expression e ↦ None | a_statement s ↦ name_of_statement ms q.place s ]
+-- the variable to which a part assigns the value at a place, which is its first child
+abbrev pub name_of_part : {S : Type 0} → CallRef → Placed (Part S) → Option (List ℕ)
+name_of_part m q = elim q.it [ an_expression e ↦ None | a_statement s ↦ if is_same_place (child q.place 0) m then assigned_name s else None ]
 
--- the variables to which the values of these are assigned
+-- the first of the names that there are
+abbrev pub first_name : {X : Type 0} → (X → Option (List ℕ)) → List X → Option (List ℕ)
+first_name name xs = slice_get (filter_map name xs) 0
+
+-- the variable to which the value of a maker is assigned
+abbrev pub variable_of : {S : Type 0} → Project S → CallRef → Option (List ℕ)
+variable_of p m = first_name (name_of_part m) (parts p)
+
+-- the variables to which the values of these are assigned, each once
 abbrev pub names_of : {S : Type 0} → Project S → List CallRef → List (List ℕ)
-names_of p ms = filter_map (name_of_part ms) (parts p)
+names_of p ms = distinct (filter_map (variable_of p) ms)
 
 -- the places at which the value of one of these may be read
 abbrev pub reads_of : {S : Type 0} → Project S → List CallRef → List CallRef

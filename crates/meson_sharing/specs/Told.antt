@@ -1,13 +1,12 @@
 -- What is reported of the sources of a target, where variables are followed.
-use Rattle.std.specs.Prelude.{ℕ, ◌-◌, Bool, true, false, List, [], ◌∷◌, length, slice_get, count_by, Option, Some, None, option_and_then}
+use Rattle.std.specs.Prelude.{ℕ, ◌-◌, Bool, true, false, List, [], length, slice_get, count_by, Option, Some, None, option_and_then}
 use Rattle.std.specs.List.{filter_map}
 use Rattle.meson_calls.specs.declared.call.CallRef.{CallRef}
 use Rattle.meson_calls.specs.CallPlaces.{call_at}
 use Rattle.meson_calls.specs.Calls.{Call}
-use Rattle.meson_calls.specs.Parts.{parts}
 use Rattle.meson_calls.specs.Project.{Project, Placed}
 use Rattle.meson_following.specs.Following.{Item, Mark, known, opaque, empty, follow_marks}
-use Rattle.meson_sharing.specs.Sharing.{name_of_part, sharers}
+use Rattle.meson_sharing.specs.Sharing.{sharers, variable_of}
 
 -- An item, the variable in whose value it is, if it is in one, and the names of the other targets that get it: `None` where no other target gets it, but
 -- something that is no target.
@@ -24,14 +23,6 @@ pub record Told (S : Type 0) : Type 0 where
 -- the maker in whose value an item is: the last one that was followed to it
 abbrev pub last_of : List CallRef → Option CallRef
 last_of ms = slice_get ms (length ms - 1)
-
--- the first of the names that there are
-abbrev pub first_name : {X : Type 0} → (X → Option (List ℕ)) → List X → Option (List ℕ)
-first_name name xs = slice_get (filter_map name xs) 0
-
--- the variable to which the value of a maker is assigned
-abbrev pub variable_of : {S : Type 0} → Project S → CallRef → Option (List ℕ)
-variable_of p m = first_name (name_of_part (m ∷ [])) (parts p)
 
 -- what is in the call itself goes to its target alone
 abbrev pub shared_by : {S : Type 0} → Project S → Placed (Call S) → Option CallRef → Option (List (List ℕ))

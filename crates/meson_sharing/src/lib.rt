@@ -10,5 +10,7 @@ mod uses;
 mod variable;
 mod ways;
 
-pub use owning::{is_own, is_unshared};
+pub use owning::{is_closed_by, is_own, is_unshared};
+pub use takers::ways_of_sources;
 pub use told::{Told, ToldItem, tell_sources};
+pub use variable::variable_text;

@@ -1,80 +1,24 @@
 //! Which lists of sources are read for one target alone.
 
-ghost use Rattle.std.specs.Prelude.{◌≡◌, ◌++◌, [], IfOk, OnOk, map, option_map};
-ghost use Rattle.std.specs.List.{cons_option, list_all};
+ghost use Rattle.std.specs.Prelude.{◌≡◌, IfOk, option_map};
+ghost use Rattle.std.specs.List.{list_all};
 ghost use Rattle.meson_calls.specs.CallPlaces.{call_at};
 ghost use Rattle.meson_calls.specs.ChosenNotes.{Source, placed_call};
 ghost use Rattle.meson_calls.specs.GoodLists.{GoodListing};
 ghost use Rattle.meson_calls.specs.Loading.{IsProject, loaded_from};
-ghost use Rattle.meson_calls.specs.Notes.{note_view};
 ghost use Rattle.meson_syntax.specs.View.{list_view};
 ghost use Rattle.meson_following.specs.CodeFollowing.{followed_project};
-ghost use Rattle.meson_sharing.specs.CodeOwning.{is_closed_by, is_closed_for, is_read_by, name_of_note};
-ghost use Rattle.meson_sharing.specs.Sharing.{from_followed, is_own, is_unshared, names_of, reads_of};
+ghost use Rattle.meson_sharing.specs.CodeOwning.{is_closed_by, is_closed_for, is_read_by};
+ghost use Rattle.meson_sharing.specs.Sharing.{from_followed, is_own, is_unshared, reads_of};
 
 use crate::takers::{is_way, takers_of, ways_of_sources};
 use crate::uses::is_use;
+use crate::variable::names_of;
 use meson_calls::CallRef;
-use meson_calls::note::{Note, What};
-use meson_calls::notes::notes_of;
-use meson_calls::place::{child_place, copy_place};
-use meson_calls::roles::text_of;
+use meson_calls::place::copy_place;
 use meson_following::Follower;
-use meson_following::makers::is_one_of;
 use meson_syntax::{Expr, List};
-use std::alloc::{AllocError, Global};
-
-/// The variable to which a note assigns the value of one of these makers.
-fn name_in<'t>(
-    alloc: Global,
-    makers: &[CallRef],
-    note: &Note<'_, 't>,
-) -> Result<Option<&'t [u8]>, AllocError>
-    ensures { IfOk result (λ x. option_map (λ y. y.now) x ≡ name_of_note makers.now (note_view note.now)) }
-{
-    match note.what {
-        What::Assign { name, .. } => {
-            let value = child_place(alloc, note.place, 0)?;
-            if is_one_of(makers, &value) {
-                Ok(Some(text_of(note.source, name)))
-            } else {
-                Ok(None)
-            }
-        }
-        _ => Ok(None),
-    }
-}
-
-/// Takes the variable to which a note assigns the value of one of these makers, if it does so.
-fn take_name<'t>(
-    alloc: Global,
-    makers: &[CallRef],
-    note: &Note<'_, 't>,
-    names: &mut Vec<&'t [u8]>,
-) -> Result<(), AllocError>
-    ensures { OnOk result (map (λ x. x.now) names.new.items
-        ≡ map (λ x. x.now) names.old.items ++ cons_option (name_of_note makers.now (note_view note.now)) []) }
-{
-    let Some(name) = name_in(alloc, makers, note)? else {
-        return Ok(());
-    };
-    names.push(name)?;
-    Ok(())
-}
-
-/// The variables to which the values of these makers are assigned.
-fn names_of<'t>(follower: &Follower<'t>, makers: &[CallRef]) -> Result<Vec<&'t [u8]>, AllocError>
-    requires { IsProject (loaded_from follower.now.files.now follower.now.trees.now) }
-    ensures { IfOk result (λ names. map (λ x. x.now) names.items ≡ names_of (followed_project follower.now) makers.now) }
-{
-    let taken = notes_of(follower.alloc, follower.files, follower.trees)?;
-    let notes = taken.all(follower.alloc)?;
-    let mut names = Vec::new(follower.alloc);
-    for i in 0..notes.len() {
-        take_name(follower.alloc, makers, &notes[i], &mut names)?;
-    }
-    Ok(names)
-}
+use std::alloc::AllocError;
 
 /// The places at which the value of one of these makers may be read.
 fn reads_of(follower: &Follower<'_>, makers: &[CallRef]) -> Result<Vec<CallRef>, AllocError>
@@ -130,30 +74,42 @@ fn are_read(
     Ok(true)
 }
 
-/// A maker, and those of these values that are made of its value.
+/// Values that are made of one value, it among them, and the places at which one of them may be read.
+struct Reached {
+    makers: Vec<CallRef>,
+    reads: Vec<CallRef>,
+}
+
+/// A maker, and those of these values that are made of its value; and where they may be read.
 fn from_followed(
     follower: &Follower<'_>,
     all: &[CallRef],
     maker: &CallRef,
-) -> Result<Vec<CallRef>, AllocError>
+) -> Result<Reached, AllocError>
     requires { IsProject (loaded_from follower.now.files.now follower.now.trees.now) }
-    ensures { IfOk result (λ makers. makers.items ≡ from_followed (followed_project follower.now) all.now maker.now) }
+    ensures makers { IfOk result (λ reached. reached.makers.items ≡ from_followed (followed_project follower.now) all.now maker.now) }
+    ensures reads { IfOk result (λ reached. reached.reads.items
+        ≡ reads_of (followed_project follower.now) (from_followed (followed_project follower.now) all.now maker.now)) }
 {
     let mut makers = Vec::new(follower.alloc);
     makers.push(copy_place(follower.alloc, maker)?)?;
     for _ in 0..all.len() {
-        let seen = reads_of(follower, makers.as_slice())?;
-        let mut takers = takers_of(follower, all, makers.as_slice(), seen.as_slice())?;
+        let reads = reads_of(follower, makers.as_slice())?;
+        let mut takers = takers_of(follower, all, makers.as_slice(), reads.as_slice())?;
         if takers.is_empty() {
-            return Ok(makers);
+            return Ok(Reached { makers, reads });
         }
         makers.append(&mut takers)?;
     }
-    Ok(makers)
+    let reads = reads_of(follower, makers.as_slice())?;
+    Ok(Reached { makers, reads })
 }
 
 /// Whether what is in the value of a maker is read for the call alone that follows these values and has these ways; or used, if uses are allowed.
-pub(crate) fn is_closed_by(
+///
+/// # Errors
+/// Out of memory.
+pub fn is_closed_by(
     follower: &Follower<'_>,
     with_uses: bool,
     followed: &[CallRef],
@@ -163,8 +119,7 @@ pub(crate) fn is_closed_by(
     requires { IsProject (loaded_from follower.now.files.now follower.now.trees.now) }
     ensures { IfOk result (λ is. is ≡ is_closed_by (followed_project follower.now) with_uses followed.now ways.now maker.now) }
 {
-    let makers = from_followed(follower, followed, maker)?;
-    let reads = reads_of(follower, makers.as_slice())?;
+    let Reached { makers, reads } = from_followed(follower, followed, maker)?;
     are_read(
         follower,
         with_uses,

@@ -1,8 +1,7 @@
 //! Which values are made of the values of assignments.
 
-ghost use Rattle.std.specs.Prelude.{◌≡◌, ◌&&◌, ◌∷◌, ◌++◌, [], if◌then◌else◌, not, IfOk, OnOk, option_map};
+ghost use Rattle.std.specs.Prelude.{◌≡◌, ◌&&◌, ◌∷◌, ◌++◌, [], if◌then◌else◌, not, IfOk, OnOk};
 ghost use Rattle.std.specs.List.{list_any};
-ghost use Rattle.meson_calls.specs.CallPlaces.{call_at};
 ghost use Rattle.meson_calls.specs.ChosenNotes.{Source, placed_call};
 ghost use Rattle.meson_calls.specs.Loading.{IsProject, loaded_from};
 ghost use Rattle.meson_following.specs.CodeFollowing.{followed_project};
@@ -16,7 +15,7 @@ use meson_calls::arguments::behind_first;
 use meson_calls::place::copy_place;
 use meson_following::Follower;
 use meson_following::makers::is_one_of;
-use meson_syntax::{Expr, List};
+use meson_syntax::List;
 use std::alloc::{AllocError, Global};
 
 /// Whether one of some places is one of others.
@@ -66,7 +65,10 @@ pub(crate) fn ways_at(follower: &Follower<'_>, place: &CallRef) -> Result<Vec<Ca
 }
 
 /// The ways of the sources of the target whose call at a place has these arguments.
-pub(crate) fn ways_of_sources(
+///
+/// # Errors
+/// Out of memory.
+pub fn ways_of_sources(
     alloc: Global,
     call: &CallRef,
     source: &[u8],

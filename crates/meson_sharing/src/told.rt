@@ -9,12 +9,13 @@ ghost use Rattle.meson_syntax.specs.View.{list_view};
 ghost use Rattle.meson_following.specs.CodeFollowing.{followed_project, item_view, mark_view};
 ghost use Rattle.meson_sharing.specs.CodeTargets.{all_targets, target_view};
 ghost use Rattle.meson_sharing.specs.CodeTold.{IsKept, items_with, item_with, mark_with, sharers_with, told_item_view, told_view};
-ghost use Rattle.meson_sharing.specs.Told.{is_opaque, told, told_at, variable_of};
+ghost use Rattle.meson_sharing.specs.Sharing.{variable_of};
+ghost use Rattle.meson_sharing.specs.Told.{is_opaque, told, told_at};
 
 use crate::owning::is_closed_by;
 use crate::takers::ways_of_sources;
 use crate::targets::{Target, sharing_names, targets_of};
-use crate::variable::variable_of;
+use crate::variable::variable_text;
 use meson_calls::CallRef;
 use meson_calls::place::copy_place;
 use meson_following::makers::is_same_place;
@@ -159,7 +160,7 @@ impl Sharing<'_> {
                 return Ok(answer);
             }
         }
-        let variable = variable_of(&self.follower, maker)?;
+        let variable = variable_text(&self.follower, maker)?;
         let shared = self.sharers(maker, kept)?;
         let maker = copy_place(self.follower.alloc, maker)?;
         Ok(Answer {

@@ -1,23 +1,34 @@
-use Rattle.std.proofs.Common.{◌∷◌, ◌∙◌, [], ap}
-use Rattle.std.specs.Prelude.{slice_get}
-use Rattle.meson_calls.specs.Notes.{note_views}
-use Rattle.meson_calls.specs.Parts.{parts}
-use Rattle.meson_calls.proofs.NamedNotes.{taken_named}
+use Rattle.std.proofs.Common.{◌≡◌, ◌+◌, ◌-◌, ◌<◌, length, take, get_or, sym, ap, ◌∙◌, subst, arith}
+use Rattle.meson_calls.specs.Project.{place}
 use Rattle.meson_following.specs.CodeFollowing.{followed_project}
-use Rattle.meson_sharing.specs.CodeOwning.{name_of_note}
-use Rattle.meson_sharing.specs.Told.{first_name}
-use Rattle.meson_sharing.proofs.OwnMakers.{notes_name}
+use Rattle.meson_sharing.specs.CodeOwning.{name_there}
+use Rattle.meson_sharing.proofs.AssignedValues.{first_child, name_there_is, other_child_not_assigned, short_not_assigned}
 use Rattle.meson_sharing.proofs.variable.variable_of.Goals as goal
 
-pub variable_among-requires : goal.variable_among-requires
-variable_among-requires c =
-    let f = c.args.follower.now in
-    taken_named f.files.now f.trees.now c.requires.parsed _ (ap note_views c.as_slice.ensures.value ∙ c.in_ok-notes.ensures ∙ c.in_ok-taken.ensures)
+pub returns-then-steps-lt2 : goal.returns-then-steps-lt2
+returns-then-steps-lt2 c =
+    short_not_assigned (followed_project c.args.follower.now) c.args.maker.now (subst (λ path. length path < 2) c.get-steps.ensures c.if-steps-lt2.true)
+
+pub returns-then-steps-above-ne0 : goal.returns-then-steps-above-ne0
+returns-then-steps-above-ne0 c =
+    let steps = c.get-steps.result.now in
+    let above = length steps - 2 in
+    let some = c.if-steps-lt2.false in
+    let long : length steps ≡ above + 2 = omega (arith, some) in
+    other_child_not_assigned (followed_project c.args.follower.now) c.args.maker.now above (subst (λ path. length path ≡ above + 2) c.get-steps.ensures long)
+    (λ is. c.if-steps-above-ne0.true (ap (λ path. get_or path (above + 1) 0) c.get-steps.ensures ∙ is))
 
 pub returns : goal.returns
 returns c =
     let p = followed_project c.args.follower.now in
-    let ms = c.args.maker.now ∷ [] in
-    c.in_ok-name.ensures
-    ∙ ap (first_name (name_of_note ms)) (ap note_views c.as_slice.ensures.value ∙ c.in_ok-notes.ensures ∙ c.in_ok-taken.ensures)
-    ∙ ap (λ names. slice_get names 0) (notes_name ms (parts p))
+    let m = c.args.maker.now in
+    let steps = c.get-steps.result.now in
+    let above = length steps - 2 in
+    let some = c.if-steps-lt2.false in
+    let long : length steps ≡ above + 2 = omega (arith, some) in
+    let first : get_or m.path.steps (above + 1) 0 ≡ 0 = ap (λ path. get_or path (above + 1) 0) (sym c.get-steps.ensures) ∙ c.if-steps-above-ne0.false in
+    c.name_there.ensures
+    ∙ ap (λ b. name_there p b (get_or steps above 0)) c.in_ok-block.ensures
+    ∙ ap (λ path. name_there p (place m.file (take above path)) (get_or path above 0)) c.get-steps.ensures
+    ∙ name_there_is p (place m.file (take above m.path.steps)) (get_or m.path.steps above 0) m
+    (first_child m above (subst (λ path. length path ≡ above + 2) c.get-steps.ensures long) first)
