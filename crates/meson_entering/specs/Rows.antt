@@ -104,7 +104,7 @@ Around =
     -- the innermost loop of that name
     Entered Followed (each_of (codes "d" ∷ []) (texts (s ∷ [])) (each (texts (t ∷ [])) ∷ []) ∷ []) (t_file ∷ [])
     × Entered Followed (each_of (codes "d" ∷ []) (texts (s ∷ [])) (each_of (codes "e" ∷ []) (texts (t ∷ [])) (enters_d ∷ []) ∷ []) ∷ []) (s_file ∷ [])
-    -- not a second name, and not behind the loop
+    -- not a second name, and not after the loop
     × Entered Followed (each_of (codes "k" ∷ codes "d" ∷ []) (keyed (s ∷ [])) (enters_d ∷ []) ∷ []) []
     × Entered Followed (each_of (codes "d" ∷ []) (texts (s ∷ [])) [] ∷ enters_d ∷ []) []
     -- as files are written, none

@@ -24,7 +24,7 @@ use meson_calls::notes::notes_of;
 use meson_calls::place::place_of;
 use meson_calls::roles::text_of;
 use meson_details::called::call_at;
-use meson_entering::entering::{SourceFile, SubdirCall, files_meant};
+use meson_entering::{SourceFile, SubdirCall, files_meant};
 use meson_plan::{BorrowedName, CallRef, Head, Project, Refusal, Role};
 use meson_splice::{Many, Text};
 use meson_targets::variable::variable_of;
