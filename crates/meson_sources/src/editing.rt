@@ -22,14 +22,14 @@ use meson_calls::{CallRef, Refusal};
 use meson_splice::Text;
 use meson_steps::names::checked_names;
 use meson_steps::step::ListStep;
-use meson_syntax::{Arg, List, Parsed};
+use meson_syntax::{Arg, List};
 use meson_variables::call_sources::{MAX_FOLLOWED, home_of, met};
 use meson_variables::marks::Marks;
 use meson_variables::variables::Variables;
 use std::alloc::{AllocError, Global};
 
 /// The number of arguments without a name.
-fn count_plain(args: &[Arg]) -> usize
+pub fn count_plain(args: &[Arg]) -> usize
     ensures small { result < 2 ^ 63 }
     ensures counted { (source : Source) → result ≡ length (filter is_plain (args_view source args.now)) }
 {

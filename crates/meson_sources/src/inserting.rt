@@ -62,7 +62,7 @@ pub(crate) fn places_of(marks: Marks<'_>) -> (Option<CallRef>, Option<CallRef>)
 ///
 /// # Errors
 /// Out of memory.
-pub(crate) fn insert(
+pub fn insert(
     alloc: Global,
     list: &CallRef,
     from: usize,

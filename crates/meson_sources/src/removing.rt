@@ -15,13 +15,12 @@ use meson_calls::{CallRef, Refusal};
 use meson_splice::Text;
 use meson_steps::names::distinct;
 use meson_steps::step::{ListEdit, ListStep, push_step};
-use meson_variables::SourceItem;
 use meson_variables::marks::Marks;
 use std::alloc::{AllocError, Global};
 
 /// An element of a list: the list's file and path, and the element's number.
 #[derive(Debug, Drop)]
-pub(crate) struct ElementSpot {
+pub struct ElementSpot {
     pub file: usize,
     pub list: Vec<usize>,
     pub number: usize,
@@ -86,7 +85,10 @@ fn spot_without(
 }
 
 /// The steps that remove elements one after the other, each from its place at that time.
-fn removals(alloc: Global, spots: &[ElementSpot]) -> Result<Vec<ListStep>, AllocError>
+///
+/// # Errors
+/// Out of memory.
+pub fn removals(alloc: Global, spots: &[ElementSpot]) -> Result<Vec<ListStep>, AllocError>
     ensures { IfOk result (λ steps. map Some steps.items ≡ map bare (removal_steps (map spot_view spots.now))) }
 {
     let mut steps = Vec::new(alloc);
