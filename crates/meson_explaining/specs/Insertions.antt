@@ -1,5 +1,5 @@
 -- Why code is not inserted, and why a statement is not removed.
-use Rattle.std.specs.Prelude.{ℕ, List, [], ◌∷◌, ◌++◌, codes, decimal}
+use Rattle.std.specs.Prelude.{ℕ, List, [], ◌++◌, codes, decimal}
 use Rattle.meson_calls.specs.declared.call.Reading.{Reading}
 use Rattle.meson_calls.specs.declared.refusal.Refusal.{Refusal}
 use Rattle.meson_calls.specs.declared.refusal.Refusal.TheVariants as refusal
@@ -10,7 +10,6 @@ use Rattle.meson_steps.specs.declared.argument.Search.{Search}
 use Rattle.meson_steps.specs.declared.command.CodePlace.{CodePlace}
 use Rattle.meson_steps.specs.declared.command.CodePlace.TheVariants as place
 use Rattle.meson_explaining.specs.ArgumentPlaces.{and_help, folder_lines, place_missing, place_without_file, places_meant}
-use Rattle.meson_explaining.specs.Notes.{plain_note}
 use Rattle.meson_explaining.specs.Stated.{no_project, stated, too_deep, too_large}
 use Rattle.meson_explaining.specs.declared.explanation.Explanation.{Explanation}
 

@@ -9,7 +9,7 @@ ghost use Rattle.meson_syntax.specs.View.{arg_view, args_view, expr_view};
 ghost use Rattle.meson_calls.specs.Loading.{AreParsed, project as project_of};
 ghost use Rattle.meson_calls.specs.Project.{expression_at};
 ghost use Rattle.meson_explaining.specs.ArgumentValues.{call_arguments, call_elements, deepest, found_place, hiding_notes, is_wanted, keyword_note, named_note};
-ghost use Rattle.meson_explaining.specs.ArgumentValues.{keyword_notes, keywords_of, other_keywords, reached_notes, shown_note, shown_notes, span_by};
+ghost use Rattle.meson_explaining.specs.ArgumentValues.{keyword_notes, other_keywords, reached_notes, shown_note, shown_notes, span_by};
 ghost use Rattle.meson_places.specs.Names.{loaded_in, the_place};
 
 use crate::explanation::{Note, Spot};

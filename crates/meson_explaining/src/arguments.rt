@@ -1,6 +1,6 @@
 //! Why a change of a value is refused, in words for people.
 
-ghost use Rattle.std.specs.Prelude.{◌≡◌, ◌++◌, ◌∷◌, [], IfOk};
+ghost use Rattle.std.specs.Prelude.{◌≡◌, IfOk};
 ghost use Rattle.meson_explaining.specs.Arguments.{after_notes, key_explanation, uncomputed_help, value_explanation};
 
 use crate::argument_places::places_meant;

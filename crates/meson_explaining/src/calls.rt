@@ -1,6 +1,6 @@
 //! Notes of calls.
 
-ghost use Rattle.std.specs.Prelude.{◌≡◌, ◌++◌, IfOk, OnOk, codes, map, string_bytes};
+ghost use Rattle.std.specs.Prelude.{◌≡◌, ◌++◌, IfOk, OnOk, map, string_bytes};
 ghost use Rattle.meson_explaining.specs.Notes.{call_note, few_notes, further, plain_note, spot_of};
 
 use crate::explanation::{Note, Spot};

@@ -1,7 +1,7 @@
 //! Why code is not inserted, and why a statement is not removed, in words for people.
 
 ghost use Rattle.std.specs.Prelude.{◌≡◌, IfOk};
-ghost use Rattle.meson_explaining.specs.Insertions.{code_explanation, end_explanation, needed_elsewhere, no_file_named, no_statement_on, removal_explanation, statement_by, statement_explanation, within_expression};
+ghost use Rattle.meson_explaining.specs.Insertions.{code_explanation, end_explanation, needed_elsewhere, no_statement_on, removal_explanation, statement_by, statement_explanation};
 
 use crate::argument_places::places_meant;
 use crate::bad_names::one_note;

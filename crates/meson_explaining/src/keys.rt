@@ -1,6 +1,6 @@
 //! Notes of the keys of keyword arguments.
 
-ghost use Rattle.std.specs.Prelude.{◌≡◌, ◌++◌, IfOk, OnOk, codes, find, flat_map, map, option_map, string_bytes};
+ghost use Rattle.std.specs.Prelude.{◌≡◌, IfOk, find, flat_map, map, option_map, string_bytes};
 ghost use Rattle.meson_explaining.specs.Keys.{after_space, is_edits, keys, kind_words, nearest_key, role_words, unknown_notes, wrong_notes};
 
 use crate::calls::plain_note;

@@ -1,6 +1,6 @@
 //! Why the place of a value is not found.
 
-ghost use Rattle.std.specs.Prelude.{◌≡◌, ◌++◌, IfOk, OnOk, map, option_map};
+ghost use Rattle.std.specs.Prelude.{◌≡◌, IfOk, map, option_map};
 ghost use Rattle.meson_explaining.specs.ArgumentPlaces.{and_help, folder_lines, line_file_notes, nearest_settings, no_call, no_call_notes, no_folder_notes, no_setting, nothing_on};
 ghost use Rattle.meson_explaining.specs.ArgumentPlaces.{nothing_there, place_missing, place_without_file, uncalled_notes};
 ghost use Rattle.meson_inventory.specs.Assignments.{assignments};

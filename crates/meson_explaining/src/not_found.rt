@@ -1,6 +1,6 @@
 //! Why an id names no call.
 
-ghost use Rattle.std.specs.Prelude.{◌≡◌, IfOk, filter, is_none, length};
+ghost use Rattle.std.specs.Prelude.{◌≡◌, IfOk, filter, is_none};
 ghost use Rattle.meson_explaining.specs.NotFound.{missing_notes, not_found, unnamed};
 
 use crate::calls::{Telling, add_few, add_further};

@@ -1,6 +1,6 @@
 //! Notes of new targets without a file, and of targets whose variable is used.
 
-ghost use Rattle.std.specs.Prelude.{◌≡◌, ◌++◌, ◌∷◌, [], IfOk, List, OnOk, codes, map, min, option_map, ℕ};
+ghost use Rattle.std.specs.Prelude.{◌≡◌, ◌++◌, IfOk, OnOk, map, min};
 ghost use Rattle.meson_lex.specs.declared.kinds.Span.{Span};
 ghost use Rattle.meson_calls.specs.Loading.{project as trees_of};
 ghost use Rattle.meson_calls.specs.Parts.{parts};
@@ -10,7 +10,7 @@ ghost use Rattle.meson_calls.specs.Walks.{read_in};
 ghost use Rattle.meson_explaining.specs.Targets.{file_note, file_notes, folder_notes, read_note, read_notes, span_at, used_notes};
 
 use crate::bad_names::one_note;
-use crate::calls::{Telling, add_few, add_further, plain_note};
+use crate::calls::{Telling, add_few, add_further};
 use crate::explanation::{Note, Spot};
 use meson_calls::keeper::Keeper;
 use meson_calls::walk_statements::walk_files;

@@ -1,6 +1,6 @@
 //! Notes of where the literal of a name is written in the build files.
 
-ghost use Rattle.std.specs.Prelude.{◌≡◌, ◌++◌, IfOk, OnOk, length, option_map, option_to_list, string_bytes};
+ghost use Rattle.std.specs.Prelude.{◌≡◌, ◌++◌, IfOk, OnOk, length, option_map, string_bytes};
 ghost use Rattle.memchr.specs.Find.{matches};
 ghost use Rattle.meson_explaining.specs.Written.{first_of, literal_of, written_below, written_in, written_note, written_notes};
 

@@ -4,7 +4,6 @@ use Rattle.std.specs.Prelude.{All, Bool, true, false, not, cond, option_and_then
 use Rattle.std.proofs.lemmas.List.Elements.{All-head, All-tail}
 use Rattle.meson_lex.specs.declared.kinds.Span.{Span}
 use Rattle.meson_syntax.proofs.paths.Every.{Every}
-use Rattle.meson_calls.specs.declared.call.CallRef.{CallRef}
 use Rattle.meson_calls.specs.declared.call.Reading.{Reading}
 use Rattle.meson_calls.specs.Calls.{Call, call_of, calls, calls_function}
 use Rattle.meson_calls.specs.Loading.{Loaded, project}

@@ -1,11 +1,10 @@
 //! What a project holds, as JSON with positions.
 
 ghost use Rattle.std.specs.Prelude.{◌≡◌, IfOk, codes, map};
-ghost use Rattle.serde_json.specs.Data.{array, member, no_members, object, string};
+ghost use Rattle.serde_json.specs.Data.{array, member, no_members, object};
 ghost use Rattle.serde_json.specs.View.{items_of, members_view, view};
-ghost use Rattle.meson_calls.specs.Loading.{name_of_file};
 ghost use Rattle.meson_inventory.specs.Inventory.{operator_of};
-ghost use Rattle.meson_inventory.specs.Placed.{bytes_data, call_span, character_at, count, end_data, line_at, placed_assignment_data, placed_assignments_data, placed_call_data, placed_calls_data, placed_project_data, placed_spot_data, unentered_data};
+ghost use Rattle.meson_inventory.specs.Placed.{bytes_data, call_span, count, placed_assignment_data, placed_assignments_data, placed_call_data, placed_calls_data, placed_project_data, placed_spot_data, unentered_data};
 
 use crate::assignments::{HeldAssignment, assignments_held};
 use crate::holdings::{HeldCall, Holdings, calls_held, holdings_of};

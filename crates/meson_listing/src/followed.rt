@@ -3,7 +3,6 @@
 ghost use Rattle.std.specs.Prelude.{◌≡◌, IfOk, OnOk, map};
 ghost use Rattle.serde_json.specs.View.{members_view, view};
 ghost use Rattle.meson_sharing.specs.CodeTold.{told_item_view, told_view};
-ghost use Rattle.meson_listing.specs.Entries.{texts_data};
 ghost use Rattle.meson_listing.specs.Followed.{folder_data, folder_named, followed_data, names_or_null, target_with, told_item_data, told_items_data, with_told};
 
 use crate::entries::{file_name, spot_members, text_or_null, texts_value};

@@ -1,5 +1,5 @@
 -- What was seen of a refused command, for an answer in JSON.
-use Rattle.std.specs.Prelude.{ℕ, List, codes, option_map, Option, Some, None}
+use Rattle.std.specs.Prelude.{List, codes, option_map, Option, Some, None}
 use Rattle.serde_json.specs.Data.{Data, Members, member, no_members, number, object, string, unsigned}
 use Rattle.meson_splice.specs.declared.file_set.File.{File}
 use Rattle.meson_splice.specs.Files.{bytes_at}

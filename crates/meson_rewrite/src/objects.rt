@@ -3,7 +3,7 @@
 ghost use Rattle.std.specs.Prelude.{◌≡◌, IfOk, List, false, map, reverse};
 ghost use Rattle.std.specs.List.{All};
 ghost use Rattle.std.specs.Str.{IsUtf8};
-ghost use Rattle.serde_json.specs.Data.{Data, array, number, string, unsigned};
+ghost use Rattle.serde_json.specs.Data.{Data, array, string};
 ghost use Rattle.serde_json.specs.View.{items_of, view};
 ghost use Rattle.serde_json.specs.Written.{compact_text, has_float};
 ghost use Rattle.meson_ranges.specs.Files.{AreFileEdits};

@@ -1,6 +1,6 @@
 //! What a completed run says.
 
-ghost use Rattle.std.specs.Prelude.{◌≡◌, [], IfOk, List, MatchResult, Ok, false, map};
+ghost use Rattle.std.specs.Prelude.{◌≡◌, IfOk, List, MatchResult, Ok, false, map};
 ghost use Rattle.std.specs.List.{All};
 ghost use Rattle.std.specs.Str.{IsUtf8};
 ghost use Rattle.serde_json.specs.Data.{Data};

@@ -1,13 +1,13 @@
 //! A step on a session, and the files that are to be written then.
 
-ghost use Rattle.std.specs.Prelude.{◌≡◌, ◌<◌, ◌⊎◌, [], IfOk, IfErr, List, None, Ok, OnOk, false, length, map, true, ℕ};
+ghost use Rattle.std.specs.Prelude.{◌≡◌, ◌<◌, ◌⊎◌, [], IfOk, IfErr, List, Ok, OnOk, map, true, ℕ};
 ghost use Rattle.std.specs.List.{All};
 ghost use Rattle.std.specs.Str.{IsUtf8};
 ghost use Rattle.serde_json.specs.Data.{Data};
-ghost use Rattle.meson_calls.specs.Loading.{HasFileName, IsProject, name_of_file};
+ghost use Rattle.meson_calls.specs.Loading.{HasFileName, IsProject};
 ghost use Rattle.meson_json.specs.Log.{is_text_history, log_of};
 ghost use Rattle.meson_rewrite.specs.declared.advice.Advice.TheVariants.{Nothing};
-ghost use Rattle.meson_rewrite.specs.inside.Edited.{IsEdited, IsEditedWith, IsObject, IsShown, IsShownWith, IsWithin};
+ghost use Rattle.meson_rewrite.specs.inside.Edited.{IsEdited, IsEditedWith, IsObject, IsShown, IsShownWith};
 ghost use Rattle.meson_rewrite.specs.Logs.{log_use, with_log};
 ghost use Rattle.meson_rewrite.specs.Steps.{Does, HasSums, IsTitled, MayRefuseStep, SaysStep, Stays, StopsChecked, StopsForgetting, StopsStepsBack, listing_form};
 ghost use Rattle.meson_rewrite.specs.Stops.{WantsMemory, undo_stop};
@@ -24,7 +24,6 @@ use crate::stop::Stop;
 use crate::warnings::{warned, warnings_for};
 use meson_command::Flags;
 use meson_diff::diff;
-use meson_plan::Project;
 use meson_script::{ListingForm, Report, Session, log_text};
 use meson_splice::{Bytes, FileSet, Text};
 use meson_sums::are_kept;

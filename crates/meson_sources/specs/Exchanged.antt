@@ -1,7 +1,7 @@
 -- Trees with one expression in the place of some others. Every place counts in the trees as they were.
 use Rattle.std.specs.Prelude.{ℕ, suc, ◌+◌, Bool, List, [], ◌∷◌, length, if◌then◌else◌}
 use Rattle.meson_syntax.specs.Children.{branches_parts, tail_parts}
-use Rattle.meson_syntax.specs.Tree.{Nowhere, Plain, Expression, paren, array, dictionary, call, unary, row, postfix, conditional, Operands, no_operands, operand, Tail, method, index, Tails, no_tails, tail, Listing, listing, Argument, plain, named, pair, Arguments, no_arguments, argument, Statement, evaluate, assign, selection, iteration, Branches, no_branches, branch, Otherwise, nothing_else, otherwise, Statements, no_statements, statement, Block, block, file}
+use Rattle.meson_syntax.specs.Tree.{Nowhere, Plain, Expression, paren, array, dictionary, call, unary, row, postfix, conditional, Operands, no_operands, operand, Tail, method, index, Tails, no_tails, tail, Listing, listing, plain, named, pair, Arguments, no_arguments, argument, Statement, evaluate, assign, selection, iteration, Branches, no_branches, branch, Otherwise, nothing_else, otherwise, Statements, no_statements, statement, Block, block, file}
 
 -- which expressions are exchanged, by the path that leads to them from here
 abbrev pub Chosen : Type 0

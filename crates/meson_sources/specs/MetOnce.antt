@@ -1,5 +1,5 @@
 -- No item of a target is met twice.
-use Rattle.std.specs.Prelude.{◌≡◌, ◌≢◌, ℕ, List, AllPairs, Ok}
+use Rattle.std.specs.Prelude.{◌≡◌, ◌≢◌, List, AllPairs, Ok}
 use Rattle.meson_lex.specs.declared.kinds.Span.{Span}
 use Rattle.meson_calls.specs.declared.call.Role.TheVariants as role
 use Rattle.meson_calls.specs.Calls.{Call}

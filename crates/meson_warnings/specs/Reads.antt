@@ -1,5 +1,5 @@
 -- Where a variable is read, by bytes of files, and in which calls that is.
-use Rattle.std.specs.Prelude.{ℕ, nat_le, ◌==◌, Bool, ◌&&◌, List, map, Some}
+use Rattle.std.specs.Prelude.{ℕ, nat_le, ◌==◌, Bool, ◌&&◌, List, map}
 use Rattle.std.specs.List.{list_any}
 use Rattle.meson_calls.specs.Loading.{Loaded, project}
 use Rattle.meson_calls.specs.Parts.{parts}

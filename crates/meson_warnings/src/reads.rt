@@ -1,7 +1,6 @@
 //! Where a variable is read, by bytes of files, and in which calls that is.
 
 ghost use Rattle.std.specs.Prelude.{◌≡◌, ◌++◌, OnOk, map};
-ghost use Rattle.std.specs.List.{list_any};
 ghost use Rattle.meson_warnings.specs.Reads.{is_in_one, is_inside, reads, spot_at};
 
 use meson_calls::CallRef;

@@ -1,5 +1,4 @@
 use Rattle.std.proofs.Common.{ap, ◌∙◌}
-use Rattle.meson_listing.specs.Values.{value_data}
 use Rattle.meson_inventory.specs.Info.{placed_value_data, with_members, with_position}
 use Rattle.meson_inventory.proofs.info.placed_info_argument.Goals as goal
 
