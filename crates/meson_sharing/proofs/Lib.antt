@@ -4,6 +4,7 @@ pub mod OwnMakers
 mod ChosenNames
 pub mod ToldTargets
 pub mod Sharing
+mod JointlyOwn
 mod AssignedValues
 pub mod ApartReads
 pub mod UseTurns

@@ -42,9 +42,12 @@ one_of qs q is =
 pub is_one : (qs : List CallRef) (q : CallRef) → Contains qs q → one_of_places qs q ≡ true
 is_one qs q c = list_any-from_Any (λ r. is_same_place r q) qs (c.0, q, c.1, c.2, itself_same q)
 
--- what is one of the one place is one of those that have it
-of_those : (ms : List CallRef) (v q : CallRef) → Contains ms v → one_of_places (v ∷ []) q ≡ true → one_of_places ms q ≡ true
-of_those ms v q has is = is_one ms q (subst (Contains ms) (same_place v q (one (is_same_place v q) is)) has)
+-- the values of makers that are among those of others
+abbrev pub AreAmong : List CallRef → List CallRef → Type 0
+AreAmong few ms = (q : CallRef) → Contains few q → Contains ms q
+
+pub one_among : (ms : List CallRef) (v : CallRef) → Contains ms v → AreAmong (v ∷ []) ms
+one_among ms v has q is = subst (Contains ms) (same_place v q (one (is_same_place v q) (is_one (v ∷ []) q is))) has
   where
     one : (b : Bool) → b || false ≡ true → b ≡ true
     one true is = refl
@@ -52,45 +55,47 @@ of_those ms v q has is = is_one ms q (subst (Contains ms) (same_place v q (one (
 
 -- ---- where fewer values may be read
 
-module _ {S : Type 0} (test : CallRef → Bool) (ms : List CallRef) (v : CallRef) (has : Contains ms v) where
+of_those : (ms few : List CallRef) → AreAmong few ms → (q : CallRef) → one_of_places few q ≡ true → one_of_places ms q ≡ true
+of_those ms few among q is = is_one ms q (among q (one_of few q is))
+
+module _ {S : Type 0} (test : CallRef → Bool) (ms few : List CallRef) (among : AreAmong few ms) where
   -- a maker of what is known
-  maker_of_those : (makers : List (Maker S)) → list_any (λ m. one_of_places (v ∷ []) m.value.place) makers ≡ true
+  maker_of_those : (makers : List (Maker S)) → list_any (λ m. one_of_places few m.value.place) makers ≡ true
       → list_any (λ m. one_of_places ms m.value.place) makers ≡ true
   maker_of_those [] is = is
   maker_of_those (m ∷ more) is =
-      elim (or_cases (one_of_places (v ∷ []) m.value.place) (list_any (λ n. one_of_places (v ∷ []) n.value.place) more) is) [
-        | inl first ↦ or_left (one_of_places ms m.value.place) (list_any (λ n. one_of_places ms n.value.place) more) (of_those ms v m.value.place has first)
+      elim (or_cases (one_of_places few m.value.place) (list_any (λ n. one_of_places few n.value.place) more) is) [
+        | inl first ↦ or_left (one_of_places ms m.value.place) (list_any (λ n. one_of_places ms n.value.place) more) (of_those ms few among m.value.place first)
         | inr later ↦ or_right (one_of_places ms m.value.place) (list_any (λ n. one_of_places ms n.value.place) more) (maker_of_those more later)
       ]
 
-  kept_of_those : (k : Known S) → keeps_one_of (v ∷ []) k ≡ true → keeps_one_of ms k ≡ true
+  kept_of_those : (k : Known S) → keeps_one_of few k ≡ true → keeps_one_of ms k ≡ true
   kept_of_those None is = is
   kept_of_those (Some k) is = maker_of_those k.makers is
 
-  known_of_those : (k : Known S) → has_one_of (v ∷ []) k ≡ true → has_one_of ms k ≡ true
+  known_of_those : (k : Known S) → has_one_of few k ≡ true → has_one_of ms k ≡ true
   known_of_those k is =
-      elim (or_cases (may_leave_out k) (keeps_one_of (v ∷ []) k) is) [
+      elim (or_cases (may_leave_out k) (keeps_one_of few k) is) [
         | inl cut ↦ or_left (may_leave_out k) (keeps_one_of ms k) cut
         | inr kept ↦ or_right (may_leave_out k) (keeps_one_of ms k) (kept_of_those k kept)
       ]
 
-  reads_of_those : (rs : List (Placed (Known S))) → list_all test (places (filter (sees ms) rs)) ≡ true
-      → list_all test (places (filter (sees (v ∷ [])) rs)) ≡ true
+  reads_of_those : (rs : List (Placed (Known S))) → list_all test (places (filter (sees ms) rs)) ≡ true → list_all test (places (filter (sees few) rs)) ≡ true
   reads_of_those [] all = all
-  reads_of_those (r ∷ rs) all = go (sees (v ∷ []) r) (sees ms r) (known_of_those r.it) (reads_of_those rs) all
+  reads_of_those (r ∷ rs) all = go (sees few r) (sees ms r) (known_of_those r.it) (reads_of_those rs) all
     where
       go : (b c : Bool) → (b ≡ true → c ≡ true)
-          → (list_all test (places (filter (sees ms) rs)) ≡ true → list_all test (places (filter (sees (v ∷ [])) rs)) ≡ true)
+          → (list_all test (places (filter (sees ms) rs)) ≡ true → list_all test (places (filter (sees few) rs)) ≡ true)
           → list_all test (places (if c then r ∷ filter (sees ms) rs else filter (sees ms) rs)) ≡ true
-          → list_all test (places (if b then r ∷ filter (sees (v ∷ [])) rs else filter (sees (v ∷ [])) rs)) ≡ true
+          → list_all test (places (if b then r ∷ filter (sees few) rs else filter (sees few) rs)) ≡ true
       go true true more later all =
           let both = and_parts (test r.place) (list_all test (places (filter (sees ms) rs))) all in
-          and_from (test r.place) (list_all test (places (filter (sees (v ∷ [])) rs))) both.0 (later both.1)
+          and_from (test r.place) (list_all test (places (filter (sees few) rs))) both.0 (later both.1)
       go true false more later all = absurd (false≢true (more refl))
       go false true more later all = later (and_parts (test r.place) (list_all test (places (filter (sees ms) rs))) all).1
       go false false more later all = later all
 
-module _ {S : Type 0} (test : CallRef → Bool) (p : Project S) (ms : List CallRef) (v : CallRef) (has : Contains ms v) where
+module _ {S : Type 0} (test : CallRef → Bool) (p : Project S) (ms few : List CallRef) (among : AreAmong few ms) where
   -- of a first variable and of others
   parts_of_all : (x : List ℕ) (names : List (List ℕ)) → list_all test (flat_map (reads_of_variable p ms) (x ∷ names)) ≡ true
       → (list_all test (reads_of_variable p ms x) ≡ true) × (list_all test (flat_map (reads_of_variable p ms) names) ≡ true)
@@ -104,19 +109,26 @@ module _ {S : Type 0} (test : CallRef → Bool) (p : Project S) (ms : List CallR
       let both = parts_of_all x names all in
       All-cons (λ y. list_all test (reads_of_variable p ms y) ≡ true) x names both.0 (each_of_all names both.1)
 
-  reads_of_its : list_all test (reads_of p ms) ≡ true → (o : Option (List ℕ)) → variable_of p v ≡ o
-      → list_all test (flat_map (reads_of_variable p (v ∷ [])) (distinct (cons_option o []))) ≡ true
-  reads_of_its all None is = refl
-  reads_of_its all (Some x) is =
-      let there : Contains (names_of p ms) x = distinct_has (filter_map (variable_of p) ms) x (chosen_has (variable_of p) ms v x has is) in
-      let of_x : list_all test (reads_of_variable p ms x) ≡ true =
-      All-contains (λ y. list_all test (reads_of_variable p ms y) ≡ true) (names_of p ms) x (each_of_all (names_of p ms) all) there in
-      list_all-append test (reads_of_variable p (v ∷ []) x) []
-      ∙ and_from (list_all test (reads_of_variable p (v ∷ []) x)) true (reads_of_those test ms v has (reads p x) of_x) refl
+  abbrev IsRight : List ℕ → Type 0
+  IsRight x = list_all test (reads_of_variable p few x) ≡ true
 
-pub reads_of_fewer : {S : Type 0} (test : CallRef → Bool) (p : Project S) (ms : List CallRef) (v : CallRef) → Contains ms v
-    → list_all test (reads_of p ms) ≡ true → list_all test (reads_of p (v ∷ [])) ≡ true
-reads_of_fewer test p ms v has all = reads_of_its test p ms v has all (variable_of p v) refl
+  all_of_each : (names : List (List ℕ)) → All IsRight names → list_all test (flat_map (reads_of_variable p few) names) ≡ true
+  all_of_each [] all = refl
+  all_of_each (x ∷ names) all =
+      list_all-append test (reads_of_variable p few x) (flat_map (reads_of_variable p few) names)
+      ∙ and_from (list_all test (reads_of_variable p few x)) (list_all test (flat_map (reads_of_variable p few) names)) (All-head IsRight x names all)
+      (all_of_each names (All-tail IsRight x names all))
+
+  of_variable : list_all test (reads_of p ms) ≡ true → (v : CallRef) → Contains few v → (x : List ℕ) → variable_of p v ≡ Some x → IsRight x
+  of_variable all v has x is =
+      let there : Contains (names_of p ms) x = distinct_has (filter_map (variable_of p) ms) x (chosen_has (variable_of p) ms v x (among v has) is) in
+      reads_of_those test ms few among (reads p x)
+      (All-contains (λ y. list_all test (reads_of_variable p ms y) ≡ true) (names_of p ms) x (each_of_all (names_of p ms) all) there)
+
+  pub reads_of_fewer : list_all test (reads_of p ms) ≡ true → list_all test (reads_of p few) ≡ true
+  reads_of_fewer all =
+      all_of_each (names_of p few) (All-distinct IsRight [] (filter_map (variable_of p) few)
+      (chosen_all (variable_of p) IsRight few (All-weaker (Contains few) (λ v. (x : List ℕ) → variable_of p v ≡ Some x → IsRight x) (of_variable all) few (All-contains_itself few))))
 
 -- ---- variables to which values are assigned
 
@@ -242,7 +254,7 @@ module _ (p : Project Span) (c : Placed (Call Span)) where
     where
       of_one : (v : CallRef) → Contains ms v → All Q (reads_of p (v ∷ []))
       of_one v has =
-          All-weaker (λ q. test q ≡ true) Q means (reads_of p (v ∷ [])) (AllPass-from_list_all test (reads_of p (v ∷ [])) (reads_of_fewer test p ms v has all))
+          All-weaker (λ q. test q ≡ true) Q means (reads_of p (v ∷ [])) (AllPass-from_list_all test (reads_of p (v ∷ [])) (reads_of_fewer test p ms (v ∷ []) (one_among ms v has) all))
 
   spreads : (m : CallRef) (Q : List CallRef → CallRef → Type 0) (test : CallRef → Bool) → ((q : CallRef) → test q ≡ true → Q (from_maker p c m) q)
       → list_all test (reads_of p (from_maker p c m)) ≡ true → Spreads p c m Q

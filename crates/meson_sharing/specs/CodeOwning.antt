@@ -1,5 +1,5 @@
 -- What the code computes of a maker.
-use Rattle.std.specs.Prelude.{ℕ, Bool, ◌&&◌, ◌||◌, List, [], ◌∷◌, ◌++◌, if◌then◌else◌, Option, Some, None, option_and_then}
+use Rattle.std.specs.Prelude.{ℕ, Bool, false, ◌&&◌, ◌||◌, List, [], ◌∷◌, ◌++◌, if◌then◌else◌, Option, Some, None, option_and_then}
 use Rattle.std.specs.List.{list_all}
 use Rattle.meson_calls.specs.declared.call.CallRef.{CallRef}
 use Rattle.meson_calls.specs.Calls.{Call}
@@ -33,3 +33,7 @@ is_closed_by p with_uses followed ways m =
 
 abbrev pub is_closed_for : {S : Type 0} → Project S → (with_uses : Bool) → CallRef → Placed (Call S) → Bool
 is_closed_for p with_uses m c = is_closed p c with_uses (from_maker p c m)
+
+-- whether what is in all of these values is read for the call alone that follows them and has these ways
+abbrev pub are_closed_by : {S : Type 0} → Project S → (followed ways : List CallRef) → Bool
+are_closed_by p followed ways = list_all (is_read_by p false ways followed) (reads_of p followed)

@@ -1,5 +1,5 @@
 -- What the code tells of the sources of a target.
-use Rattle.std.specs.Prelude.{◌≡◌, ℕ, List, [], map, if◌then◌else◌, MatchOption, ⊤, false, Option, Some, None, option_and_then}
+use Rattle.std.specs.Prelude.{◌≡◌, ℕ, Bool, List, [], map, if◌then◌else◌, MatchOption, ⊤, false, Option, Some, None, option_and_then}
 use Rattle.std.specs.List.{filter_map}
 use Rattle.meson_lex.specs.declared.kinds.Span.{Span}
 use Rattle.meson_calls.specs.declared.call.CallRef.{CallRef}
@@ -11,7 +11,7 @@ use Rattle.meson_sharing.specs.declared.told.Kept.{Kept}
 use Rattle.meson_sharing.specs.declared.told.Sharing.{Sharing}
 use Rattle.meson_sharing.specs.declared.told.Told as code
 use Rattle.meson_sharing.specs.declared.told.ToldItem as code_item
-use Rattle.meson_sharing.specs.CodeOwning.{is_closed_by}
+use Rattle.meson_sharing.specs.CodeOwning.{are_closed_by, is_closed_by}
 use Rattle.meson_sharing.specs.CodeTargets.{all_targets, sharing_names, target_view}
 use Rattle.meson_sharing.specs.Sharing.{names_or_none, variable_of}
 use Rattle.meson_sharing.specs.Told.{Told, ToldItem, last_of}
@@ -70,6 +70,12 @@ module _ (s : Sharing) where
   abbrev pub IsAnswer : Option Answer → Type 0
   IsAnswer a = MatchOption a ⊤ IsAnswered
 
+  -- what is in all values that it follows is read for it alone
+  abbrev pub are_own : Bool
+  are_own = are_closed_by (followed_project s.follower) s.followed.now s.ways.now
+
   -- what is kept is right: the targets, if there are some, are all of the project
   abbrev pub IsKept : Kept → Type 0
-  IsKept k = MatchOption k.targets ⊤ (λ ts. map target_view ts.items ≡ all_targets (followed_project s.follower)) × IsAnswer k.last
+  IsKept k =
+      MatchOption k.targets ⊤ (λ ts. map target_view ts.items ≡ all_targets (followed_project s.follower))
+      × IsAnswer k.last × MatchOption k.all_own ⊤ (λ b. b ≡ are_own)

@@ -8,7 +8,7 @@ ghost use Rattle.meson_calls.specs.GoodLists.{GoodListing};
 ghost use Rattle.meson_calls.specs.Loading.{IsProject, loaded_from};
 ghost use Rattle.meson_syntax.specs.View.{list_view};
 ghost use Rattle.meson_following.specs.CodeFollowing.{followed_project};
-ghost use Rattle.meson_sharing.specs.CodeOwning.{is_closed_by, is_closed_for, is_read_by};
+ghost use Rattle.meson_sharing.specs.CodeOwning.{are_closed_by, is_closed_by, is_closed_for, is_read_by};
 ghost use Rattle.meson_sharing.specs.Sharing.{from_followed, is_own, is_unshared, reads_of};
 
 use crate::takers::{is_way, takers_of, ways_of_sources};
@@ -103,6 +103,19 @@ fn from_followed(
     }
     let reads = reads_of(follower, makers.as_slice())?;
     Ok(Reached { makers, reads })
+}
+
+/// Whether what is in all of these values is read for the call alone that follows them and has these ways. Then each of them is.
+pub(crate) fn are_closed_by(
+    follower: &Follower<'_>,
+    followed: &[CallRef],
+    ways: &[CallRef],
+) -> Result<bool, AllocError>
+    requires { IsProject (loaded_from follower.now.files.now follower.now.trees.now) }
+    ensures { IfOk result (λ are. are ≡ are_closed_by (followed_project follower.now) followed.now ways.now) }
+{
+    let reads = reads_of(follower, followed)?;
+    are_read(follower, false, ways, followed, reads.as_slice())
 }
 
 /// Whether what is in the value of a maker is read for the call alone that follows these values and has these ways; or used, if uses are allowed.

@@ -1,6 +1,6 @@
 //! What is reported of the sources of a target, where variables are followed.
 
-ghost use Rattle.std.specs.Prelude.{◌≡◌, ◌++◌, ◌∷◌, [], IfOk, MatchOption, OnOk, ⊤, count_by, map};
+ghost use Rattle.std.specs.Prelude.{◌≡◌, ◌++◌, ◌∷◌, [], IfOk, MatchOption, OnOk, ⊤, count_by, false, map};
 ghost use Rattle.std.specs.List.{cons_option};
 ghost use Rattle.meson_calls.specs.ChosenNotes.{Source, placed_call};
 ghost use Rattle.meson_calls.specs.GoodLists.{GoodListing};
@@ -8,17 +8,18 @@ ghost use Rattle.meson_calls.specs.Loading.{IsProject, loaded_from};
 ghost use Rattle.meson_syntax.specs.View.{list_view};
 ghost use Rattle.meson_following.specs.CodeFollowing.{followed_project, item_view, mark_view};
 ghost use Rattle.meson_sharing.specs.CodeTargets.{all_targets, target_view};
-ghost use Rattle.meson_sharing.specs.CodeTold.{IsKept, items_with, item_with, mark_with, sharers_with, told_item_view, told_view};
+ghost use Rattle.meson_sharing.specs.CodeOwning.{is_closed_by};
+ghost use Rattle.meson_sharing.specs.CodeTold.{IsKept, are_own, items_with, item_with, mark_with, sharers_with, told_item_view, told_view};
 ghost use Rattle.meson_sharing.specs.Sharing.{variable_of};
 ghost use Rattle.meson_sharing.specs.Told.{is_opaque, told, told_at};
 
-use crate::owning::is_closed_by;
+use crate::owning::{are_closed_by, is_closed_by};
 use crate::takers::ways_of_sources;
 use crate::targets::{Target, sharing_names, targets_of};
 use crate::variable::variable_text;
 use meson_calls::CallRef;
 use meson_calls::place::copy_place;
-use meson_following::makers::is_same_place;
+use meson_following::makers::{is_one_of, is_same_place};
 use meson_following::{Follower, Following, Item, Mark};
 use meson_splice::{Many, Text};
 use meson_syntax::{Expr, List};
@@ -50,11 +51,13 @@ pub(crate) struct Answer {
     pub shared: Option<Many<Text>>,
 }
 
-/// What is kept from one item to the next: all targets, which are found when they are first needed, and the last answer.
+/// What is kept from one item to the next: all targets and whether all values are read for this target alone, which are found when they are first needed, and
+/// the last answer.
 #[derive(Drop)]
 pub(crate) struct Kept {
     pub targets: Option<Vec<Target>>,
     pub last: Option<Answer>,
+    pub all_own: Option<bool>,
 }
 
 /// What decides which other targets get what is in the sources of a target: its call, the values that it follows, and its ways.
@@ -126,6 +129,36 @@ fn kept_targets(
 }
 
 impl Sharing<'_> {
+    /// Whether what is in all values that the target follows is read for it alone. It is found once.
+    fn are_own(&self, kept: &mut Kept) -> Result<bool, AllocError>
+        requires project { IsProject (loaded_from self.now.follower.files.now self.now.follower.trees.now) }
+        requires kept { IsKept self.now kept.now }
+        ensures are { IfOk result (λ are. are ≡ are_own self.now) }
+        ensures kept { OnOk result (IsKept self.now kept.new) }
+    {
+        if let Some(are) = kept.all_own {
+            return Ok(are);
+        }
+        let are = are_closed_by(&self.follower, self.followed, self.ways)?;
+        kept.all_own = Some(are);
+        Ok(are)
+    }
+
+    /// Whether what is in the value of a maker is read for the target alone. That value by itself is looked at only if something else reads one of all values.
+    fn is_own(&self, maker: &CallRef, kept: &mut Kept) -> Result<bool, AllocError>
+        requires project { IsProject (loaded_from self.now.follower.files.now self.now.follower.trees.now) }
+        requires kept { IsKept self.now kept.now }
+        ensures is { IfOk result (λ is. is ≡ is_closed_by (followed_project self.now.follower) false self.now.followed.now self.now.ways.now maker.now) }
+        ensures kept { OnOk result (IsKept self.now kept.new) }
+    {
+        if is_one_of(self.followed, maker) {
+            if self.are_own(kept)? {
+                return Ok(true);
+            }
+        }
+        is_closed_by(&self.follower, false, self.followed, self.ways, maker)
+    }
+
     /// The names of the other targets that get what is in the value of a maker; `None` where none does, but something that is no target.
     /// No other target is looked for where the value is read for this one alone.
     fn sharers(&self, maker: &CallRef, kept: &mut Kept) -> Result<Option<Many<Text>>, AllocError>
@@ -135,7 +168,7 @@ impl Sharing<'_> {
         ensures kept { OnOk result (IsKept self.now kept.new) }
     {
         let alloc = self.follower.alloc;
-        if is_closed_by(&self.follower, false, self.followed, self.ways, maker)? {
+        if self.is_own(maker, kept)? {
             return Ok(Some(Many::new(alloc)));
         }
         let targets = kept_targets(&self.follower, kept.targets.take())?;
@@ -231,6 +264,7 @@ impl Sharing<'_> {
         let mut kept = Kept {
             targets: None,
             last: None,
+            all_own: None,
         };
         for mark in marks {
             self.take_mark(mark, &mut kept, &mut items)?;
