@@ -1,0 +1,17 @@
+//! Sources added to a target and removed from it, where variables are followed.
+#![tactic(auto)]
+
+mod adding;
+mod asking;
+mod homes;
+pub mod laws;
+mod named;
+mod paths;
+mod removals;
+pub mod removing;
+pub mod sharing;
+mod sources;
+
+pub use adding::sources_added;
+pub use removing::sources_removed;
+pub use sharing::SharedLists;
