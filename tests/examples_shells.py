@@ -38,6 +38,8 @@ kwargs set target tide i>implib|install|install_dir|install_rpath
 kwargs info target tide ''>
 --in s>src
 --in src ar>arg
+--follow t>target
+--follow=shared target tide ''>add|rm|rename|add_extra_files|rm_extra_files|add_target|rm_target|info
 arg ''>add|delete|info|remove|replace|set
 arg -->--after|--help|--sorted
 arg set ''>at|dependency|project|target|variable
@@ -82,6 +84,9 @@ target moon add_target moon.c --subdir = s>src
 target moon add_target moon.c --subdir a>a\ folder
 --title v = 1 kw>kwargs
 --title fix : typo kw>kwargs
+--follow =>own|shared
+--follow = s>shared
+--follow = own tar>target
 target a : b inf>info
 undo --check a : b>
 """
@@ -93,6 +98,7 @@ ZSH = r"""
 --sourcedir 'a\ '>a\ folder/
 --sourcedir=s>--sourcedir=src/
 --sourcedir=a>--sourcedir=a\ folder/
+--follow=s>--follow=shared
 target tide add "'m">'moon c.c'
 target tide add '"moon c'>"moon c.c"
 target tide add 'moon\ '>moon\ c.c
@@ -127,9 +133,9 @@ SHELLS = {
 
 
 def complete(home, shell, words):
-    """What the shell completes to, in a folder with a few files."""
+    """What the shell completes to, in a folder with a few files. fish also says where a value may come after `=`."""
     out = plain(home.ask([*SHELLS[shell](home), *words], home.path("words")).out)
-    return sorted(out.splitlines())
+    return sorted(it for it in out.splitlines() if shell != "fish" or not it.endswith("="))
 
 
 def unquoted(shell, names):

@@ -64,9 +64,12 @@ PAIRS = [["version", "1.0"], ["license", "GPL"], ["install", "false"], ["c_args"
          ["license.0", ":'x' + zlib"], ["version", ":[1"]]
 
 
-def may_follow(words):
-    """Whether `--follow` may stand before these words."""
-    return words[0] in ("list", "history", "undo", "redo", "command") or (words[0] == "target" and words[2:3] == ["info"])
+def follows(words):
+    """The forms of `--follow` that may stand before these words."""
+    if words[0] == "target" and words[2:3] in (["add"], ["rm"]):
+        return ["--follow", "--follow=own", "--follow=shared"]
+    is_listed = words[0] == "target" and words[2:3] == ["info"]
+    return ["--follow", "--follow=own"] if is_listed or words[0] in ("list", "history", "undo", "redo", "command") else []
 
 
 def damage(rng, text):
@@ -117,6 +120,8 @@ def command(rng):
         insertion(rng),
         removal(rng),
     ])
+    if entry.get("operation") in ("src_add", "src_rm") and rng.random() < 0.5:
+        entry["follow"] = rng.choice([True, True, "shared", False])
     if rng.random() < 0.1:
         entry[rng.choice([*entry, "follow"])] = value
     return entry

@@ -4,6 +4,7 @@ use meson_calls::{CallName, Reading};
 use meson_case_files::text_of;
 use meson_plan::{Command, Role, Setting};
 use meson_splice::{Many, Text};
+use meson_steps::source_change::{SharedLists, SourceChange};
 use std::alloc::{AllocError, Global};
 
 type Read = Result<Option<Command>, AllocError>;
@@ -199,10 +200,48 @@ fn command_in(alloc: Global, folder: Option<&str>, words: &[&str]) -> Read {
     }
 }
 
+/// What an operation does with the sources of a target where variables are followed.
+fn source_change(
+    alloc: Global,
+    operation: &str,
+    words: &[&str],
+) -> Result<Option<SourceChange>, AllocError> {
+    match operation {
+        "add" => Ok(Some(SourceChange::Add(texts(alloc, words)?))),
+        "rm" => Ok(Some(SourceChange::Remove(texts(alloc, words)?))),
+        _ => Ok(None),
+    }
+}
+
+/// The command that follows variables, if the words name one.
+fn following(alloc: Global, folder: Option<&str>, shared: SharedLists, words: &[&str]) -> Read {
+    let ["target", id, operation, words @ ..] = words else {
+        return Ok(None);
+    };
+    let target = named(alloc, folder, id)?;
+    match source_change(alloc, operation, words)? {
+        Some(change) => Ok(Some(Command::FollowedSources {
+            target,
+            change,
+            shared,
+        })),
+        None => Ok(None),
+    }
+}
+
+/// The command that the words after a folder name, if they name one.
+fn command_after(alloc: Global, folder: Option<&str>, words: &[&str]) -> Read {
+    match words {
+        ["--follow", words @ ..] => following(alloc, folder, SharedLists::Kept, words),
+        ["--follow=shared", words @ ..] => following(alloc, folder, SharedLists::Changed, words),
+        _ => command_in(alloc, folder, words),
+    }
+}
+
 /// The command that the words name, if they name one.
 pub fn command_of(alloc: Global, words: &[&str]) -> Read {
     match words {
-        ["--in", folder, words @ ..] => command_in(alloc, Some(folder), words),
-        _ => command_in(alloc, None, words),
+        ["--in", folder, words @ ..] => command_after(alloc, Some(folder), words),
+        _ => command_after(alloc, None, words),
     }
 }

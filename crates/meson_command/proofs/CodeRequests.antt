@@ -9,7 +9,7 @@ use Rattle.meson_json.specs.Operations.{code_operation}
 use Rattle.meson_json.specs.declared.names.CodeOperation.{CodeOperation}
 use Rattle.meson_json.specs.declared.names.CodeOperation.TheVariants as operation
 use Rattle.meson_command.specs.Actions.{run, word_at}
-use Rattle.meson_command.specs.Codes.{blank_in, code_word, insertion_action, last_word, place_meant, removal_action, search_meant}
+use Rattle.meson_command.specs.Codes.{blank_in, code_word, insertion_action, last_word, place_meant}
 use Rattle.meson_command.specs.declared.fault.UsageFault.{UsageFault}
 use Rattle.meson_command.specs.declared.fault.UsageFault.TheVariants.{NotCode}
 

@@ -15,6 +15,7 @@ use Rattle.meson_command.specs.Actions.{run}
 use Rattle.meson_command.specs.Arguments.{action_within}
 use Rattle.meson_command.specs.Asking.{asked_from}
 use Rattle.meson_command.specs.Codes.{code_action, insertion_action}
+use Rattle.meson_command.specs.Spelling.{passed_from}
 use Rattle.meson_command.specs.Program.{argument, code, command, default_options, history, kwargs, list, program, redo, target, undo}
 use Rattle.meson_command.specs.Rows.{dry, flagged, in_place}
 use Rattle.meson_command.specs.RowsOfCode.{Inserted, above_in, below_in}
@@ -31,7 +32,7 @@ of-code place blank asked None = refl
 of-code place blank asked (Some c) = refl
 
 pub inserted-law : Inserted
-unfolding clap_on_literals program target kwargs argument code default_options command undo redo history list asked_from action_within insertion_action code_action count_of blank_of
+unfolding clap_on_literals program target kwargs argument code default_options command undo redo history list passed_from asked_from action_within insertion_action code_action count_of blank_of
 inserted-law = (
   λ text. of-code (below_in None (name.Call callee.Target (codes "e"))) None in_place (statement_code text),
   λ text. of-code (above_in None (name.Variable (codes "x"))) None in_place (statement_code text),

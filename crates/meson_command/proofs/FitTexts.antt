@@ -9,9 +9,10 @@ use Rattle.clap.specs.declared.error.kind.ErrorKind.TheVariants as kind
 use Rattle.clap.specs.declared.error.kind.ErrorKind.TheVariants.{DisplayHelp, DisplayVersion}
 use Rattle.meson_json.specs.Titles.{is_title}
 use Rattle.meson_command.specs.Arguments.{action_within}
-use Rattle.meson_command.specs.Asking.{answer, answer_by, asked_from, asked_of, is_dry, is_input, names_no_folder, only_asks, only_shows, reading_in, reads_input, texts_fit, title_in, with_title}
+use Rattle.meson_command.specs.Asking.{answer, answer_by, asked_from, asked_of, is_dry, is_input, names_no_folder, only_asks, only_shows, follow_in, reads_input, texts_fit, title_in, with_title}
 use Rattle.meson_command.specs.Laws.{TextsWriteNothing}
 use Rattle.meson_command.specs.Program.{program}
+use Rattle.meson_command.specs.Spelling.{clap_words}
 use Rattle.meson_command.specs.declared.asked.Action.{Action}
 use Rattle.meson_command.specs.declared.asked.Action.TheVariants as action
 use Rattle.meson_command.specs.declared.asked.Asked.{Asked}
@@ -36,7 +37,7 @@ from_words : (rows : List Row) (subcommand : Option (Text × List Row)) → Answ
 unfolding asked_from
 from_words rows subcommand =
     after (ok_or subcommand Usage) _ (λ s. either (names_no_folder (first_of (codes "DIR") rows)) _ _ (err _)
-    (after (action_within (first_of (codes "FOLDER") rows) (reading_in rows) s.0 s.1) _ (λ x. fits rows x (texts_fit x (first_of (codes "FILE") rows) (is_dry rows)) refl)))
+    (after (action_within (first_of (codes "FOLDER") rows) (follow_in rows) s.0 s.1) _ (λ x. fits rows x (texts_fit x (first_of (codes "FILE") rows) (is_dry rows)) refl)))
 
 by_kind : (k : ErrorKind) → Answers HasFitTexts (answer_by k)
 by_kind DisplayHelp = ok _ (refl, λ shows. refl)
@@ -76,5 +77,5 @@ named-for x (Some name) dry fit = allowed dry (only_asks x) (not (is_input name 
 
 pub texts-law : TextsWriteNothing
 texts-law words a is =
-    let fit = fit-texts words a (fault_of program words) is in
+    let fit = fit-texts (clap_words words) a (fault_of program (clap_words words)) is in
     (named-for a.action a.texts a.flags.dry_run fit.0, fit.1)

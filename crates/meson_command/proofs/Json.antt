@@ -9,9 +9,10 @@ use Rattle.clap.specs.declared.error.kind.ErrorKind.TheVariants as kind
 use Rattle.clap.specs.declared.error.kind.ErrorKind.TheVariants.{DisplayHelp, DisplayVersion, OutOfMemory}
 use Rattle.meson_json.specs.Titles.{is_title}
 use Rattle.meson_command.specs.Arguments.{action_within}
-use Rattle.meson_command.specs.Asking.{answer, answer_by, asked_from, asked_of, is_dry, is_json_answer, json_by, names_no_folder, reading_in, texts_fit, title_in}
+use Rattle.meson_command.specs.Asking.{answer, answer_by, asked_from, asked_of, is_dry, is_json_answer, json_by, names_no_folder, follow_in, texts_fit, title_in}
 use Rattle.meson_command.specs.Laws.{JsonWhereWanted}
 use Rattle.meson_command.specs.Program.{program}
+use Rattle.meson_command.specs.Spelling.{clap_words}
 use Rattle.meson_command.specs.declared.asked.Asked.{Asked}
 use Rattle.meson_command.specs.declared.fault.UsageFault.TheVariants.{Usage, BadTitle}
 use Rattle.meson_command.proofs.NoHelp.{Answers, after, either, err, ok}
@@ -23,7 +24,7 @@ from_words : (rows : List Row) (subcommand : Option (Text × List Row)) → Answ
 unfolding asked_from
 from_words rows subcommand =
     after (ok_or subcommand Usage) _ (λ s. either (names_no_folder (first_of (codes "DIR") rows)) _ _ (err _)
-    (after (action_within (first_of (codes "FOLDER") rows) (reading_in rows) s.0 s.1) _ (λ action. either (texts_fit action (first_of (codes "FILE") rows) (is_dry rows)) _ _
+    (after (action_within (first_of (codes "FOLDER") rows) (follow_in rows) s.0 s.1) _ (λ action. either (texts_fit action (first_of (codes "FILE") rows) (is_dry rows)) _ _
     (either (is_title (title_in rows)) _ _ (ok _ refl) (err BadTitle)) (err Usage))))
 
 -- help and the version are not answered in JSON
@@ -52,8 +53,9 @@ by_kinds (k ∷ ks) words = by_kind k
 
 pub json-law : JsonWhereWanted
 json-law words asked is =
-    let wanted : Asked → Type 0 = λ a. a.flags.json ≡ json_by (fault_of program words) (is_json_answer (matches_of program words)) in
-    subst (λ r. IfOk r wanted) is (by_kinds (fault_of program words) words).so
+    let given = clap_words words in
+    let wanted : Asked → Type 0 = λ a. a.flags.json ≡ json_by (fault_of program given) (is_json_answer (matches_of program given)) in
+    subst (λ r. IfOk r wanted) is (by_kinds (fault_of program given) given).so
 
 -- ---- what is read of the words
 

@@ -17,6 +17,7 @@ use Rattle.meson_json.specs.declared.names.ArgumentOperation.TheVariants as oper
 use Rattle.meson_command.specs.Actions.{run}
 use Rattle.meson_command.specs.Arguments.{action_within, argument_action, requested, values_meant}
 use Rattle.meson_command.specs.Asking.{asked_from, no_flags}
+use Rattle.meson_command.specs.Spelling.{passed_from}
 use Rattle.meson_command.specs.Program.{argument, code, command, default_options, history, kwargs, list, program, redo, target, undo}
 use Rattle.meson_command.specs.RowsOfArguments.{CodeIsExpressionOrRefused, LaterWordsArePlain}
 use Rattle.meson_command.specs.declared.asked.Action.{Action}
@@ -42,7 +43,7 @@ abbrev in_place : Action → Result Asked UsageFault
 in_place a = Ok (record { dir = None; title = []; flags = no_flags; texts = None; action = a })
 
 pub later-law : LaterWordsArePlain
-unfolding clap_on_literals program target kwargs argument code default_options command undo redo history list asked_from action_within argument_action values_meant
+unfolding clap_on_literals program target kwargs argument code default_options command undo redo history list passed_from asked_from action_within argument_action values_meant
 later-law id key word = one-value (meant_by word) (value_of id key) in_place
 
 pub code-law : CodeIsExpressionOrRefused

@@ -2,14 +2,14 @@
 use Rattle.std.proofs.Common.{◌≡◌, ℕ, Bool, true, false, List, Option, Some, None, Result, Ok, Err, codes, refl, ap, subst}
 use Rattle.std.specs.Prelude.{not, ◌&&◌, ◌||◌, ◌==◌, length, IfOk, bytes_eq, if◌then◌else◌, is_some, ok_or}
 use Rattle.clap.specs.Words.{Row, Text, first_of}
-use Rattle.meson_calls.specs.declared.call.Reading.{Reading}
+use Rattle.meson_steps.specs.declared.source_change.SharedLists.{SharedLists}
 use Rattle.meson_calls.specs.declared.call.Role.{Role}
 use Rattle.meson_splice.specs.Patch.{then_ok}
 use Rattle.meson_command.specs.Actions.{action_of, count_in, kwargs_action, history_by, kwargs_by, has_flag, list_by, list_with, misplaces_sorted, options_action, options_by, is_json, other_action, rename_action, script_action, target_action, target_by, target_words, undo_of, unknown_members, word_at, words_at}
 use Rattle.meson_command.specs.Arguments.{action_within, argument_action, command_meant, misplaces_follow, requested, value_named}
 use Rattle.meson_statements.specs.CodeTexts.{statement_code}
 use Rattle.meson_command.specs.Codes.{blank_in, code_action, code_word, has_more, insertion_action, place_meant, removal_action, search_meant}
-use Rattle.meson_command.specs.Asking.{asked_from, is_dry, names_no_folder, reading_in, texts_fit, title_in, with_texts, with_title, without_help_text, without_text}
+use Rattle.meson_command.specs.Asking.{asked_from, is_dry, names_no_folder, follow_in, texts_fit, title_in, with_texts, with_title, without_help_text, without_text}
 use Rattle.meson_command.specs.declared.asked.Action.{Action}
 use Rattle.meson_command.specs.declared.asked.Action.TheVariants as action
 use Rattle.meson_command.specs.declared.asked.Action.TheVariants.{Run, Info, ScriptText, ScriptFile, Undo, UndoTo, UndoChecked, Redo, History, ForgetOldest, ForgetAll, Sums, Help, Version}
@@ -93,11 +93,11 @@ rename_action-plain : (folder : Option Text) (rows : List Row) → Answers IsPla
 unfolding rename_action
 rename_action-plain folder rows = after _ _ (λ c. ok _ tt)
 
-target_action-plain : (folder : Option Text) (reading : Reading) (rows : List Row) → Answers IsPlain (target_action folder reading rows)
+target_action-plain : (folder : Option Text) (follow : Option SharedLists) (rows : List Row) → Answers IsPlain (target_action folder follow rows)
 unfolding target_action
-target_action-plain folder reading rows =
+target_action-plain folder follow rows =
     either (misplaces_sorted rows) _ _ (err Usage)
-    (either (bytes_eq (word_at (codes "OPERATION") rows) (codes "rename")) _ _ (rename_action-plain folder rows) (after _ _ (λ o. ok _ (target-plain o (target_words folder reading rows)))))
+    (either (bytes_eq (word_at (codes "OPERATION") rows) (codes "rename")) _ _ (rename_action-plain folder rows) (after _ _ (λ o. ok _ (target-plain o (target_words folder follow rows)))))
 
 kwargs_action-plain : (folder : Option Text) (rows : List Row) → Answers IsPlain (kwargs_action folder rows)
 unfolding kwargs_action
@@ -142,10 +142,10 @@ list_with-plain None json sums = list-plain json sums
 list_with-plain (Some function) json sums =
     either (sums || length function == 0) _ _ (err Usage) (ok _ (listing_of-plain (bytes_eq function (codes "variable")) function json))
 
-action-plain : (folder : Option Text) (reading : Reading) (name : Text) (rows : List Row) → Answers IsPlain (action_of folder reading name rows)
+action-plain : (folder : Option Text) (follow : Option SharedLists) (name : Text) (rows : List Row) → Answers IsPlain (action_of folder follow name rows)
 unfolding action_of other_action
-action-plain folder reading name rows =
-    either (bytes_eq name (codes "target")) _ _ (target_action-plain folder reading rows)
+action-plain folder follow name rows =
+    either (bytes_eq name (codes "target")) _ _ (target_action-plain folder follow rows)
     (either (bytes_eq name (codes "kwargs")) _ _ (kwargs_action-plain folder rows)
     (either (bytes_eq name (codes "default-options")) _ _ (options_action-plain rows)
     (either (bytes_eq name (codes "command")) _ _ (ok (script_action rows) (script_action-plain rows))
@@ -188,13 +188,13 @@ code-plain folder rows =
     either (bytes_eq (word_at (codes "OPERATION") rows) (codes "remove")) _ _ (removal-plain folder rows)
     (either (has_flag (codes "unused") rows) _ _ (err Usage) (insertion-plain folder rows))
 
-within-plain : (folder : Option Text) (reading : Reading) (name : Text) (rows : List Row) → Answers IsPlain (action_within folder reading name rows)
+within-plain : (folder : Option Text) (follow : Option SharedLists) (name : Text) (rows : List Row) → Answers IsPlain (action_within folder follow name rows)
 unfolding action_within
-within-plain folder reading name rows =
-    either (misplaces_follow reading name rows) _ _ (err Usage)
+within-plain folder follow name rows =
+    either (misplaces_follow follow name rows) _ _ (err Usage)
     (either (bytes_eq name (codes "arg")) _ _ (argument-plain folder rows)
     (either (is_some folder && not (takes_folder name rows)) _ _ (err Usage)
-    (either (bytes_eq name (codes "code")) _ _ (code-plain folder rows) (action-plain folder reading name rows))))
+    (either (bytes_eq name (codes "code")) _ _ (code-plain folder rows) (action-plain folder follow name rows))))
 
 titled : (rows : List Row) (a : Action) → IsPlain a → Answers (λ x. IsPlain x.action) (with_title rows a)
 titled rows a plain = either (is_title (title_in rows)) _ _ (ok _ plain) (err BadTitle)
@@ -205,7 +205,7 @@ texted rows a plain = either (texts_fit a (first_of (codes "FILE") rows) (is_dry
 asked : (rows : List Row) (subcommand : Option (Text × List Row)) → Answers (λ a. IsPlain a.action) (asked_from rows subcommand)
 unfolding asked_from
 asked rows subcommand = after (ok_or subcommand Usage) _ (λ s. either (names_no_folder (first_of (codes "DIR") rows)) _ _ (err _)
-    (after_some IsPlain (action_within (first_of (codes "FOLDER") rows) (reading_in rows) s.0 s.1) _ (within-plain (first_of (codes "FOLDER") rows) (reading_in rows) s.0 s.1) (texted rows)))
+    (after_some IsPlain (action_within (first_of (codes "FOLDER") rows) (follow_in rows) s.0 s.1) _ (within-plain (first_of (codes "FOLDER") rows) (follow_in rows) s.0 s.1) (texted rows)))
 
 pub not_help : (rows : List Row) (subcommand : Option (Text × List Row)) (a : Asked) → asked_from rows subcommand ≡ Ok a → IsPlain a.action
 not_help rows subcommand a is = subst (λ r. IfOk r (λ x. IsPlain x.action)) is (asked rows subcommand).so

@@ -1,5 +1,5 @@
 -- Words whose code is on standard input: they are refused without it, and when it is read.
-use Rattle.std.proofs.Common.{◌≡◌, ◌≢◌, ◌∙◌, ◌&&◌, ◌⊎◌, inl, inr, ℕ, Bool, true, false, List, [], ◌∷◌, Option, Some, None, Result, Ok, Err, if◌then◌else◌, refl, sym, ap, ap₂, subst}
+use Rattle.std.proofs.Common.{◌≡◌, ◌≢◌, ◌∙◌, ◌&&◌, ◌⊎◌, inl, inr, ℕ, Bool, true, false, List, [], ◌∷◌, Option, Some, None, Result, Err, if◌then◌else◌, refl, sym, ap, ap₂, subst}
 use Rattle.std.specs.Str.{IsUtf8, is_utf8}
 use Rattle.std.proofs.lemmas.Str.{IsUtf8-from_is_utf8, is_utf8-from_IsUtf8}
 use Rattle.clap.specs.Kinds.{IsAmong}
@@ -8,8 +8,9 @@ use Rattle.clap.specs.declared.parser.matches.ArgMatches.{ArgMatches}
 use Rattle.clap.specs.declared.error.kind.ErrorKind.{ErrorKind}
 use Rattle.clap.specs.declared.error.kind.ErrorKind.TheVariants.{OutOfMemory}
 use Rattle.meson_command.specs.Asking.{answer, asked_of}
-use Rattle.meson_command.specs.Input.{ReadsCodeOfRefusedWords, as_text, code_by, is_not_code, lacks_code, reads_code, waits_for_code}
+use Rattle.meson_command.specs.Input.{ReadsCodeOfRefusedWords, as_text, code_by, is_not_code, lacks_code, reads_code_as, waits_for_code}
 use Rattle.meson_command.specs.Program.{program}
+use Rattle.meson_command.specs.Spelling.{clap_words}
 use Rattle.meson_command.specs.declared.asked.Asked.{Asked}
 use Rattle.meson_command.specs.declared.fault.UsageFault.{UsageFault}
 use Rattle.meson_command.specs.declared.fault.UsageFault.TheVariants.{NotCode}
@@ -27,7 +28,9 @@ lacking [] false asked e = cc
 lacking (k ∷ ks) waits asked e = cc
 
 pub refused-law : ReadsCodeOfRefusedWords
-refused-law words e = lacking (fault_of program words) (waits_for_code (matches_of program words) (subcommand_of program words)) (asked_of words) e
+refused-law words e =
+    let given = clap_words words in
+    lacking (fault_of program given) (waits_for_code (matches_of program given) (subcommand_of program given)) (asked_of given) e
 
 -- ---- what is read of the words
 
@@ -38,7 +41,7 @@ lacks-of a words m e h =
     ap₂ lacks_code is.0 is.1
 
 pub taken : (a : App) (words : List Text) (m : ArgMatches) (b : Bool) → a ≡ program → HasMatchesOf a words m → fault_of program words ≡ []
-    → b ≡ lacks_code (rows_of (found_of m)) (subcommand_rows_of m) → b ≡ reads_code words
+    → b ≡ lacks_code (rows_of (found_of m)) (subcommand_rows_of m) → b ≡ reads_code_as words
 taken a words m b is h none given = given ∙ ap₂ code_by (sym none) (lacks-of a words m is h)
 
 pub untaken : (ks : Kinds) (k : ErrorKind) (lacks : Bool) → k ≢ OutOfMemory → (k ≡ OutOfMemory) ⊎ IsAmong k ks → false ≡ code_by ks lacks

@@ -12,9 +12,9 @@ use Rattle.meson_command.specs.Arguments.{action_within}
 use Rattle.clap.specs.declared.error.kind.ErrorKind.{ErrorKind}
 use Rattle.clap.specs.declared.error.kind.ErrorKind.TheVariants as kind
 use Rattle.clap.specs.declared.error.kind.ErrorKind.TheVariants.{DisplayHelp, DisplayVersion, OutOfMemory}
-use Rattle.meson_calls.specs.declared.call.Reading.{Reading}
+use Rattle.meson_steps.specs.declared.source_change.SharedLists.{SharedLists}
 use Rattle.meson_json.specs.Titles.{is_title}
-use Rattle.meson_command.specs.Asking.{answer, answer_by, asked_from, asked_of, flags_in, help, is_dry, names_no_folder, reading_in, texts_fit, title_in, version}
+use Rattle.meson_command.specs.Asking.{answer, answer_by, asked_from, asked_of, flags_in, help, is_dry, names_no_folder, follow_in, texts_fit, title_in, version}
 use Rattle.meson_command.specs.Program.{argument, code, command, default_options, history, kwargs, list, program, redo, target, undo}
 use Rattle.meson_command.proofs.HelpAlone.{Clean, clean}
 use Rattle.meson_command.specs.declared.asked.Action.{Action}
@@ -51,7 +51,7 @@ module _ {Z : Type 0} where
 
 pub asks : (rows : List Row) (sub : Option (Text × List Row)) (name : Text) (inner : List Row) (dir : Option Text) (title : Text) (flags : Flags) (texts : Option Text) (a : Action)
     → sub ≡ Some (name, inner)
-    → names_no_folder (first_of (codes "DIR") rows) ≡ false → dir ≡ first_of (codes "DIR") rows → action_within (first_of (codes "FOLDER") rows) (reading_in rows) name inner ≡ Ok a
+    → names_no_folder (first_of (codes "DIR") rows) ≡ false → dir ≡ first_of (codes "DIR") rows → action_within (first_of (codes "FOLDER") rows) (follow_in rows) name inner ≡ Ok a
     → texts_fit a (first_of (codes "FILE") rows) (is_dry rows) ≡ true → texts ≡ first_of (codes "FILE") rows
     → is_title (title_in rows) ≡ true → title ≡ title_in rows → flags ≡ flags_in rows
     → asked_from rows sub ≡ Ok (record { dir = dir; title = title; flags = flags; texts = texts; action = a })
@@ -59,18 +59,18 @@ unfolding asked_from
 asks rows sub name inner dir title flags texts a is folder at action fit read good same flagged = rw (is, folder, action, fit, good, at, read, same, flagged) refl
 
 pub refuses : (rows : List Row) (sub : Option (Text × List Row)) (name : Text) (inner : List Row) (e : UsageFault) → sub ≡ Some (name, inner)
-    → names_no_folder (first_of (codes "DIR") rows) ≡ false → action_within (first_of (codes "FOLDER") rows) (reading_in rows) name inner ≡ Err e → asked_from rows sub ≡ Err e
+    → names_no_folder (first_of (codes "DIR") rows) ≡ false → action_within (first_of (codes "FOLDER") rows) (follow_in rows) name inner ≡ Err e → asked_from rows sub ≡ Err e
 unfolding asked_from
 refuses rows sub name inner e is folder action = rw (is, folder, action) refl
 
 pub refuses_title : (rows : List Row) (sub : Option (Text × List Row)) (name : Text) (inner : List Row) (a : Action) → sub ≡ Some (name, inner)
-    → names_no_folder (first_of (codes "DIR") rows) ≡ false → action_within (first_of (codes "FOLDER") rows) (reading_in rows) name inner ≡ Ok a → texts_fit a (first_of (codes "FILE") rows) (is_dry rows) ≡ true
+    → names_no_folder (first_of (codes "DIR") rows) ≡ false → action_within (first_of (codes "FOLDER") rows) (follow_in rows) name inner ≡ Ok a → texts_fit a (first_of (codes "FILE") rows) (is_dry rows) ≡ true
     → is_title (title_in rows) ≡ false → asked_from rows sub ≡ Err BadTitle
 unfolding asked_from
 refuses_title rows sub name inner a is folder action fit bad = rw (is, folder, action, fit, bad) refl
 
 pub refuses_texts : (rows : List Row) (sub : Option (Text × List Row)) (name : Text) (inner : List Row) (a : Action) → sub ≡ Some (name, inner)
-    → names_no_folder (first_of (codes "DIR") rows) ≡ false → action_within (first_of (codes "FOLDER") rows) (reading_in rows) name inner ≡ Ok a → texts_fit a (first_of (codes "FILE") rows) (is_dry rows) ≡ false
+    → names_no_folder (first_of (codes "DIR") rows) ≡ false → action_within (first_of (codes "FOLDER") rows) (follow_in rows) name inner ≡ Ok a → texts_fit a (first_of (codes "FILE") rows) (is_dry rows) ≡ false
     → asked_from rows sub ≡ Err Usage
 unfolding asked_from
 refuses_texts rows sub name inner a is folder action misfit = rw (is, folder, action, misfit) refl
@@ -79,8 +79,8 @@ pub refuses_folder : (rows : List Row) (sub : Option (Text × List Row)) (s : Te
 unfolding asked_from
 refuses_folder rows sub s is folder = rw (is, folder) refl
 
-pub within : (f g : Option Text) (x y : Reading) (name : Text) (inner : List Row) (r : Result Action UsageFault) → f ≡ g → x ≡ y → action_within f x name inner ≡ r → action_within g y name inner ≡ r
-within f g x y name inner r is read e = sym (ap₂ (λ (folder : Option Text) (reading : Reading). action_within folder reading name inner) is read) ∙ e
+pub within : (f g : Option Text) (x y : Option SharedLists) (name : Text) (inner : List Row) (r : Result Action UsageFault) → f ≡ g → x ≡ y → action_within f x name inner ≡ r → action_within g y name inner ≡ r
+within f g x y name inner r is read e = sym (ap₂ (λ (folder : Option Text) (follow : Option SharedLists). action_within folder follow name inner) is read) ∙ e
 
 -- ---- the kinds of fault of the program's words
 

@@ -12,18 +12,18 @@ use Rattle.clap.specs.Takes.{is_given}
 use Rattle.clap.specs.Walk.{Held, Names, answers_to, finished, nothing_held, settled, walk, walk_from}
 use Rattle.clap.specs.Words.{Row, Text, fault_of, first_of, matches_of, subcommand_of}
 use Rattle.clap.specs.declared.error.kind.ErrorKind.TheVariants.{DisplayHelp, DisplayVersion}
-use Rattle.meson_calls.specs.declared.call.Reading.{Reading}
-use Rattle.meson_calls.specs.declared.call.Reading.TheVariants.{Written, Followed}
+use Rattle.meson_steps.specs.declared.source_change.SharedLists.{SharedLists}
+use Rattle.meson_steps.specs.declared.source_change.SharedLists.TheVariants.{Kept, Changed}
 use Rattle.meson_calls.specs.declared.call.Role.{Role}
 use Rattle.meson_splice.specs.Patch.{then_ok}
 use Rattle.meson_command.specs.Actions.{action_of, count_in, has_flag, history_by, kwargs_action, kwargs_by, list_by, list_with, listing_of, misplaces_sorted, options_action, options_by, other_action, target_action, undo_of, word_at, words_at, rename_action, target_by, target_words}
-use Rattle.meson_command.specs.Arguments.{after_meant, action_within, argument_action, command_meant, keys_meant, misplaces_follow, requested, takes_follow, value_named, values_meant}
+use Rattle.meson_command.specs.Arguments.{after_meant, action_within, argument_action, changes_sources, command_meant, keys_meant, misplaces_follow, requested, takes_follow, value_named, values_meant}
 use Rattle.meson_command.specs.Codes.{code_action}
 use Rattle.meson_command.proofs.CodeUsages.{code-unknown}
-use Rattle.meson_command.specs.Asking.{answer, asked_from, asked_of, help, is_dry, names_no_folder, reading_in, texts_fit, title_in, version, with_texts, with_title}
+use Rattle.meson_command.specs.Asking.{answer, asked_as, asked_from, asked_of, help, is_dry, names_no_folder, follow_in, texts_fit, title_in, version, with_texts, with_title}
 use Rattle.meson_json.specs.Counts.{count_of}
-use Rattle.meson_command.specs.Laws.{FolderIsMisused, FollowIsMisused, HelpWhereAsked, IsNoArgument, IsNoCount, IsNoTarget, IsUnknown, TakesNoFollow, TextsAreMisused, UsageMeansUnknown, VersionWhereAsked}
-use Rattle.meson_json.specs.Targets.{reading_of, renaming_of}
+use Rattle.meson_command.specs.Laws.{ChangesNoSources, FolderIsMisused, FollowIsMisused, MeansUnknown, HelpWhereAsked, IsNoArgument, IsNoCount, IsNoTarget, IsUnknown, TakesNoFollow, TextsAreMisused, UsageMeansUnknown, VersionWhereAsked}
+use Rattle.meson_json.specs.Targets.{kept_lists, renaming_of}
 use Rattle.meson_json.specs.Titles.{is_title}
 use Rattle.meson_json.specs.Arguments.{change_to, command_to, keys_left_out, place_named}
 use Rattle.meson_json.specs.Operations.{argument_operation, kwargs_operation, role_of}
@@ -37,6 +37,7 @@ use Rattle.meson_steps.specs.declared.command.Command.TheVariants as commands
 use Rattle.meson_steps.specs.declared.given.Given.{Given}
 use Rattle.meson_command.specs.Operations.{operation_of_word, options_word}
 use Rattle.meson_command.specs.Pairs.{in_pairs, lone_names, pair_names, pairs_of, repeats}
+use Rattle.meson_command.specs.Spelling.{clap_words}
 use Rattle.meson_command.specs.Program.{argument, code, command, default_options, history, kwargs, list, program, redo, target, undo}
 use Rattle.meson_command.specs.declared.asked.Action.{Action}
 use Rattle.meson_command.specs.declared.asked.Asked.{Asked}
@@ -64,10 +65,14 @@ version_by [] words c e = absurd (not_help _ _ _ e)
 version_by (k ∷ ks) words c e = c.version_alone (inl (sym (by_version k e)))
 
 pub help-law : HelpWhereAsked
-help-law words = (λ e. shown_by (fault_of program words) words (help_alone words) e, λ e. ap (λ ks. answer ks (asked_of words)) e)
+help-law words =
+    let given = clap_words words in
+    (λ e. shown_by (fault_of program given) given (help_alone given) e, λ e. ap (λ ks. answer ks (asked_of given)) e)
 
 pub version-law : VersionWhereAsked
-version-law words = (λ e. version_by (fault_of program words) words (help_alone words) e, λ e. ap (λ ks. answer ks (asked_of words)) e)
+version-law words =
+    let given = clap_words words in
+    (λ e. version_by (fault_of program given) given (help_alone given) e, λ e. ap (λ ks. answer ks (asked_of given)) e)
 
 -- ---- a command whose subcommand has to be there has one where nothing is wrong
 
@@ -277,30 +282,30 @@ misplaced true false e = (refl, refl)
 misplaced true true e = cc
 misplaced false adds e = cc
 
-target-unknown : (folder : Option Text) (reading : Reading) (rows : List Row) → target_action folder reading rows ≡ Err Usage → IsNoTarget rows
+target-unknown : (folder : Option Text) (follow : Option SharedLists) (rows : List Row) → target_action folder follow rows ≡ Err Usage → IsNoTarget rows
 unfolding target_action
-target-unknown folder reading rows e = by_sorted (misplaces_sorted rows) refl e
+target-unknown folder follow rows e = by_sorted (misplaces_sorted rows) refl e
   where
     by_word : (b : Bool) → bytes_eq (word_at (codes "OPERATION") rows) (codes "rename") ≡ b
         → (if b then rename_action folder rows
-        else then_ok (ok_or (operation_of_word (word_at (codes "OPERATION") rows)) Usage) (λ o. Ok (target_by o (target_words folder reading rows)))) ≡ Err Usage → IsNoTarget rows
+        else then_ok (ok_or (operation_of_word (word_at (codes "OPERATION") rows)) Usage) (λ o. Ok (target_by o (target_words folder follow rows)))) ≡ Err Usage → IsNoTarget rows
     by_word true is e = inr (inl (named (word_at (codes "OPERATION") rows) (codes "rename") is, other_names _ (words_at (codes "SOURCE") rows) (rename-unknown folder rows e)))
     by_word false is e = inl (another (word_at (codes "OPERATION") rows) (codes "rename") is, missing (operation_of_word (word_at (codes "OPERATION") rows)) _ (λ o x. cc) e)
 
     by_sorted : (b : Bool) → misplaces_sorted rows ≡ b
         → (if b then Err Usage else (if bytes_eq (word_at (codes "OPERATION") rows) (codes "rename") then rename_action folder rows
-        else then_ok (ok_or (operation_of_word (word_at (codes "OPERATION") rows)) Usage) (λ o. Ok (target_by o (target_words folder reading rows))))) ≡ Err Usage → IsNoTarget rows
+        else then_ok (ok_or (operation_of_word (word_at (codes "OPERATION") rows)) Usage) (λ o. Ok (target_by o (target_words folder follow rows))))) ≡ Err Usage → IsNoTarget rows
     by_sorted true is e =
         let both = misplaced (has_flag (codes "sorted") rows) (bytes_eq (word_at (codes "OPERATION") rows) (codes "add")) is in
         inr (inr (both.0, another (word_at (codes "OPERATION") rows) (codes "add") both.1))
     by_sorted false is e = by_word (bytes_eq (word_at (codes "OPERATION") rows) (codes "rename")) refl e
 
 -- of another subcommand than `arg` and `code`
-unknown : (folder : Option Text) (reading : Reading) (name : Text) (rows : List Row) → (bytes_eq name (codes "target") || (bytes_eq name (codes "kwargs") || is_other name)) ≡ true
-    → action_of folder reading name rows ≡ Err Usage → IsUnknown name rows
+unknown : (folder : Option Text) (follow : Option SharedLists) (name : Text) (rows : List Row) → (bytes_eq name (codes "target") || (bytes_eq name (codes "kwargs") || is_other name)) ≡ true
+    → action_of folder follow name rows ≡ Err Usage → IsUnknown name rows
 unfolding action_of other_action
-unknown folder reading name rows k e =
-    by_name (bytes_eq name (codes "target")) _ _ _ e k (λ b x. inl (named _ _ b, target-unknown folder reading rows x)) (λ e k.
+unknown folder follow name rows k e =
+    by_name (bytes_eq name (codes "target")) _ _ _ e k (λ b x. inl (named _ _ b, target-unknown folder follow rows x)) (λ e k.
     by_name (bytes_eq name (codes "kwargs")) _ _ _ e k (λ b x. inr (inl (named _ _ b, kwargs-unknown folder rows x))) (λ e k.
     by_name (bytes_eq name (codes "default-options")) _ _ _ e k (λ b x. inr (inr (inl (named _ _ b, options-unknown rows x)))) (λ e k.
     by_name (bytes_eq name (codes "command")) _ _ _ e k (λ b x. cc) (λ e k.
@@ -380,37 +385,37 @@ without false true a rest is h = refl
 without false false true rest is h = cc
 without false false false rest is h = h
 
-abbrev MisusesFollow : Reading → Text → List Row → Type 0
-MisusesFollow reading name rows = (reading ≡ Followed) × TakesNoFollow name rows
+abbrev MisusesFollow : Option SharedLists → Text → List Row → Type 0
+MisusesFollow follow name rows = ((follow ≡ Some Changed) × ChangesNoSources name rows) ⊎ ((follow ≡ Some Kept) × TakesNoFollow name rows)
 
-abbrev WrongWithin : Option Text → Reading → Text → List Row → Type 0
-WrongWithin folder reading name rows =
-    IsUnknown name rows ⊎ (((is_some folder ≡ true) × (takes_folder name rows ≡ false) × (name ≢ codes "arg")) ⊎ MisusesFollow reading name rows)
+abbrev WrongWithin : Option Text → Option SharedLists → Text → List Row → Type 0
+WrongWithin folder follow name rows =
+    IsUnknown name rows ⊎ (((is_some folder ≡ true) × (takes_folder name rows ≡ false) × (name ≢ codes "arg")) ⊎ MisusesFollow follow name rows)
 
-by_code : (folder : Option Text) (reading : Reading) (name : Text) (rows : List Row)
+by_code : (folder : Option Text) (follow : Option SharedLists) (name : Text) (rows : List Row)
     → (bytes_eq name (codes "target") || (bytes_eq name (codes "kwargs") || (bytes_eq name (codes "code") || is_other name))) ≡ true
-    → (b : Bool) → bytes_eq name (codes "code") ≡ b → (if b then code_action folder rows else action_of folder reading name rows) ≡ Err Usage → IsUnknown name rows
-by_code folder reading name rows k true is e = inr (inr (inr (inr (inr (inr (inr (named _ _ is, code-unknown folder rows e)))))))
-by_code folder reading name rows k false is e =
-    unknown folder reading name rows (without (bytes_eq name (codes "target")) (bytes_eq name (codes "kwargs")) (bytes_eq name (codes "code")) (is_other name) is k) e
+    → (b : Bool) → bytes_eq name (codes "code") ≡ b → (if b then code_action folder rows else action_of folder follow name rows) ≡ Err Usage → IsUnknown name rows
+by_code folder follow name rows k true is e = inr (inr (inr (inr (inr (inr (inr (named _ _ is, code-unknown folder rows e)))))))
+by_code folder follow name rows k false is e =
+    unknown folder follow name rows (without (bytes_eq name (codes "target")) (bytes_eq name (codes "kwargs")) (bytes_eq name (codes "code")) (is_other name) is k) e
 
 not-argument : (name : Text) → bytes_eq name (codes "arg") ≡ false → is_known name ≡ true
     → (bytes_eq name (codes "target") || (bytes_eq name (codes "kwargs") || (bytes_eq name (codes "code") || is_other name))) ≡ true
 not-argument name other k =
     without (bytes_eq name (codes "target")) (bytes_eq name (codes "kwargs")) (bytes_eq name (codes "arg")) (bytes_eq name (codes "code") || is_other name) other k
 
-by_place : (folder : Option Text) (reading : Reading) (name : Text) (rows : List Row) → bytes_eq name (codes "arg") ≡ false → is_known name ≡ true → (b t : Bool) → is_some folder ≡ b → takes_folder name rows ≡ t
-    → (if b && not t then Err Usage else (if bytes_eq name (codes "code") then code_action folder rows else action_of folder reading name rows)) ≡ Err Usage
-    → WrongWithin folder reading name rows
-by_place folder reading name rows other k true false is takes e = inr (inl (is, takes, another name (codes "arg") other))
-by_place folder reading name rows other k true true is takes e = inl (by_code folder reading name rows (not-argument name other k) (bytes_eq name (codes "code")) refl e)
-by_place folder reading name rows other k false t is takes e = inl (by_code folder reading name rows (not-argument name other k) (bytes_eq name (codes "code")) refl e)
+by_place : (folder : Option Text) (follow : Option SharedLists) (name : Text) (rows : List Row) → bytes_eq name (codes "arg") ≡ false → is_known name ≡ true → (b t : Bool) → is_some folder ≡ b → takes_folder name rows ≡ t
+    → (if b && not t then Err Usage else (if bytes_eq name (codes "code") then code_action folder rows else action_of folder follow name rows)) ≡ Err Usage
+    → WrongWithin folder follow name rows
+by_place folder follow name rows other k true false is takes e = inr (inl (is, takes, another name (codes "arg") other))
+by_place folder follow name rows other k true true is takes e = inl (by_code folder follow name rows (not-argument name other k) (bytes_eq name (codes "code")) refl e)
+by_place folder follow name rows other k false t is takes e = inl (by_code folder follow name rows (not-argument name other k) (bytes_eq name (codes "code")) refl e)
 
-by_subcommand : (folder : Option Text) (reading : Reading) (name : Text) (rows : List Row) → is_known name ≡ true → (b : Bool) → bytes_eq name (codes "arg") ≡ b
+by_subcommand : (folder : Option Text) (follow : Option SharedLists) (name : Text) (rows : List Row) → is_known name ≡ true → (b : Bool) → bytes_eq name (codes "arg") ≡ b
     → (if b then argument_action folder rows else (if is_some folder && not (takes_folder name rows) then Err Usage
-    else (if bytes_eq name (codes "code") then code_action folder rows else action_of folder reading name rows))) ≡ Err Usage → WrongWithin folder reading name rows
-by_subcommand folder reading name rows k true is e = inl (inr (inr (inr (inr (inr (inr (inl (named _ _ is, argument-unknown folder rows e))))))))
-by_subcommand folder reading name rows k false is e = by_place folder reading name rows is k (is_some folder) (takes_folder name rows) refl refl e
+    else (if bytes_eq name (codes "code") then code_action folder rows else action_of folder follow name rows))) ≡ Err Usage → WrongWithin folder follow name rows
+by_subcommand folder follow name rows k true is e = inl (inr (inr (inr (inr (inr (inr (inl (named _ _ is, argument-unknown folder rows e))))))))
+by_subcommand folder follow name rows k false is e = by_place folder follow name rows is k (is_some folder) (takes_folder name rows) refl refl e
 
 not-info : (name operation : Text) (t i : Bool) → bytes_eq name (codes "target") ≡ t → bytes_eq operation (codes "info") ≡ i → (t && i) ≡ false
     → (name ≢ codes "target") ⊎ (operation ≢ codes "info")
@@ -422,6 +427,20 @@ both_false : (a b : Bool) → (a || b) ≡ false → (a ≡ false) × (b ≡ fal
 both_false true b e = cc
 both_false false b e = (refl, e)
 
+no-change : (name operation : Text) (t a r s : Bool) → bytes_eq name (codes "target") ≡ t → bytes_eq operation (codes "add") ≡ a → bytes_eq operation (codes "rm") ≡ r
+    → (sorted : Bool) → sorted ≡ s → (t && ((a || r) && not s)) ≡ false
+    → (name ≢ codes "target") ⊎ (((operation ≢ codes "add") × (operation ≢ codes "rm")) ⊎ (sorted ≡ true))
+no-change name operation false a r s is adds removes sorted at e = inl (another name (codes "target") is)
+no-change name operation true false false s is adds removes sorted at e =
+    inr (inl (another operation (codes "add") adds, another operation (codes "rm") removes))
+no-change name operation true true r true is adds removes sorted at e = inr (inr at)
+no-change name operation true true r false is adds removes sorted at e = cc
+no-change name operation true false true true is adds removes sorted at e = inr (inr at)
+no-change name operation true false true false is adds removes sorted at e = cc
+
+changes-none : (name : Text) (rows : List Row) → changes_sources name rows ≡ false → ChangesNoSources name rows
+changes-none name rows e = no-change name (word_at (codes "OPERATION") rows) _ _ _ _ refl refl refl (has_flag (codes "sorted") rows) refl e
+
 not-taken : (name : Text) (rows : List Row) → takes_follow name rows ≡ false → TakesNoFollow name rows
 not-taken name rows e =
     let operation = word_at (codes "OPERATION") rows in
@@ -432,11 +451,13 @@ not-taken name rows e =
     let u : Bool = bytes_eq name (codes "undo") in
     let r : Bool = bytes_eq name (codes "redo") in
     let c : Bool = bytes_eq name (codes "command") in
-    let at-info = both_false (t && i) (l || (h || (u || (r || c)))) e in
+    let at-change = both_false (changes_sources name rows) ((t && i) || (l || (h || (u || (r || c))))) e in
+    let at-info = both_false (t && i) (l || (h || (u || (r || c)))) at-change.1 in
     let at-list = both_false l (h || (u || (r || c))) at-info.1 in
     let at-history = both_false h (u || (r || c)) at-list.1 in
     let at-undo = both_false u (r || c) at-history.1 in
     let at-redo = both_false r c at-undo.1 in (
+      changes-none name rows at-change.0,
       not-info name operation t i refl refl at-info.0,
       another name (codes "list") at-list.0,
       another name (codes "history") at-history.0,
@@ -449,26 +470,27 @@ not_true : (b : Bool) → not b ≡ true → b ≡ false
 not_true true e = cc
 not_true false e = refl
 
-misused : (reading : Reading) (name : Text) (rows : List Row) → misplaces_follow reading name rows ≡ true → MisusesFollow reading name rows
-misused Written name rows e = cc
-misused Followed name rows e = (refl, not-taken name rows (not_true (takes_follow name rows) e))
+misused : (follow : Option SharedLists) (name : Text) (rows : List Row) → misplaces_follow follow name rows ≡ true → MisusesFollow follow name rows
+misused None name rows e = cc
+misused (Some Kept) name rows e = inr (refl, not-taken name rows (not_true (takes_follow name rows) e))
+misused (Some Changed) name rows e = inl (refl, changes-none name rows (not_true (changes_sources name rows) e))
 
-by_reading : (folder : Option Text) (reading : Reading) (name : Text) (rows : List Row) → is_known name ≡ true → (b : Bool) → misplaces_follow reading name rows ≡ b
+by_reading : (folder : Option Text) (follow : Option SharedLists) (name : Text) (rows : List Row) → is_known name ≡ true → (b : Bool) → misplaces_follow follow name rows ≡ b
     → (if b then Err Usage else (if bytes_eq name (codes "arg") then argument_action folder rows else (if is_some folder && not (takes_folder name rows) then Err Usage
-    else (if bytes_eq name (codes "code") then code_action folder rows else action_of folder reading name rows)))) ≡ Err Usage → WrongWithin folder reading name rows
-by_reading folder reading name rows k true is e = inr (inr (misused reading name rows is))
-by_reading folder reading name rows k false is e = by_subcommand folder reading name rows k (bytes_eq name (codes "arg")) refl e
+    else (if bytes_eq name (codes "code") then code_action folder rows else action_of folder follow name rows)))) ≡ Err Usage → WrongWithin folder follow name rows
+by_reading folder follow name rows k true is e = inr (inr (misused follow name rows is))
+by_reading folder follow name rows k false is e = by_subcommand folder follow name rows k (bytes_eq name (codes "arg")) refl e
 
-within : (folder : Option Text) (reading : Reading) (name : Text) (rows : List Row) → is_known name ≡ true → action_within folder reading name rows ≡ Err Usage
-    → WrongWithin folder reading name rows
+within : (folder : Option Text) (follow : Option SharedLists) (name : Text) (rows : List Row) → is_known name ≡ true → action_within folder follow name rows ≡ Err Usage
+    → WrongWithin folder follow name rows
 unfolding action_within
-within folder reading name rows k e = by_reading folder reading name rows k (misplaces_follow reading name rows) refl e
+within folder follow name rows k e = by_reading folder follow name rows k (misplaces_follow follow name rows) refl e
 
 -- ---- wrong usage
 
 abbrev Wrong : List Row → Option (Text × List Row) → Type 0
 Wrong rows sub = (names_no_folder (first_of (codes "DIR") rows) ≡ true)
-    ⊎ ((name : Text) × (inner : List Row) × (sub ≡ Some (name, inner)) × ((action_within (first_of (codes "FOLDER") rows) (reading_in rows) name inner ≡ Err Usage) ⊎ TextsAreMisused rows name inner))
+    ⊎ ((name : Text) × (inner : List Row) × (sub ≡ Some (name, inner)) × ((action_within (first_of (codes "FOLDER") rows) (follow_in rows) name inner ≡ Err Usage) ⊎ TextsAreMisused rows name inner))
 
 abbrev wrong : Result Asked UsageFault
 wrong = Err Usage
@@ -483,40 +505,55 @@ by_texts : (rows : List Row) (a : Action) (b : Bool) → texts_fit a (first_of (
 by_texts rows a true is e = absurd (by_title _ (is_title (title_in rows)) e)
 by_texts rows a false is e = is
 
-not_done : (rows : List Row) (name : Text) (inner : List Row) (r : Result Action UsageFault) → action_within (first_of (codes "FOLDER") rows) (reading_in rows) name inner ≡ r → then_ok r (with_texts rows) ≡ wrong
-    → (action_within (first_of (codes "FOLDER") rows) (reading_in rows) name inner ≡ Err Usage) ⊎ TextsAreMisused rows name inner
+not_done : (rows : List Row) (name : Text) (inner : List Row) (r : Result Action UsageFault) → action_within (first_of (codes "FOLDER") rows) (follow_in rows) name inner ≡ r → then_ok r (with_texts rows) ≡ wrong
+    → (action_within (first_of (codes "FOLDER") rows) (follow_in rows) name inner ≡ Err Usage) ⊎ TextsAreMisused rows name inner
 not_done rows name inner (Ok a) is e = inr (a, is, by_texts rows a (texts_fit a (first_of (codes "FILE") rows) (is_dry rows)) refl e)
 not_done rows name inner (Err fault) is e = inl (let at : fault ≡ Usage = cc in is ∙ ap (λ (u : UsageFault). Err u) at)
 
 by_folder : (rows : List Row) (s : Text × List Row) (b : Bool) → names_no_folder (first_of (codes "DIR") rows) ≡ b
-    → (if b then Err Usage else then_ok (action_within (first_of (codes "FOLDER") rows) (reading_in rows) s.0 s.1) (with_texts rows)) ≡ wrong → Wrong rows (Some s)
+    → (if b then Err Usage else then_ok (action_within (first_of (codes "FOLDER") rows) (follow_in rows) s.0 s.1) (with_texts rows)) ≡ wrong → Wrong rows (Some s)
 by_folder rows s true is e = inl is
-by_folder rows s false is e = inr (s.0, s.1, refl, not_done rows s.0 s.1 (action_within (first_of (codes "FOLDER") rows) (reading_in rows) s.0 s.1) refl e)
+by_folder rows s false is e = inr (s.0, s.1, refl, not_done rows s.0 s.1 (action_within (first_of (codes "FOLDER") rows) (follow_in rows) s.0 s.1) refl e)
 
 split : (rows : List Row) (sub : Option (Text × List Row)) → is_some sub ≡ true → asked_from rows sub ≡ Err Usage → Wrong rows sub
 unfolding asked_from
 split rows None has e = cc
 split rows (Some s) has e = by_folder rows s (names_no_folder (first_of (codes "DIR") rows)) refl e
 
-followed : (b : Bool) → reading_of b ≡ Followed → b ≡ true
-followed true e = refl
-followed false e = cc
+kept : (shared own : Bool) → (if shared then Some Changed else kept_lists own) ≡ Some Kept → own ≡ true
+kept true own e = cc
+kept false true e = refl
+kept false false e = cc
+
+changed : (shared own : Bool) → (if shared then Some Changed else kept_lists own) ≡ Some Changed → shared ≡ true
+changed true own e = refl
+changed false true e = cc
+changed false false e = cc
+
+misuse-of : (own : List Row) (name : Text) (rows : List Row) → MisusesFollow (follow_in own) name rows → FollowIsMisused own name rows
+misuse-of own name rows misuse =
+    let shared = has_flag (codes "follow-shared") own in
+    let flag = has_flag (codes "follow") own in
+    elim misuse [ inl m ↦ inl (changed shared flag m.0, m.1) | inr m ↦ inr (kept shared flag m.0, m.1) ]
 
 bad_usage : (words : List Text) (name : Text) (rows : List Row) → subcommand_of program words ≡ Some (name, rows)
-    → action_within (first_of (codes "FOLDER") (matches_of program words)) (reading_in (matches_of program words)) name rows ≡ Err Usage
+    → action_within (first_of (codes "FOLDER") (matches_of program words)) (follow_in (matches_of program words)) name rows ≡ Err Usage
     → IsUnknown name rows ⊎ (FolderIsMisused (matches_of program words) name rows
     ⊎ (FollowIsMisused (matches_of program words) name rows ⊎ TextsAreMisused (matches_of program words) name rows))
 bad_usage words name rows is bad =
     let own = matches_of program words in
-    elim (within (first_of (codes "FOLDER") own) (reading_in own) name rows (known words name rows is) bad) [
+    elim (within (first_of (codes "FOLDER") own) (follow_in own) name rows (known words name rows is) bad) [
       | inl wrong ↦ inl wrong
-      | inr other ↦ elim other [ inl folder ↦ inr (inl folder) | inr follow ↦ inr (inr (inl (followed (has_flag (codes "follow") own) follow.0, follow.1))) ]
+      | inr other ↦ elim other [ inl folder ↦ inr (inl folder) | inr follow ↦ inr (inr (inl (misuse-of own name rows follow))) ]
     ]
 
-pub usage-law : UsageMeansUnknown
-usage-law words none e =
+usage-of : (words : List Text) → fault_of program words ≡ [] → asked_as words ≡ Err Usage → MeansUnknown words
+usage-of words none e =
     let asked : asked_of words ≡ Err Usage = sym (as_taken (fault_of program words) (asked_of words) none) ∙ e in
     elim (split (matches_of program words) (subcommand_of program words) (entered_one words none) asked) [
       | inl folder ↦ inl folder
       | inr u ↦ inr (u.0, u.1, u.2, elim u.3 [ inl bad ↦ bad_usage words u.0 u.1 u.2 bad | inr texts ↦ inr (inr (inr texts)) ])
     ]
+
+pub usage-law : UsageMeansUnknown
+usage-law words none e = usage-of (clap_words words) none e

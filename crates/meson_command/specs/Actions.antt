@@ -3,13 +3,13 @@ use Rattle.std.specs.Prelude.{ℕ, Bool, false, true, ◌&&◌, ◌||◌, ◌==�
 use Rattle.std.specs.Option.{option_map_or}
 use Rattle.clap.specs.Words.{Row, Text, all_of, first_of}
 use Rattle.meson_calls.specs.declared.call.CallName.{CallName}
-use Rattle.meson_calls.specs.declared.call.Reading.{Reading}
 use Rattle.meson_calls.specs.declared.call.Role.{Role}
 use Rattle.meson_splice.specs.Patch.{then_ok}
 use Rattle.meson_steps.specs.declared.command.Command.{Command}
 use Rattle.meson_steps.specs.declared.command.Command.TheVariants as command
 use Rattle.meson_steps.specs.declared.command.Setting.{Setting}
 use Rattle.meson_steps.specs.declared.command.Setting.TheVariants as setting
+use Rattle.meson_steps.specs.declared.source_change.SharedLists.{SharedLists}
 use Rattle.meson_json.specs.Operations.{kwargs_operation, role_of}
 use Rattle.meson_json.specs.Targets.{renaming_of, target_command}
 use Rattle.meson_json.specs.Counts.{count_of}
@@ -52,16 +52,16 @@ run command = Run (record { commands = command ∷ [] })
 
 -- ---- target ID OPERATION [SOURCE]... [--subdir SUBDIR] [--type KIND] [--sorted]
 
--- in the folder alone if one is named, and with build files read so
-abbrev pub target_words : Option Text → Reading → List Row → TargetMembers
-target_words folder reading rows = record {
+-- in the folder alone if one is named, and with variables followed so
+abbrev pub target_words : Option Text → Option SharedLists → List Row → TargetMembers
+target_words folder follow rows = record {
   target = word_at (codes "ID") rows;
   folder = folder;
   sources = words_at (codes "SOURCE") rows;
   subdir = word_at (codes "SUBDIR") rows;
   target_kind = word_or (codes "executable") (codes "KIND") rows;
   sorted = has_flag (codes "sorted") rows;
-  reading = reading;
+  follow = follow;
 }
 
 abbrev pub target_by : TargetOperation → TargetMembers → Action
@@ -81,12 +81,12 @@ rename_action folder rows =
 abbrev pub misplaces_sorted : List Row → Bool
 misplaces_sorted rows = has_flag (codes "sorted") rows && not (bytes_eq (word_at (codes "OPERATION") rows) (codes "add"))
 
-unfoldable pub target_action : Option Text → Reading → List Row → Result Action UsageFault
-target_action folder reading rows =
+unfoldable pub target_action : Option Text → Option SharedLists → List Row → Result Action UsageFault
+target_action folder follow rows =
     if misplaces_sorted rows then Err Usage
     else (if bytes_eq (word_at (codes "OPERATION") rows) (codes "rename") then rename_action folder rows
     else then_ok (ok_or (operation_of_word (word_at (codes "OPERATION") rows)) Usage) (λ operation.
-    Ok (target_by operation (target_words folder reading rows))))
+    Ok (target_by operation (target_words folder follow rows))))
 
 -- ---- kwargs OPERATION FUNCTION ID [KEY VALUE]...
 
@@ -205,10 +205,10 @@ other_action subcommand rows =
     else (if bytes_eq subcommand (codes "list") then list_action rows
     else Err Usage)))
 
--- in the folder that is named before it, and with build files read so; those that take none are not asked with one
-unfoldable pub action_of : Option Text → Reading → Text → List Row → Result Action UsageFault
-action_of folder reading subcommand rows =
-    if bytes_eq subcommand (codes "target") then target_action folder reading rows
+-- in the folder that is named before it, and with variables followed so; those that take none are not asked with one
+unfoldable pub action_of : Option Text → Option SharedLists → Text → List Row → Result Action UsageFault
+action_of folder follow subcommand rows =
+    if bytes_eq subcommand (codes "target") then target_action folder follow rows
     else (if bytes_eq subcommand (codes "kwargs") then kwargs_action folder rows
     else (if bytes_eq subcommand (codes "default-options") then options_action rows
     else (if bytes_eq subcommand (codes "command") then Ok (script_action rows)

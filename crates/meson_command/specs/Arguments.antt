@@ -1,13 +1,13 @@
 -- The request of the words of `arg`, and of any subcommand in the folder that is named before it.
 use Rattle.std.specs.Prelude.{Bool, true, false, not, ◌&&◌, ◌||◌, List, [], ◌∷◌, bytes_eq, codes, if◌then◌else◌, Option, Some, None, is_some, ok_or, option_and_then, option_map, Result, Ok, Err}
 use Rattle.clap.specs.Words.{Row, Text, first_of}
-use Rattle.meson_calls.specs.declared.call.Reading.{Reading}
-use Rattle.meson_calls.specs.declared.call.Reading.TheVariants.{Written, Followed}
 use Rattle.meson_splice.specs.Patch.{then_ok}
 use Rattle.meson_steps.specs.GivenWords.{meant_by}
 use Rattle.meson_steps.specs.declared.argument.ValueName.{ValueName}
 use Rattle.meson_steps.specs.declared.command.Command.{Command}
 use Rattle.meson_steps.specs.declared.given.Given.{Given}
+use Rattle.meson_steps.specs.declared.source_change.SharedLists.{SharedLists}
+use Rattle.meson_steps.specs.declared.source_change.SharedLists.TheVariants.{Kept, Changed}
 use Rattle.meson_json.specs.Arguments.{command_to, keys_in, keys_left_out, place_named}
 use Rattle.meson_json.specs.Operations.{argument_operation, code_operation}
 use Rattle.meson_json.specs.declared.names.ArgumentOperation.{ArgumentOperation}
@@ -84,23 +84,32 @@ takes_folder subcommand rows =
     || ((bytes_eq subcommand (codes "target") && not (is_addition (operation_of_word (word_at (codes "OPERATION") rows))))
     || (bytes_eq subcommand (codes "code") && not (is_append (code_operation (word_at (codes "OPERATION") rows)))))
 
--- `--follow` goes with `target ID info`, `list`, `history`, `undo`, `redo` and `command`
+-- sources of a target are added or removed, and their order is not looked at
+abbrev pub changes_sources : Text → List Row → Bool
+changes_sources subcommand rows =
+    bytes_eq subcommand (codes "target")
+    && ((bytes_eq (word_at (codes "OPERATION") rows) (codes "add") || bytes_eq (word_at (codes "OPERATION") rows) (codes "rm"))
+    && not (has_flag (codes "sorted") rows))
+
+-- `--follow` goes with `target ID add` and `target ID rm` without `--sorted`, `target ID info`, `list`, `history`, `undo`, `redo` and `command`
 abbrev pub takes_follow : Text → List Row → Bool
 takes_follow subcommand rows =
-    (bytes_eq subcommand (codes "target") && bytes_eq (word_at (codes "OPERATION") rows) (codes "info"))
+    changes_sources subcommand rows
+    || ((bytes_eq subcommand (codes "target") && bytes_eq (word_at (codes "OPERATION") rows) (codes "info"))
     || (bytes_eq subcommand (codes "list") || (bytes_eq subcommand (codes "history") || (bytes_eq subcommand (codes "undo")
-    || (bytes_eq subcommand (codes "redo") || bytes_eq subcommand (codes "command")))))
+    || (bytes_eq subcommand (codes "redo") || bytes_eq subcommand (codes "command"))))))
 
--- it is given with other words
-abbrev pub misplaces_follow : Reading → Text → List Row → Bool
-misplaces_follow Written subcommand rows = false
-misplaces_follow Followed subcommand rows = not (takes_follow subcommand rows)
+-- it is given with other words; where shared lists are changed, it goes with the first two alone
+abbrev pub misplaces_follow : Option SharedLists → Text → List Row → Bool
+misplaces_follow None subcommand rows = false
+misplaces_follow (Some Kept) subcommand rows = not (takes_follow subcommand rows)
+misplaces_follow (Some Changed) subcommand rows = not (changes_sources subcommand rows)
 
 -- a folder is named only for the words that take one and for `arg`, and `--follow` is given only for those that take it
-unfoldable pub action_within : Option Text → Reading → Text → List Row → Result Action UsageFault
-action_within folder reading subcommand rows =
-    if misplaces_follow reading subcommand rows then Err Usage
+unfoldable pub action_within : Option Text → Option SharedLists → Text → List Row → Result Action UsageFault
+action_within folder follow subcommand rows =
+    if misplaces_follow follow subcommand rows then Err Usage
     else (if bytes_eq subcommand (codes "arg") then argument_action folder rows
     else (if is_some folder && not (takes_folder subcommand rows) then Err Usage
     else (if bytes_eq subcommand (codes "code") then code_action folder rows
-    else action_of folder reading subcommand rows)))
+    else action_of folder follow subcommand rows)))

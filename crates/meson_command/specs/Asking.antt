@@ -1,17 +1,19 @@
 -- The request of a command line.
-use Rattle.std.specs.Prelude.{Bool, false, true, not, ◌||◌, ◌&&◌, bytes_eq, List, [], ◌∷◌, length, ◌==◌, codes, if◌then◌else◌, Option, None, ok_or, Result, Ok, Err}
+use Rattle.std.specs.Prelude.{Bool, false, true, not, ◌||◌, ◌&&◌, bytes_eq, List, [], ◌∷◌, length, ◌==◌, codes, if◌then◌else◌, Option, Some, None, ok_or, Result, Ok, Err}
 use Rattle.std.specs.Option.{option_map_or}
 use Rattle.clap.specs.Words.{Kinds, Row, Text, fault_of, first_of, matches_of, subcommand_of}
 use Rattle.clap.specs.declared.error.kind.ErrorKind.{ErrorKind}
 use Rattle.clap.specs.declared.error.kind.ErrorKind.TheVariants.{DisplayHelp, DisplayVersion}
-use Rattle.meson_calls.specs.declared.call.Reading.{Reading}
 use Rattle.meson_calls.specs.declared.call.Reading.TheVariants.{Written}
 use Rattle.meson_splice.specs.Patch.{then_ok}
-use Rattle.meson_json.specs.Targets.{reading_of}
+use Rattle.meson_steps.specs.declared.source_change.SharedLists.{SharedLists}
+use Rattle.meson_steps.specs.declared.source_change.SharedLists.TheVariants.{Changed}
+use Rattle.meson_json.specs.Targets.{kept_lists, reading_of}
 use Rattle.meson_json.specs.Titles.{is_title}
 use Rattle.meson_command.specs.Actions.{has_flag, word_at}
 use Rattle.meson_command.specs.Arguments.{action_within}
 use Rattle.meson_command.specs.Program.{program}
+use Rattle.meson_command.specs.Spelling.{clap_words}
 use Rattle.meson_command.specs.declared.asked.Action.{Action}
 use Rattle.meson_command.specs.declared.asked.Action.TheVariants as action
 use Rattle.meson_command.specs.declared.asked.Action.TheVariants.{Help, Version}
@@ -24,9 +26,9 @@ use Rattle.meson_command.specs.declared.fault.UsageFault.TheVariants.{Usage, Bad
 abbrev pub names_no_folder : Option Text → Bool
 names_no_folder dir = option_map_or (λ d. length d == 0) dir false
 
--- how build files are read
-abbrev pub reading_in : List Row → Reading
-reading_in rows = reading_of (has_flag (codes "follow") rows)
+-- whether variables are followed, and then whether lists that another target gets too are changed
+abbrev pub follow_in : List Row → Option SharedLists
+follow_in rows = if has_flag (codes "follow-shared") rows then Some Changed else kept_lists (has_flag (codes "follow") rows)
 
 -- the given title, or the empty one
 abbrev pub title_in : List Row → Text
@@ -47,7 +49,7 @@ flags_in rows = record {
   explain = has_flag (codes "explain") rows;
   exit_code = has_flag (codes "exit-code") rows;
   no_log = has_flag (codes "no-log") rows;
-  reading = reading_in rows;
+  reading = reading_of (follow_in rows);
 }
 
 abbrev pub no_flags : Flags
@@ -106,9 +108,9 @@ unfoldable pub asked_from : List Row → Option (Text × List Row) → Result As
 asked_from rows subcommand =
     then_ok (ok_or subcommand Usage) (λ s.
     if names_no_folder (first_of (codes "DIR") rows) then Err Usage else
-    then_ok (action_within (first_of (codes "FOLDER") rows) (reading_in rows) s.0 s.1) (with_texts rows))
+    then_ok (action_within (first_of (codes "FOLDER") rows) (follow_in rows) s.0 s.1) (with_texts rows))
 
--- if clap takes the words, of which the first is the program's name
+-- if clap takes the words that it gets, of which the first is the program's name
 abbrev pub asked_of : List Text → Result Asked UsageFault
 asked_of words = asked_from (matches_of program words) (subcommand_of program words)
 
@@ -131,9 +133,13 @@ abbrev pub answer : Kinds → Result Asked UsageFault → Result Asked UsageFaul
 answer [] asked = asked
 answer (kind ∷ kinds) asked = answer_by kind
 
+-- for any words that clap gets
+abbrev pub asked_as : List Text → Result Asked UsageFault
+asked_as words = answer (fault_of program words) (asked_of words)
+
 -- for any words
 abbrev pub asked_by : List Text → Result Asked UsageFault
-asked_by words = answer (fault_of program words) (asked_of words)
+asked_by words = asked_as (clap_words words)
 
 -- the same, with no text of help
 abbrev pub without_help_text : Action → Action
@@ -149,6 +155,10 @@ abbrev pub json_by : Kinds → Bool → Bool
 json_by [] json = json
 json_by (kind ∷ kinds) json = false
 
--- for any words: clap takes them, and `--json` is before the subcommand
+-- for any words that clap gets: it takes them, and `--json` is before the subcommand
+abbrev pub wants_json_as : List Text → Bool
+wants_json_as words = json_by (fault_of program words) (is_json_answer (matches_of program words))
+
+-- for any words
 abbrev pub wants_json : List Text → Bool
-wants_json words = json_by (fault_of program words) (is_json_answer (matches_of program words))
+wants_json words = wants_json_as (clap_words words)

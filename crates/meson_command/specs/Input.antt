@@ -1,5 +1,5 @@
 -- Words of `code` whose code is on standard input.
-use Rattle.std.specs.Prelude.{◌≡◌, ℕ, Bool, if◌then◌else◌, false, true, ◌&&◌, ◌-◌, ◌++◌, not, List, [], ◌∷◌, length, take, codes, bytes_eq, Option, Some, None, Result, Ok, Err}
+use Rattle.std.specs.Prelude.{◌≡◌, ℕ, Bool, if◌then◌else◌, false, true, ◌&&◌, ◌-◌, ◌++◌, not, List, [], ◌∷◌, length, take, codes, bytes_eq, Option, Some, None, Result, Err}
 use Rattle.std.specs.Option.{option_map_or}
 use Rattle.std.specs.Str.{is_utf8}
 use Rattle.clap.specs.Words.{Kinds, Row, Text, fault_of, matches_of, subcommand_of}
@@ -8,6 +8,7 @@ use Rattle.meson_command.specs.Actions.{word_at}
 use Rattle.meson_command.specs.Asking.{asked_by, asked_from, is_input}
 use Rattle.meson_command.specs.Codes.{code_word}
 use Rattle.meson_command.specs.Program.{program}
+use Rattle.meson_command.specs.Spelling.{clap_words}
 use Rattle.meson_command.specs.declared.asked.Asked.{Asked}
 use Rattle.meson_command.specs.declared.fault.UsageFault.{UsageFault}
 use Rattle.meson_command.specs.declared.fault.UsageFault.TheVariants.{NotCode}
@@ -38,9 +39,13 @@ abbrev pub code_by : Kinds → Bool → Bool
 code_by [] lacks = lacks
 code_by (kind ∷ kinds) lacks = false
 
--- for any words: clap takes them, and they insert the code `-`, which is their first fault
+-- for any words that clap gets: it takes them, and they insert the code `-`, which is their first fault
+abbrev pub reads_code_as : List Text → Bool
+reads_code_as words = code_by (fault_of program words) (lacks_code (matches_of program words) (subcommand_of program words))
+
+-- for any words
 abbrev pub reads_code : List Text → Bool
-reads_code words = code_by (fault_of program words) (lacks_code (matches_of program words) (subcommand_of program words))
+reads_code words = reads_code_as (clap_words words)
 
 -- no other words than those that are refused since `-` is not code
 abbrev pub ReadsCodeOfRefusedWords : Type 0

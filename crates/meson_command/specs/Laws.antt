@@ -6,7 +6,7 @@ use Rattle.clap.specs.declared.error.kind.ErrorKind.TheVariants.{DisplayHelp, Di
 use Rattle.meson_command.specs.Actions.{has_flag, options_by, word_at, words_at}
 use Rattle.meson_command.specs.Arguments.{action_within, after_meant, takes_folder, values_meant}
 use Rattle.meson_command.specs.Codes.{code_word}
-use Rattle.meson_command.specs.Asking.{asked_by, help, is_dry, names_no_folder, only_asks, only_shows, reading_in, texts_fit, version, wants_json}
+use Rattle.meson_command.specs.Asking.{asked_by, help, is_dry, names_no_folder, only_asks, only_shows, follow_in, texts_fit, version, wants_json}
 use Rattle.meson_json.specs.Arguments.{change_to, keys_left_out, place_named}
 use Rattle.meson_json.specs.Codes.{blank_of}
 use Rattle.meson_json.specs.Operations.{argument_operation, code_operation, kwargs_operation, role_of}
@@ -18,6 +18,7 @@ use Rattle.meson_json.specs.Counts.{count_of}
 use Rattle.meson_command.specs.Operations.{operation_of_word, options_word}
 use Rattle.meson_command.specs.Pairs.{pair_names, pairs_of}
 use Rattle.meson_command.specs.Program.{program}
+use Rattle.meson_command.specs.Spelling.{clap_words}
 use Rattle.meson_command.specs.declared.operations.OptionsWord.TheVariants as options
 use Rattle.meson_command.specs.declared.asked.Action.{Action}
 use Rattle.meson_command.specs.declared.asked.Asked.{Asked}
@@ -45,11 +46,11 @@ UnsetIsDelete = (pairs : List (Text × Text)) → options_by options.Unset (pair
 
 -- help is the answer exactly where it is the first fault that clap finds, so never where clap takes the words
 abbrev pub HelpWhereAsked : Type 0
-HelpWhereAsked = (words : List Text) → (asked_by words ≡ Ok help) ↔ (fault_of program words ≡ DisplayHelp ∷ [])
+HelpWhereAsked = (words : List Text) → (asked_by words ≡ Ok help) ↔ (fault_of program (clap_words words) ≡ DisplayHelp ∷ [])
 
 -- and so is the version
 abbrev pub VersionWhereAsked : Type 0
-VersionWhereAsked = (words : List Text) → (asked_by words ≡ Ok version) ↔ (fault_of program words ≡ DisplayVersion ∷ [])
+VersionWhereAsked = (words : List Text) → (asked_by words ≡ Ok version) ↔ (fault_of program (clap_words words) ≡ DisplayVersion ∷ [])
 
 -- a request is answered in JSON exactly where the words want it
 abbrev pub JsonWhereWanted : Type 0
@@ -142,28 +143,38 @@ IsUnknown subcommand rows =
 abbrev pub FolderIsMisused : List Row → Text → List Row → Type 0
 FolderIsMisused own subcommand rows = (is_some (first_of (codes "FOLDER") own) ≡ true) × (takes_folder subcommand rows ≡ false) × (subcommand ≢ codes "arg")
 
--- the words are not `target ID info`, and not those of `list`, `history`, `undo`, `redo` or `command`
+-- the words are not `target ID add` or `target ID rm`, or `--sorted` is among them
+abbrev pub ChangesNoSources : Text → List Row → Type 0
+ChangesNoSources subcommand rows =
+    (subcommand ≢ codes "target")
+    ⊎ (((word_at (codes "OPERATION") rows ≢ codes "add") × (word_at (codes "OPERATION") rows ≢ codes "rm")) ⊎ (has_flag (codes "sorted") rows ≡ true))
+
+-- nor are they `target ID info`, or those of `list`, `history`, `undo`, `redo` or `command`
 abbrev pub TakesNoFollow : Text → List Row → Type 0
 TakesNoFollow subcommand rows =
-    ((subcommand ≢ codes "target") ⊎ (word_at (codes "OPERATION") rows ≢ codes "info"))
+    ChangesNoSources subcommand rows × ((subcommand ≢ codes "target") ⊎ (word_at (codes "OPERATION") rows ≢ codes "info"))
     × (subcommand ≢ codes "list") × (subcommand ≢ codes "history") × (subcommand ≢ codes "undo") × (subcommand ≢ codes "redo")
     × (subcommand ≢ codes "command")
 
--- `--follow` is given with words that do not take it
+-- `--follow` is given with words that do not take it, or the form of it that changes shared lists with words that change no sources
 abbrev pub FollowIsMisused : List Row → Text → List Row → Type 0
-FollowIsMisused own subcommand rows = (has_flag (codes "follow") own ≡ true) × TakesNoFollow subcommand rows
+FollowIsMisused own subcommand rows =
+    ((has_flag (codes "follow-shared") own ≡ true) × ChangesNoSources subcommand rows)
+    ⊎ ((has_flag (codes "follow") own ≡ true) × TakesNoFollow subcommand rows)
 
 -- a file of texts is named for an action that writes, or standard input would be read twice
 abbrev pub TextsAreMisused : List Row → Text → List Row → Type 0
 TextsAreMisused own subcommand rows =
-    (asked : Action) × (action_within (first_of (codes "FOLDER") own) (reading_in own) subcommand rows ≡ Ok asked) × (texts_fit asked (first_of (codes "FILE") own) (is_dry own) ≡ false)
+    (asked : Action) × (action_within (first_of (codes "FOLDER") own) (follow_in own) subcommand rows ≡ Ok asked) × (texts_fit asked (first_of (codes "FILE") own) (is_dry own) ≡ false)
 
 -- if clap takes the words and the usage is wrong: the folder is empty, a word is unknown or not a number, `rename` has not two names, `arg` has no place or
 -- other values, `--sorted` or `--after` is given with other operations, two listings are requested or one of a function without a name, or a folder,
 -- `--follow` or texts do not fit
-abbrev pub UsageMeansUnknown : Type 0
-UsageMeansUnknown = (words : List Text) → fault_of program words ≡ [] → asked_by words ≡ Err Usage
-    → (names_no_folder (first_of (codes "DIR") (matches_of program words)) ≡ true)
+abbrev pub MeansUnknown : List Text → Type 0
+MeansUnknown words = (names_no_folder (first_of (codes "DIR") (matches_of program words)) ≡ true)
     ⊎ ((name : Text) × (rows : List Row) × (subcommand_of program words ≡ Some (name, rows))
     × (IsUnknown name rows ⊎ (FolderIsMisused (matches_of program words) name rows
     ⊎ (FollowIsMisused (matches_of program words) name rows ⊎ TextsAreMisused (matches_of program words) name rows))))
+
+abbrev pub UsageMeansUnknown : Type 0
+UsageMeansUnknown = (words : List Text) → fault_of program (clap_words words) ≡ [] → asked_by words ≡ Err Usage → MeansUnknown (clap_words words)

@@ -1,3 +1,4 @@
+pub mod Spelling
 pub mod Program
 pub mod Operations
 pub mod Pairs
@@ -9,6 +10,7 @@ pub mod Entries
 pub mod Rows
 pub mod RowsOfArguments
 pub mod RowsOfCode
+pub mod RowsOfFollow
 pub mod Messages
 pub mod Input
 pub mod Laws

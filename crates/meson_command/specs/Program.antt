@@ -104,12 +104,13 @@ bare_command name = record (new_app name) {
   top = record (new_app name).top { subcommand_required = true; disable_help_flag = true; disable_help_subcommand = true };
 }
 
--- meson_rewrite [-s|--sourcedir DIR] [--in FOLDER] [--follow] [--title TEXT] [--dry-run] [--json] [--explain] [--exit-code] [--no-log] [--texts FILE]
--- [-V|--verbose]; `V` is 86, and nothing reads whether it is there
+-- meson_rewrite [-s|--sourcedir DIR] [--in FOLDER] [--follow] [--follow-shared] [--title TEXT] [--dry-run] [--json] [--explain] [--exit-code] [--no-log]
+-- [--texts FILE] [-V|--verbose]; `--follow=shared` is `--follow-shared` here; `V` is 86, and nothing reads whether it is there
 abbrev pub own_words : App
 own_words =
     fold with_rule (bare_command (codes "meson_rewrite")) (short_option (codes "DIR") (codes "sourcedir") 115 ∷ option (codes "FOLDER") (codes "in")
-    ∷ flag (codes "follow") (codes "follow") ∷ option (codes "TEXT") (codes "title") ∷ flag (codes "dry-run") (codes "dry-run") ∷ flag (codes "json") (codes "json") ∷ flag (codes "explain") (codes "explain")
+    ∷ flag (codes "follow") (codes "follow") ∷ flag (codes "follow-shared") (codes "follow-shared") ∷ option (codes "TEXT") (codes "title")
+    ∷ flag (codes "dry-run") (codes "dry-run") ∷ flag (codes "json") (codes "json") ∷ flag (codes "explain") (codes "explain")
     ∷ flag (codes "exit-code") (codes "exit-code") ∷ flag (codes "no-log") (codes "no-log")
     ∷ option (codes "FILE") (codes "texts") ∷ short_flag (codes "verbose") (codes "verbose") 86 ∷ help ∷ version ∷ [])
 

@@ -1,6 +1,6 @@
 -- Command lines, each with its request.
 use Rattle.std.specs.Prelude.{◌≡◌, ℕ, ◌==◌, Bool, false, true, List, [], ◌∷◌, ◌++◌, codes, if◌then◌else◌, Some, None, Result, Ok, Err}
-use Rattle.meson_calls.specs.declared.call.Reading.TheVariants.{Written, Followed}
+use Rattle.meson_calls.specs.declared.call.Reading.TheVariants.{Written}
 use Rattle.meson_calls.specs.declared.call.Role.TheVariants as role
 use Rattle.meson_steps.specs.declared.command.Command.TheVariants as command
 use Rattle.meson_steps.specs.declared.command.Setting.TheVariants as setting
@@ -49,13 +49,6 @@ shown = flagged dry
 -- answered in JSON
 abbrev in_json : Action → Result Asked UsageFault
 in_json = flagged (record no_flags { json = true })
-
--- with the build files read as Meson runs them
-abbrev following : Flags
-following = record no_flags { reading = Followed }
-
-abbrev followed : Action → Result Asked UsageFault
-followed = flagged following
 
 -- with the texts of a file of that name, and these flags
 abbrev pub texted : Flags → List ℕ → Action → Result Asked UsageFault
@@ -257,45 +250,6 @@ Other =
     × asks (codes "--title a --version undo") (Ok version)
     × asks (codes "--version now") (Ok version)
     × asks (codes "--help --version") (Ok help)
-
--- what is done with the build files read as Meson runs them, and for which words it is refused
-abbrev pub Following : Type 0
-Following =
-    asks (codes "--follow target e info") (followed (Info (command.TargetInfo (anywhere (codes "e")) Followed)))
-    × asks (codes "--json --follow tgt e info") (flagged (record following { json = true }) (Info (command.TargetInfo (anywhere (codes "e")) Followed)))
-    × asks (codes "--follow --in s target e info") (followed (Info (command.TargetInfo (record { id = codes "e"; folder = Some (codes "s") }) Followed)))
-    × asks (codes "--texts t --follow target e info") (texted following (codes "t") (Info (command.TargetInfo (anywhere (codes "e")) Followed)))
-    × asks (codes "--follow list") (followed (action.List false))
-    × asks (codes "--follow list --json") (followed (action.List true))
-    × asks (codes "--follow list --of executable") (followed (action.ListCalls (codes "executable") false))
-    × asks (codes "--follow list --of variable") (followed (action.ListAssignments false))
-    × asks (codes "--follow list --sums") (followed Sums)
-    × asks (codes "--follow history") (followed History)
-    × asks (codes "--follow history --forget 2") (followed (ForgetOldest 2))
-    × asks (codes "--follow undo") (followed Undo)
-    × asks (codes "--follow undo --to 2") (followed (UndoTo 2))
-    × asks (codes "--follow undo --check F") (followed (UndoChecked 1 (codes "F")))
-    × asks (codes "--follow redo") (followed Redo)
-    × asks (codes "--follow command -") (followed (ScriptFile (codes "-") unknown.Ignored))
-    × asks (codes "--follow command [1]") (followed (ScriptText (codes "[1]") unknown.Ignored))
-    × asks (codes "--dry-run --follow command -") (flagged (record following { dry_run = true }) (ScriptFile (codes "-") unknown.Ignored))
-    × asks (codes "--json --follow list") (flagged (record following { json = true }) (action.List false))
-    × asks (codes "--follow target e add a.c") (Err Usage)
-    × asks (codes "--follow target e rename a.c b.c") (Err Usage)
-    × asks (codes "--follow target l add_target") (Err Usage)
-    × asks (codes "--follow target e rm a.c") (Err Usage)
-    × asks (codes "--follow kwargs set target e install false") (Err Usage)
-    × asks (codes "--follow kwargs info target e") (Err Usage)
-    × asks (codes "--follow default-options set a 1") (Err Usage)
-    × asks (codes "--follow arg info target e sources") (Err Usage)
-    × asks (codes "--follow arg add target e sources a.c") (Err Usage)
-    × asks (codes "--follow code append meson.build y=1") (Err Usage)
-    × asks (codes "--follow code remove target e") (Err Usage)
-    × asks (codes "--in s --follow list") (Err Usage)
-    × asks (codes "--follow --follow target e info") (Err Usage)
-    × asks (codes "--follow=true target e info") (Err Usage)
-    × asks (codes "target e info --follow") (Err Usage)
-    × asks (codes "--follow --help") (Ok help)
 
 -- what is refused, and by which fault
 abbrev pub Refused : Type 0

@@ -5,31 +5,34 @@ ghost use Rattle.clap.specs.Words.{Row, Text as Word, found_of, rows_of, subcomm
 ghost use Rattle.meson_json.specs.Titles.{is_title};
 ghost use Rattle.meson_command.specs.Actions.{action_of, other_action};
 ghost use Rattle.meson_command.specs.Arguments.{action_within, takes_folder};
-ghost use Rattle.meson_command.specs.Asking.{asked_by, asked_from, asked_of, flags_in, names_no_folder, no_flags, only_asks, reads_input, takes_texts, texts_fit, wants_json, without_text};
+ghost use Rattle.meson_command.specs.Asking.{asked_as, asked_by, asked_from, asked_of, flags_in, names_no_folder, no_flags, only_asks, reads_input, takes_texts, texts_fit, without_text};
 ghost use Rattle.meson_command.specs.Program.{program};
+ghost use Rattle.meson_command.specs.Spelling.{clap_words};
 ghost use Rattle.meson_command.specs.declared.fault.UsageFault.TheVariants.{BadTitle, OutOfMemory, Usage};
 
 use crate::argument::argument_action;
 use crate::code::code_action;
 use crate::fault::UsageFault;
-use crate::follow::{misplaces_follow, reading_in};
+use crate::follow::{follow_in, misplaces_follow};
 use crate::history::{history_action, list_action, undo_action};
 use crate::kwargs::kwargs_action;
 use crate::operations::find_target_operation;
 use crate::options::options_action;
 use crate::program::named_program;
 use crate::script::script_action;
+use crate::spelling::clap_words;
 use crate::target::target_action;
 use crate::words::{is_set, word_or};
 use clap::ArgMatches;
 use clap::error::ErrorKind;
 use meson_calls::Reading;
 use meson_json::names::{CodeOperation, find_code_operation};
-use meson_json::target::TargetOperation;
+use meson_json::target::{TargetOperation, reading_of};
 use meson_json::{Script, UnknownMembers, is_title, owned};
 use meson_splice::Text;
 use meson_steps::command::Command;
-use std::alloc::{AllocError, Global};
+use meson_steps::source_change::SharedLists;
+use std::alloc::Global;
 
 /// What is to be done.
 #[derive(Drop)]
@@ -129,16 +132,16 @@ fn other_action(
 fn action_of(
     alloc: Global,
     folder: Option<&str>,
-    reading: Reading,
+    follow: Option<SharedLists>,
     subcommand: &str,
     matches: &ArgMatches<'_>,
 ) -> Result<Action, UsageFault>
-    ensures ok { IfOk result (λ a. action_of (option_map (λ w. w.now) folder.entry) reading subcommand.now (rows_of (found_of matches.now)) ≡ Ok a) }
+    ensures ok { IfOk result (λ a. action_of (option_map (λ w. w.now) folder.entry) follow subcommand.now (rows_of (found_of matches.now)) ≡ Ok a) }
     ensures refused { IfErr result (λ e. e ≢ OutOfMemory
-        → action_of (option_map (λ w. w.now) folder.entry) reading subcommand.now (rows_of (found_of matches.now)) ≡ Err e) }
+        → action_of (option_map (λ w. w.now) folder.entry) follow subcommand.now (rows_of (found_of matches.now)) ≡ Err e) }
 {
     if subcommand == "target" {
-        target_action(alloc, folder, reading, matches)
+        target_action(alloc, folder, follow, matches)
     } else if subcommand == "kwargs" {
         kwargs_action(alloc, folder, matches)
     } else if subcommand == "default-options" {
@@ -167,20 +170,20 @@ fn takes_folder(subcommand: &str, matches: &ArgMatches<'_>) -> bool
     subcommand == "code" && !matches!(operation, Some(CodeOperation::Append))
 }
 
-/// The request of a subcommand's words, in the folder that is named before it, and with build files read so, if it takes them.
+/// The request of a subcommand's words, in the folder that is named before it, and with variables followed so, if it takes that.
 #[tactic(auto, unfolding(crate::specs::Arguments::action_within))]
 fn action_within(
     alloc: Global,
     folder: Option<&str>,
-    reading: Reading,
+    follow: Option<SharedLists>,
     subcommand: &str,
     matches: &ArgMatches<'_>,
 ) -> Result<Action, UsageFault>
-    ensures ok { IfOk result (λ a. action_within (option_map (λ w. w.now) folder.entry) reading subcommand.now (rows_of (found_of matches.now)) ≡ Ok a) }
+    ensures ok { IfOk result (λ a. action_within (option_map (λ w. w.now) folder.entry) follow subcommand.now (rows_of (found_of matches.now)) ≡ Ok a) }
     ensures refused { IfErr result (λ e. e ≢ OutOfMemory
-        → action_within (option_map (λ w. w.now) folder.entry) reading subcommand.now (rows_of (found_of matches.now)) ≡ Err e) }
+        → action_within (option_map (λ w. w.now) folder.entry) follow subcommand.now (rows_of (found_of matches.now)) ≡ Err e) }
 {
-    if misplaces_follow(reading, subcommand, matches) {
+    if misplaces_follow(follow, subcommand, matches) {
         Err(UsageFault::Usage)
     } else if subcommand == "arg" {
         argument_action(alloc, folder, matches)
@@ -189,7 +192,7 @@ fn action_within(
     } else if subcommand == "code" {
         code_action(alloc, folder, matches)
     } else {
-        action_of(alloc, folder, reading, subcommand, matches)
+        action_of(alloc, folder, follow, subcommand, matches)
     }
 }
 
@@ -264,7 +267,7 @@ fn flags_in(matches: &ArgMatches<'_>) -> Flags
         explain: is_set(matches, "explain"),
         exit_code: is_set(matches, "exit-code"),
         no_log: is_set(matches, "no-log"),
-        reading: reading_in(matches),
+        reading: reading_of(follow_in(matches)),
     }
 }
 
@@ -292,8 +295,8 @@ pub(crate) fn asked_from(alloc: Global, matches: &ArgMatches<'_>) -> Result<Aske
         return Err(UsageFault::Usage);
     };
     let dir = folder(alloc, matches.get_str("DIR"))?;
-    let reading = reading_in(matches);
-    let action = action_within(alloc, matches.get_str("FOLDER"), reading, subcommand, words)?;
+    let follow = follow_in(matches);
+    let action = action_within(alloc, matches.get_str("FOLDER"), follow, subcommand, words)?;
     let flags = flags_in(matches);
     let texts = texts_for(alloc, &action, matches.get_str("FILE"), flags.dry_run)?;
     let word = word_or(matches, "TEXT", "");
@@ -328,23 +331,13 @@ fn shown(alloc: Global, action: Action) -> Asked
     }
 }
 
-/// The request of the words of a command line, of which the first is the program's name. They are those of the Rewriter page of the Meson manual; `undo`,
-/// `redo`, `history`, `list`, `unset`, `--title`, `--dry-run`, `--json`, `--explain`, `--exit-code`, `--no-log`, `--texts`, `--strict`, `--subdir`,
-/// `--type`, `--sorted`, `arg`, `code`, `--in` and `--follow` are this program's own. Values, ids and names are passed on as given.
-///
-/// # Errors
-/// The first of these faults, in this order. A word is missing, unknown or one too many, a number or a place is not valid, two listings are requested or
-/// one of a function without a name, the folder is empty, `--follow` goes with other words than `target ID info`, `list`, `history`, `undo`, `redo` and
-/// `command`, or `--in` with words that take no folder. In words that are names with values, the last name has no value. A name is repeated. The
-/// operation is not done here. A value of `arg` is not code. Its values are more or fewer than its operation takes, or it does not take `--after` or
-/// `--sorted`. The code of `code` is not statements. Texts are named for what writes, or standard input would be read twice. The title is not valid.
-/// And out of memory, at any time.
-pub fn command_of(alloc: Global, words: &[String]) -> Result<Asked, UsageFault>
-    ensures ok { IfOk result (λ a. asked_by (map string_bytes words.now) ≡ Ok (without_text a)) }
-    ensures refused { IfErr result (λ e. e ≢ OutOfMemory → asked_by (map string_bytes words.now) ≡ Err e) }
-    ensures taken { takes program (map string_bytes words.now) ≡ true → IfOk result (λ a. asked_of (map string_bytes words.now) ≡ Ok a) }
-    ensures taken_refused { takes program (map string_bytes words.now) ≡ true
-        → IfErr result (λ e. e ≢ OutOfMemory → asked_of (map string_bytes words.now) ≡ Err e) }
+/// The request of words as clap gets them.
+fn asked_as(alloc: Global, words: &[&str]) -> Result<Asked, UsageFault>
+    ensures ok { IfOk result (λ a. asked_as (map (λ w. w.now) words.now) ≡ Ok (without_text a)) }
+    ensures refused { IfErr result (λ e. e ≢ OutOfMemory → asked_as (map (λ w. w.now) words.now) ≡ Err e) }
+    ensures taken { takes program (map (λ w. w.now) words.now) ≡ true → IfOk result (λ a. asked_of (map (λ w. w.now) words.now) ≡ Ok a) }
+    ensures taken_refused { takes program (map (λ w. w.now) words.now) ≡ true
+        → IfErr result (λ e. e ≢ OutOfMemory → asked_of (map (λ w. w.now) words.now) ≡ Err e) }
     ensures title { IfOk result (λ a. is_title a.title ≡ true) }
 {
     let command = named_program(alloc)?;
@@ -362,20 +355,26 @@ pub fn command_of(alloc: Global, words: &[String]) -> Result<Asked, UsageFault>
     }
 }
 
-/// Whether the words of a command line, of which the first is the program's name, want an answer in JSON: clap takes them, and `--json` is before the
-/// subcommand. It says so of words that `command_of` refuses, too. Where clap does not take the words, or where it shows help or the version, they do not.
+/// The request of the words of a command line, of which the first is the program's name. They are those of the Rewriter page of the Meson manual; `undo`,
+/// `redo`, `history`, `list`, `unset`, `--title`, `--dry-run`, `--json`, `--explain`, `--exit-code`, `--no-log`, `--texts`, `--strict`, `--subdir`,
+/// `--type`, `--sorted`, `arg`, `code`, `--in` and `--follow` are this program's own. Values, ids and names are passed on as given.
 ///
 /// # Errors
-/// Only when an allocation fails.
-pub fn wants_json(alloc: Global, words: &[String]) -> Result<bool, AllocError>
-    ensures { IfOk result (λ json. json ≡ wants_json (map string_bytes words.now)) }
+/// The first of these faults, in this order. A word is missing, unknown or one too many, a number or a place is not valid, two listings are requested or one
+/// of a function without a name, the folder is empty, `--follow` goes with other words than `target ID add` and `rm` without `--sorted`, `target ID info`,
+/// `list`, `history`, `undo`, `redo` and `command`, `--follow=shared` with others than the first two, or `--in` with words that take no folder. In words that
+/// are names with values, the last name has no value. A name is repeated. The operation is not done here. A value of `arg` is not code. Its values are more
+/// or fewer than its operation takes, or it does not take `--after` or `--sorted`. The code of `code` is not statements. Texts are named for what writes, or
+/// standard input would be read twice. The title is not valid. And out of memory, at any time.
+pub fn command_of(alloc: Global, words: &[String]) -> Result<Asked, UsageFault>
+    ensures ok { IfOk result (λ a. asked_by (map string_bytes words.now) ≡ Ok (without_text a)) }
+    ensures refused { IfErr result (λ e. e ≢ OutOfMemory → asked_by (map string_bytes words.now) ≡ Err e) }
+    ensures taken { takes program (clap_words (map string_bytes words.now)) ≡ true
+        → IfOk result (λ a. asked_of (clap_words (map string_bytes words.now)) ≡ Ok a) }
+    ensures taken_refused { takes program (clap_words (map string_bytes words.now)) ≡ true
+        → IfErr result (λ e. e ≢ OutOfMemory → asked_of (clap_words (map string_bytes words.now)) ≡ Err e) }
+    ensures title { IfOk result (λ a. is_title a.title ≡ true) }
 {
-    let command = named_program(alloc)?;
-    match command.try_get_matches_from(words) {
-        Ok(matches) => Ok(is_set(&matches, "json")),
-        Err(error) => match error.kind() {
-            ErrorKind::OutOfMemory => Err(AllocError),
-            _ => Ok(false),
-        },
-    }
+    let given = clap_words(alloc, words)?;
+    asked_as(alloc, given.as_slice())
 }

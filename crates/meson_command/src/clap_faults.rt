@@ -248,6 +248,13 @@ pub(crate) fn add_usage(
     remarks.help(format!(in alloc; "meson_rewrite {name} --help lists its words")?)
 }
 
+/// Whether a word gives `--follow` a value.
+fn gives_lists(words: &[String]) -> bool {
+    words
+        .iter()
+        .any(|word| word.as_str().starts_with("--follow="))
+}
+
 /// What may be done about a message of clap. Returns whether its own tips are to be left out.
 fn add_help(
     alloc: Global,
@@ -271,6 +278,10 @@ fn add_help(
             help_missing(alloc, remarks, subcommand)?;
             Ok(false)
         }
+        ErrorKind::TooManyValues if gives_lists(words) => {
+            remarks.help_words(alloc, "write --follow, --follow=own or --follow=shared")?;
+            Ok(false)
+        }
         _ => Ok(false),
     }
 }
@@ -285,7 +296,11 @@ pub(crate) fn explain_untaken(
     if let ErrorKind::MissingSubcommand = error.kind() {
         return add_overview(alloc, remarks, words);
     }
-    let text = error.to_string(alloc)?;
+    let told = error.to_string(alloc)?;
+    // The flag that clap gets for it is not among the words.
+    let text = told
+        .as_str()
+        .replace(alloc, "--follow-shared", "--follow=shared")?;
     let (message, rest) = text
         .as_str()
         .split_once("\n\n")

@@ -31,10 +31,12 @@ With target, kwargs, arg or code: search the build
 file of this folder alone";
 
 pub(crate) const FOLLOW: &str = "\
-With target ID info, list, history, undo, redo and
-command: read the build files as Meson runs them, also
-in folders written as 'src/' or named in a loop; info
-follows variables";
+With target ID add, rm and info, list, history, undo,
+redo and command: read the build files as Meson runs
+them, also in folders written as 'src/' or named in a
+loop; add, rm and info follow variables. --follow=own
+is the same; --follow=shared, with add and rm, changes
+also lists that are read for another target";
 
 pub(crate) const DRY_RUN: &str = "Show the changes as a unified diff, and write nothing";
 
@@ -60,7 +62,8 @@ pub(crate) const TARGET: &str = "Edit, list, add or remove a target";
 
 pub(crate) const BELOW_TARGET: &str = "\
 Options of the program, before the subcommand (see meson_rewrite --help):
-  --sourcedir DIR, --in FOLDER, --follow, --title TEXT, --dry-run, --json
+  --sourcedir DIR, --in FOLDER, --follow[=LISTS], --title TEXT, --dry-run,
+  --json
 
 Operations:
   add, rm                          add sources, remove sources
@@ -77,6 +80,9 @@ A SOURCE is a name as the build file writes it: relative to the folder of the
 build file, not to the working folder.
 add --sorted puts each source in its place if the list is in order: it has four
 names or more, each less than the next byte by byte. Else it goes to the end.
+With --follow add and rm follow variables, and a SOURCE is a path from the
+folder of the target. LISTS is own, as if left out: a list that is read for
+another target too stays; or shared: it is changed for all of them.
 
 Examples:
   meson_rewrite target tide add moon.c sun.c
@@ -89,7 +95,9 @@ Examples:
   meson_rewrite target make_tables rm_target
   meson_rewrite --in src target tide add moon.c
   meson_rewrite target harbor info
-  meson_rewrite --follow target tide info";
+  meson_rewrite --follow target tide info
+  meson_rewrite --follow target tide add new.c
+  meson_rewrite --follow=shared target tide rm tide.c";
 
 pub(crate) const SUBDIR: &str = "Folder of a new target [default: that of the root file]";
 

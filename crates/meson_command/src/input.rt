@@ -2,12 +2,13 @@
 
 ghost use Rattle.std.specs.Prelude.{◌≡◌, IfOk, map, option_map, string_bytes};
 ghost use Rattle.clap.specs.Words.{found_of, rows_of, subcommand_rows_of};
-ghost use Rattle.meson_command.specs.Input.{as_text, is_input_word, lacks_code, names_input, reads_code, waits_for_code, with_last};
+ghost use Rattle.meson_command.specs.Input.{as_text, is_input_word, lacks_code, names_input, reads_code, reads_code_as, waits_for_code, with_last};
 
 use crate::asked::asked_from;
 use crate::code::code_word;
 use crate::fault::UsageFault;
 use crate::program::named_program;
+use crate::spelling::clap_words;
 use crate::words::word_or;
 use clap::ArgMatches;
 use clap::error::ErrorKind;
@@ -62,13 +63,9 @@ fn lacks_code(alloc: Global, matches: &ArgMatches<'_>) -> Result<bool, AllocErro
     }
 }
 
-/// Whether the code of the words of a command line, of which the first is the program's name, is on standard input: they insert the code `-` by `code`, and
-/// that this is not code is their first fault. The text of standard input then takes the place of the last word.
-///
-/// # Errors
-/// Only when an allocation fails.
-pub fn reads_code(alloc: Global, words: &[String]) -> Result<bool, AllocError>
-    ensures { IfOk result (λ b. b ≡ reads_code (map string_bytes words.now)) }
+/// Whether the code of words as clap gets them is on standard input.
+fn reads_code_as(alloc: Global, words: &[&str]) -> Result<bool, AllocError>
+    ensures { IfOk result (λ b. b ≡ reads_code_as (map (λ w. w.now) words.now)) }
 {
     let command = named_program(alloc)?;
     match command.try_get_matches_from(words) {
@@ -78,6 +75,18 @@ pub fn reads_code(alloc: Global, words: &[String]) -> Result<bool, AllocError>
             _ => Ok(false),
         },
     }
+}
+
+/// Whether the code of the words of a command line, of which the first is the program's name, is on standard input: they insert the code `-` by `code`, and
+/// that this is not code is their first fault. The text of standard input then takes the place of the last word.
+///
+/// # Errors
+/// Only when an allocation fails.
+pub fn reads_code(alloc: Global, words: &[String]) -> Result<bool, AllocError>
+    ensures { IfOk result (λ b. b ≡ reads_code (map string_bytes words.now)) }
+{
+    let given = clap_words(alloc, words)?;
+    reads_code_as(alloc, given.as_slice())
 }
 
 /// Bytes as text, if they are UTF-8.

@@ -1,6 +1,7 @@
 //! The command line: which words the program takes, and what they request.
 #![tactic(auto)]
 
+mod answers;
 mod argument;
 mod argument_faults;
 mod asked;
@@ -24,12 +25,14 @@ mod pairs;
 mod program;
 mod script;
 mod shell;
+mod spelling;
 mod subcommands;
 mod target;
 mod word_faults;
 mod words;
 
-pub use asked::{Action, Asked, Flags, command_of, wants_json};
+pub use answers::wants_json;
+pub use asked::{Action, Asked, Flags, command_of};
 pub use fault::UsageFault;
 pub use input::{reads_code, text_of, with_last};
 pub use misuse::explain_words;

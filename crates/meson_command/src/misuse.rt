@@ -3,6 +3,7 @@
 use crate::clap_faults::explain_untaken;
 use crate::fault::UsageFault;
 use crate::program::named_program;
+use crate::spelling::clap_words;
 use crate::word_faults::explain_taken;
 use clap::error::ErrorKind;
 use meson_json::Remarks;
@@ -19,8 +20,9 @@ pub fn explain_words(
     fault: &UsageFault,
 ) -> Result<Remarks, AllocError> {
     let mut remarks = Remarks::new(alloc);
+    let given = clap_words(alloc, words)?;
     let command = named_program(alloc)?;
-    match command.try_get_matches_from(words) {
+    match command.try_get_matches_from(given.as_slice()) {
         Ok(matches) => explain_taken(alloc, &mut remarks, &matches, fault)?,
         Err(error) => match error.kind() {
             ErrorKind::OutOfMemory => return Err(AllocError),

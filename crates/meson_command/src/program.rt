@@ -129,6 +129,19 @@ fn with_flag<'h>(
     with_arg(command, arg.help(about))
 }
 
+/// With an option that has no value, and that help does not list.
+fn with_hidden_flag<'h>(
+    alloc: Global,
+    command: Result<Command<'h>, AllocError>,
+    name: &'h str,
+    long: &'h str,
+) -> Result<Command<'h>, AllocError>
+    ensures { (a : App) → IfOk command.entry (IsToldToClap a) → IfOk result (IsToldToClap (with_rule a (flag name.entry.now long.entry.now))) }
+{
+    let arg = Arg::new(alloc, name).long(long).action(ArgAction::SetTrue);
+    with_arg(command, arg.hide(true))
+}
+
 /// With an option that has no value, and a short name.
 fn with_short_flag<'h>(
     alloc: Global,
@@ -320,6 +333,7 @@ fn own_words<'h>(alloc: Global) -> Result<Command<'h>, AllocError>
     let program = with_short_option(alloc, Ok(bare), "DIR", "sourcedir", 's', help::DIR);
     let program = with_option(alloc, program, "FOLDER", "in", help::IN);
     let program = with_flag(alloc, program, "follow", "follow", help::FOLLOW);
+    let program = with_hidden_flag(alloc, program, "follow-shared", "follow-shared");
     let program = with_option(alloc, program, "TEXT", "title", help::TITLE);
     let program = with_flag(alloc, program, "dry-run", "dry-run", help::DRY_RUN);
     let program = with_flag(alloc, program, "json", "json", help::ANSWER_JSON);

@@ -11,19 +11,20 @@ use crate::fault::UsageFault;
 use crate::operations::find_target_operation;
 use crate::words::{is_set, run, word_or, words_at};
 use clap::ArgMatches;
-use meson_calls::{CallName, Reading};
+use meson_calls::CallName;
 use meson_json::owned;
 use meson_json::target::{TargetMembers, TargetOperation, renaming_of, target_command};
+use meson_steps::source_change::SharedLists;
 use std::alloc::{AllocError, Global};
 
-/// The words after the operation, in the folder alone if one is named, and with build files read so.
+/// The words after the operation, in the folder alone if one is named, and with variables followed so.
 fn target_words(
     alloc: Global,
     folder: Option<&str>,
-    reading: Reading,
+    follow: Option<SharedLists>,
     matches: &ArgMatches<'_>,
 ) -> Result<TargetMembers, AllocError>
-    ensures { IfOk result (λ w. w ≡ target_words (option_map (λ f. f.now) folder.entry) reading (rows_of (found_of matches.now))) }
+    ensures { IfOk result (λ w. w ≡ target_words (option_map (λ f. f.now) folder.entry) follow (rows_of (found_of matches.now))) }
 {
     Ok(TargetMembers {
         target: owned(alloc, word_or(matches, "ID", ""))?,
@@ -32,7 +33,7 @@ fn target_words(
         subdir: owned(alloc, word_or(matches, "SUBDIR", ""))?,
         target_kind: owned(alloc, word_or(matches, "KIND", "executable"))?,
         sorted: is_set(matches, "sorted"),
-        reading,
+        follow,
     })
 }
 
@@ -82,7 +83,7 @@ fn misplaces_sorted(matches: &ArgMatches<'_>) -> bool
     is_set(matches, "sorted") && word_or(matches, "OPERATION", "") != "add"
 }
 
-/// The request of the words of `target`, in the folder alone if one is named, and with build files read so.
+/// The request of the words of `target`, in the folder alone if one is named, and with variables followed so.
 ///
 /// # Errors
 /// The operation is unknown, there are not two names to rename, or `--sorted` is given with another operation than `add`.
@@ -90,12 +91,12 @@ fn misplaces_sorted(matches: &ArgMatches<'_>) -> bool
 pub(crate) fn target_action(
     alloc: Global,
     folder: Option<&str>,
-    reading: Reading,
+    follow: Option<SharedLists>,
     matches: &ArgMatches<'_>,
 ) -> Result<Action, UsageFault>
-    ensures ok { IfOk result (λ a. target_action (option_map (λ f. f.now) folder.entry) reading (rows_of (found_of matches.now)) ≡ Ok a) }
+    ensures ok { IfOk result (λ a. target_action (option_map (λ f. f.now) folder.entry) follow (rows_of (found_of matches.now)) ≡ Ok a) }
     ensures refused { IfErr result (λ e. e ≢ OutOfMemory
-        → target_action (option_map (λ f. f.now) folder.entry) reading (rows_of (found_of matches.now)) ≡ Err e) }
+        → target_action (option_map (λ f. f.now) folder.entry) follow (rows_of (found_of matches.now)) ≡ Err e) }
 {
     if misplaces_sorted(matches) {
         return Err(UsageFault::Usage);
@@ -107,6 +108,6 @@ pub(crate) fn target_action(
     let Some(operation) = find_target_operation(word) else {
         return Err(UsageFault::Usage);
     };
-    let words = target_words(alloc, folder, reading, matches)?;
+    let words = target_words(alloc, folder, follow, matches)?;
     target_by(alloc, operation, words)
 }

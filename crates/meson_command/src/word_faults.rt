@@ -5,6 +5,7 @@ use crate::choices::{FUNCTIONS, KWARGS_OPERATIONS, OPTIONS_OPERATIONS, TARGET_OP
 use crate::clap_faults::add_usage;
 use crate::code_faults::{explain_code_words, explain_statements};
 use crate::fault::UsageFault;
+use crate::follow::follow_in;
 use crate::keys::{explain_odd, explain_repeated};
 use crate::shell::quoted;
 use crate::subcommands::Subcommand;
@@ -12,6 +13,7 @@ use crate::words::{is_set, word_or};
 use clap::ArgMatches;
 use meson_json::Remarks;
 use meson_json::count::count_of;
+use meson_steps::source_change::SharedLists;
 use std::alloc::{AllocError, Global};
 
 /// The operation on a target that a word of another program, or of a script, means. Without sources the target itself is removed.
@@ -202,7 +204,7 @@ fn takes_folder(subcommand: Option<Subcommand>, words: &ArgMatches<'_>) -> bool 
     }
 }
 
-/// Whether `--follow` may be given for the words of a subcommand.
+/// Whether `--follow` may be given for the words of a subcommand that changes no sources.
 fn takes_follow(subcommand: Option<Subcommand>, words: &ArgMatches<'_>) -> bool {
     match subcommand {
         Some(Subcommand::Target) => word_or(words, "OPERATION", "") == "info",
@@ -210,6 +212,53 @@ fn takes_follow(subcommand: Option<Subcommand>, words: &ArgMatches<'_>) -> bool 
         Some(Subcommand::History | Subcommand::List) => true,
         _ => false,
     }
+}
+
+/// Whether the words of a subcommand add sources to a target or remove some.
+fn changes_sources(subcommand: Option<Subcommand>, words: &ArgMatches<'_>) -> bool {
+    match subcommand {
+        Some(Subcommand::Target) => matches!(word_or(words, "OPERATION", ""), "add" | "rm"),
+        _ => false,
+    }
+}
+
+/// Explains that `--follow` is given with words that do not take it. Returns whether it is.
+fn explain_follow(
+    alloc: Global,
+    remarks: &mut Remarks,
+    lists: SharedLists,
+    subcommand: Option<Subcommand>,
+    words: &ArgMatches<'_>,
+) -> Result<bool, AllocError> {
+    if changes_sources(subcommand, words) {
+        if !is_set(words, "sorted") {
+            return Ok(false);
+        }
+        remarks.note_words(alloc, "--sorted is given with --follow")?;
+        remarks.help_words(
+            alloc,
+            "leave out --sorted: where variables are followed, order is not looked at",
+        )?;
+        return Ok(true);
+    }
+    match lists {
+        SharedLists::Kept if takes_follow(subcommand, words) => return Ok(false),
+        SharedLists::Kept => {
+            remarks.note_words(alloc, "--follow is given with words that do not take it")?;
+            remarks.help_words(
+                alloc,
+                "--follow goes with target ID add, rm and info, list, history, undo, redo and command",
+            )?;
+        }
+        SharedLists::Changed => {
+            remarks.note_words(
+                alloc,
+                "--follow=shared is given with words that do not take it",
+            )?;
+            remarks.help_words(alloc, "--follow=shared goes with target ID add and rm")?;
+        }
+    }
+    Ok(true)
 }
 
 /// Explains words that are wrong usage.
@@ -224,12 +273,10 @@ fn explain_usage(
         remarks.note_words(alloc, "--sourcedir is empty")?;
         return remarks.help_words(alloc, "leave it out for the working folder");
     }
-    if is_set(matches, "follow") && !takes_follow(subcommand, words) {
-        remarks.note_words(alloc, "--follow is given with words that do not take it")?;
-        return remarks.help_words(
-            alloc,
-            "--follow goes with target ID info, list, history, undo, redo and command",
-        );
+    if let Some(lists) = follow_in(matches) {
+        if explain_follow(alloc, remarks, lists, subcommand, words)? {
+            return Ok(());
+        }
     }
     if matches.get_str("FOLDER").is_some() && !takes_folder(subcommand, words) {
         remarks.note_words(alloc, "--in is given with words that take no folder")?;

@@ -1,6 +1,6 @@
 -- A command that is refused for a name that is not valid is refused for the first of its names that is not.
 use Rattle.std.proofs.Common.{◌≡◌, ℕ, zero, suc, true, false, List, [], ◌∷◌, map, Option, Some, None, refl, sym, ap, ◌∙◌}
-use Rattle.std.specs.Prelude.{Bool, Result, Ok, Err, codes, find, if◌then◌else◌, option_map}
+use Rattle.std.specs.Prelude.{Bool, Result, Ok, Err, codes, count_by, find, if◌then◌else◌, option_map}
 use Rattle.std.proofs.lemmas.List.Elements.{All-cons, All-nil}
 use Rattle.meson_lex.specs.declared.kinds.Span.{Span}
 use Rattle.meson_splice.specs.Patch.{then_ok}
@@ -13,6 +13,9 @@ use Rattle.meson_calls.specs.declared.call.Role.{Role}
 use Rattle.meson_calls.specs.declared.call.Role.TheVariants as role
 use Rattle.meson_calls.specs.declared.refusal.Refusal.{Refusal}
 use Rattle.meson_calls.specs.declared.refusal.Refusal.TheVariants as refusal
+use Rattle.meson_followed.specs.FollowedEdits.{followed_added, followed_removed}
+use Rattle.meson_followed.specs.Sources.{sources_of}
+use Rattle.meson_following.specs.Following.{follow_marks}
 use Rattle.meson_keywords.specs.Tasks.{Task, add_entry, checked_option, delete_entry, delete_option, delete_option_entry, each_made, remove_entry, set_entry, set_option, set_option_entry}
 use Rattle.meson_keywords.specs.TaskSteps.{call_changed, tasks_steps, trees_of}
 use Rattle.meson_plan.specs.Planning.{call_asked, planned, target_told}
@@ -21,12 +24,15 @@ use Rattle.meson_steps.specs.Names.{checked_names, distinct}
 use Rattle.meson_steps.specs.Steps.{Step}
 use Rattle.meson_steps.specs.declared.command.Command.{Command}
 use Rattle.meson_steps.specs.declared.command.Command.TheVariants as command
+use Rattle.meson_sharing.specs.Told.{is_opaque}
+use Rattle.meson_steps.specs.declared.source_change.SourceChange.TheVariants.{Add, Remove}
 use Rattle.meson_targets.specs.TargetEdits.{append_steps, checked_kind, not_taken, number_in, target_removed, targets_named}
 use Rattle.meson_variables.specs.Expansion.{Item, Mark}
 use Rattle.meson_variables.specs.TargetSources.{opaque_count, source_marks}
 use Rattle.meson_explaining.specs.NameLaws.{HasMeantName, NotRefused, alone}
 use Rattle.meson_explaining.specs.Names.{is_bad_option, is_bad_pair, is_empty_name, meant_name}
 use Rattle.meson_explaining.proofs.EntryReasons.{add_bad, add_free, delete_free, each_free, each_good, good_values, one_bad, option_bad, option_good, remove_bad, remove_free, set_bad, set_free}
+use Rattle.meson_explaining.proofs.FollowedReasons.{all_free, followed_free}
 use Rattle.meson_explaining.proofs.Firsts.{all_of, first_refused, meant_of_call, none_of_one}
 use Rattle.meson_explaining.proofs.NameReasons.{Free, after, bad_of_names, call_free, checked_kind_free, is_bad, kwargs_free, not_refused, once_free, or_free, placed_free, reached, removed_free, shown_free, target_free}
 use Rattle.meson_explaining.proofs.SourceReasons.{inserted_free}
@@ -226,6 +232,18 @@ module _ (l : Loaded) where
       (λ u. after is_bad (once sources_key (keyword sources_key c.it) (source_marks (project l) c)) _ (once_free is_bad bad_of_names sources_key (keyword sources_key c.it) (source_marks (project l) c))
       (λ marks. removals_free marks (distinct names)))) (λ c. refl) sources refl refl
   bad_meant (command.SourcesRename target old new) = renaming_meant target old new
+  bad_meant (command.FollowedSources target (Add sources) shared) =
+      names_meant target (λ names. command.FollowedSources target (Add names) shared) (λ names c. followed_added (project l) c shared names) (λ names. refl)
+      (λ names none c. after is_bad (checked_names names) _ (names_free names none)
+      (λ u. after is_bad (once sources_key (keyword sources_key c.it) (follow_marks (project l) c)) _
+      (once_free is_bad bad_of_names sources_key (keyword sources_key c.it) (follow_marks (project l) c)) (λ marks. tt))) (λ c. refl) sources refl refl
+  bad_meant (command.FollowedSources target (Remove sources) shared) =
+      names_meant target (λ names. command.FollowedSources target (Remove names) shared) (λ names c. followed_removed (project l) c shared names) (λ names. refl)
+      (λ names none c. after is_bad (checked_names names) _ (names_free names none)
+      (λ u. after is_bad (once sources_key (keyword sources_key c.it) (follow_marks (project l) c)) _
+      (once_free is_bad bad_of_names sources_key (keyword sources_key c.it) (follow_marks (project l) c))
+      (λ marks. followed_free is_bad bad_of_names (project l) c shared marks names
+      (all_free is_bad bad_of_names (count_by is_opaque marks) (none_free (count_by is_opaque marks)) (sources_of (project l) c.place.file marks) _)))) (λ c. refl) sources refl refl
   bad_meant (command.ExtraAdd target sources) =
       names_meant target (command.ExtraAdd target) (λ names c. extra_added (project l) c names) (λ names. refl)
       (λ names none c. after is_bad (checked_extra (project l) c names) _ (extra_free (project l) c names none) (λ marks. inserted_free is_bad bad_of_names (project l) c _ _)) (λ c. refl) sources refl refl

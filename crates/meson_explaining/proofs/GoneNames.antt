@@ -1,21 +1,21 @@
 -- A command that is refused since a source is not found is refused for the first of its names that the target does not have.
 use Rattle.std.proofs.Common.{◌≡◌, ℕ, true, List, [], ◌∷◌, map, Some, None, refl, sym, ap, ◌∙◌, subst}
-use Rattle.std.specs.Prelude.{Bool, false, Result, Ok, Err, cond, if◌then◌else◌, not, codes, find, option_map, option_and_then}
+use Rattle.std.specs.Prelude.{Bool, false, Result, Ok, Err, cond, if◌then◌else◌, not, codes, find, option_map}
 use Rattle.std.proofs.lemmas.List.Elements.{All-nil}
 use Rattle.std.specs.List.{AllByRecursion}
 use Rattle.meson_lex.specs.declared.kinds.Span.{Span}
 use Rattle.meson_splice.specs.Patch.{then_ok}
-use Rattle.meson_calls.specs.CallPlaces.{call_at}
-use Rattle.meson_calls.specs.Calls.{Call, call_of, keyword}
+use Rattle.meson_calls.specs.Calls.{Call, keyword}
 use Rattle.meson_calls.specs.Finding.{the_call}
 use Rattle.meson_calls.specs.Loading.{Loaded, project}
 use Rattle.meson_calls.specs.NamedArguments.{kwargs_key, not_hidden, once, sources_key}
-use Rattle.meson_calls.specs.Project.{Placed, placed}
+use Rattle.meson_calls.specs.Project.{Placed}
 use Rattle.meson_calls.specs.declared.call.Role.{Role}
 use Rattle.meson_calls.specs.declared.call.Role.TheVariants as role
 use Rattle.meson_calls.specs.declared.refusal.Refusal.{Refusal}
 use Rattle.meson_calls.specs.declared.refusal.Refusal.TheVariants as refusal
-use Rattle.meson_calls.proofs.CallsFound.{role_found}
+use Rattle.meson_followed.specs.FollowedEdits.{followed_added}
+use Rattle.meson_following.specs.Following.{follow_marks}
 use Rattle.meson_keywords.specs.Tasks.{Task, add_entry, checked_option, delete_entry, delete_option_entry, each_made, remove_entry, set_entry, set_option_entry}
 use Rattle.meson_keywords.specs.TaskSteps.{call_changed, tasks_steps, trees_of}
 use Rattle.meson_plan.specs.Planning.{call_asked, planned, target_told}
@@ -25,18 +25,22 @@ use Rattle.meson_steps.specs.Names.{checked_names, distinct}
 use Rattle.meson_steps.specs.Steps.{Step}
 use Rattle.meson_steps.specs.declared.command.Command.{Command}
 use Rattle.meson_steps.specs.declared.command.Command.TheVariants as command
+use Rattle.meson_steps.specs.declared.source_change.SharedLists.{SharedLists}
+use Rattle.meson_steps.specs.declared.source_change.SourceChange.TheVariants.{Add, Remove}
 use Rattle.meson_targets.specs.TargetEdits.{checked_kind, target_removed}
 use Rattle.meson_variables.specs.Expansion.{Mark}
 use Rattle.meson_variables.specs.TargetSources.{items, opaque_count, source_item, source_marks, sources, sources_of_call, sources_of_marks}
 use Rattle.meson_variables.specs.declared.source.SourceItem.{SourceItem}
+use Rattle.meson_explaining.specs.Followed.{is_absent, is_gone, place_of}
 use Rattle.meson_explaining.specs.NameLaws.{HasMeantName, NotRefused, alone}
 use Rattle.meson_explaining.specs.Names.{meant_name}
 use Rattle.meson_explaining.specs.Sources.{extras_at, has, is_missing, items_at, items_of, sources_at}
+use Rattle.meson_explaining.proofs.AbsentNames.{at_place, followed_gone, names_ok}
 use Rattle.meson_explaining.proofs.EntryReasons.{add_free, delete_free, each_free, option_free, remove_free, set_free, values_free}
 use Rattle.meson_explaining.proofs.Firsts.{all_to, meant_of_call}
 use Rattle.meson_explaining.proofs.LostNames.{is_lost, removal_reason, same_names_had, spots_found, spots_lost}
 use Rattle.meson_explaining.proofs.BadNames.{same_names}
-use Rattle.meson_explaining.proofs.NameReasons.{Free, after, after_ok, call_free, checked_kind_free, gone_of_names, is_gone, kwargs_free, not_refused, once_free, placed_free, reached, removed_free, shown_free, target_free}
+use Rattle.meson_explaining.proofs.NameReasons.{Free, after, after_ok, call_free, checked_kind_free, gone_of_names, kwargs_free, not_refused, once_free, placed_free, reached, removed_free, shown_free, target_free}
 use Rattle.meson_explaining.proofs.SourceReasons.{inserted_free, names_valid}
 use Rattle.meson_explaining.proofs.TaskReasons.{tasks_free}
 use Rattle.meson_calls.specs.declared.call.CallName.{CallName}
@@ -61,11 +65,6 @@ same_then (Err e) f g same = refl
 chained : {A B C : Type 0} (x : Result A Refusal) (f : A → Result B Refusal) (g : B → Result C Refusal) → then_ok (then_ok x f) g ≡ then_ok x (λ y. then_ok (f y) g)
 chained (Ok y) f g = refl
 chained (Err e) f g = refl
-
-names_ok : (names : List (List ℕ)) (u : Unit {0}) → checked_names names ≡ Ok u → AllByRecursion (λ x. checked_names (x ∷ []) ≡ Ok tt) names
-names_ok [] u is = tt
-names_ok ([] ∷ more) u is = absurd (let no : ⊥ = cc in no)
-names_ok ((b ∷ bs) ∷ more) u is = (refl, names_ok more u is)
 
 same_find : (f g : List ℕ → Bool) → ((x : List ℕ) → f x ≡ g x) → (xs : List (List ℕ)) → find f xs ≡ find g xs
 same_find f g same [] = refl
@@ -114,11 +113,6 @@ module _ (l : Loaded) (target : CallName) (items_there : List SourceItem) (named
 -- ---- what the target has
 
 module _ (l : Loaded) (target : CallName) (c : Placed (Call Span)) (found : the_call (project l) role.Target target ≡ Ok c) where
-  at_place : call_at (project l) c.place ≡ Some c
-  at_place =
-      let at = (role_found (project l) role.Target target c found).at in
-      ap (λ o. option_map (placed c.place) (option_and_then call_of o)) at.is_at ∙ ap (option_map (placed c.place)) at.is_call
-
   module _ (marks : List (Mark Span)) where
     sources_had : once sources_key (keyword sources_key c.it) (source_marks (project l) c) ≡ Ok marks → sources_at l target ≡ map source_item (items marks)
     unfolding sources_at
@@ -126,7 +120,7 @@ module _ (l : Loaded) (target : CallName) (c : Placed (Call Span)) (found : the_
         let these = once_value sources_key (keyword sources_key c.it) (source_marks (project l) c) marks got in
         let whole = once_other sources_key (keyword sources_key c.it) (source_marks (project l) c) marks (sources_of_marks c.place (source_marks (project l) c)) got in
         ap (items_at (sources (project l))) found
-        ∙ ap (λ o. items_of (option_map (sources_of_call (project l)) o)) at_place
+        ∙ ap (λ o. items_of (option_map (sources_of_call (project l)) o)) (at_place l target c found)
         ∙ ap (λ r. items_of (Some r)) whole
         ∙ ap (λ ms. map source_item (items ms)) (sym these)
 
@@ -136,7 +130,7 @@ module _ (l : Loaded) (target : CallName) (c : Placed (Call Span)) (found : the_
         let these = once_value extra_key (keyword extra_key c.it) (extra_marks (project l) c) marks got in
         let whole = once_other extra_key (keyword extra_key c.it) (extra_marks (project l) c) marks (sources_of_marks c.place (extra_marks (project l) c)) got in
         ap (items_at (extra_files (project l))) found
-        ∙ ap (λ o. items_of (option_map (extra_of_call (project l)) o)) at_place
+        ∙ ap (λ o. items_of (option_map (extra_of_call (project l)) o)) (at_place l target c found)
         ∙ ap (λ r. items_of (Some r)) whole
         ∙ ap (λ ms. map source_item (items ms)) (sym these)
 
@@ -217,7 +211,9 @@ module _ (l : Loaded) (target : CallName) (old new : List ℕ) (why : Refusal) (
 module _ (l : Loaded) (why : Refusal) (gone : is_gone why ≡ true)
     (from_sources : (target : CallName) (names : List (List ℕ)) → meant_name l (command.SourcesRemove target names) why ≡ find (is_missing (sources_at l target)) names)
     (from_extras : (target : CallName) (names : List (List ℕ)) → meant_name l (command.ExtraRemove target names) why ≡ find (is_missing (extras_at l target)) names)
-    (from_renames : (target : CallName) (old new : List ℕ) → meant_name l (command.SourcesRename target old new) why ≡ find (is_missing (sources_at l target)) (old ∷ [])) where
+    (from_renames : (target : CallName) (old new : List ℕ) → meant_name l (command.SourcesRename target old new) why ≡ find (is_missing (sources_at l target)) (old ∷ []))
+    (from_followed : (target : CallName) (names : List (List ℕ)) (shared : SharedLists)
+    → meant_name l (command.FollowedSources target (Remove names) shared) why ≡ find (is_absent l (place_of l target)) names) where
   abbrev Gone : Command → Type 0
   Gone c = planned (project l) c ≡ Err why → HasMeantName l c why
 
@@ -246,6 +242,12 @@ module _ (l : Loaded) (why : Refusal) (gone : is_gone why ≡ true)
       (λ c. once_free is_gone gone_of_names sources_key (keyword sources_key c.it) (source_marks (project l) c)) (λ c found marks got. sources_same l target c found marks got)
       why gone names refl (from_sources target names)
   gone_meant (command.SourcesRename target old new) = renaming_gone l target old new why gone (from_renames target old new)
+  gone_meant (command.FollowedSources target (Add names) shared) =
+      never_of (command.FollowedSources target (Add names) shared) role.Target target (λ c. followed_added (project l) c shared names) refl
+      (λ c. after is_gone (checked_names names) _ (names_valid is_gone gone_of_names refl names)
+      (λ u. after is_gone (once sources_key (keyword sources_key c.it) (follow_marks (project l) c)) _
+      (once_free is_gone gone_of_names sources_key (keyword sources_key c.it) (follow_marks (project l) c)) (λ marks. tt)))
+  gone_meant (command.FollowedSources target (Remove names) shared) = followed_gone l target shared why gone names (from_followed target names shared)
   gone_meant (command.ExtraAdd target names) =
       never_of (command.ExtraAdd target names) role.Target target (λ c. extra_added (project l) c names) refl
       (λ c. after is_gone (checked_extra (project l) c names) _

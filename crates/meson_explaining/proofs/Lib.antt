@@ -13,6 +13,8 @@ mod SourceReasons
 mod Firsts
 mod BadNames
 mod LostNames
+mod FollowedReasons
+mod AbsentNames
 mod GoneNames
 mod MeantNames
 mod ReadPlaces

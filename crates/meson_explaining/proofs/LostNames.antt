@@ -12,8 +12,9 @@ use Rattle.meson_sources.specs.SourceEdits.{Spot, has_text, is_known, items_of, 
 use Rattle.meson_steps.specs.Names.{distinct_by}
 use Rattle.meson_variables.specs.Expansion.{Item, Mark}
 use Rattle.meson_variables.specs.TargetSources.{items, opaque_count, source_item}
+use Rattle.meson_explaining.specs.Followed.{is_gone}
 use Rattle.meson_explaining.specs.Sources.{has}
-use Rattle.meson_explaining.proofs.NameReasons.{Free, Reached, after, is_gone, or_free}
+use Rattle.meson_explaining.proofs.NameReasons.{Free, Reached, after, or_free}
 
 pub split : {A B : Type 0} (r : Result A Refusal) (f : A → Result B Refusal) (why : Refusal) → then_ok r f ≡ Err why → (r ≡ Err why) ⊎ Reached r f why
 split (Ok x) f why is = inr (record { value = x; is = refl; rest = is })

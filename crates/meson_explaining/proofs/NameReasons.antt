@@ -23,6 +23,7 @@ use Rattle.meson_sources.specs.SourceEdits.{extra_key}
 use Rattle.meson_steps.specs.Steps.{Step}
 use Rattle.meson_targets.specs.TargetEdits.{Held, StatementPlace, alone, append_steps, checked_kind, file_number, file_of_folder, holder, is_target_kind, is_used_outside, kind_key, not_in_use, not_taken, number_in, set_to, statement_removal, target_removed, targets_named}
 use Rattle.meson_calls.specs.declared.call.CallName.{CallName}
+use Rattle.meson_explaining.specs.Followed.{is_gone}
 
 abbrev pub Free : {X : Type 0} → (Refusal → Bool) → Result X Refusal → Type 0
 Free q (Ok x) = Unit {0}
@@ -69,6 +70,7 @@ pub record OfNames (q : Refusal → Bool) : Type 0 where
   pub no_file : q refusal.NoFile ≡ false
   pub not_statement : q refusal.NotStatement ≡ false
   pub in_use : (name : List ℕ) → q (refusal.InUse name) ≡ false
+  pub shared : (name : List ℕ) → q (refusal.Shared name) ≡ false
 
 abbrev pub is_bad : Refusal → Bool
 is_bad refusal.BadName = true
@@ -89,12 +91,8 @@ bad_of_names = record {
   no_file = refl;
   not_statement = refl;
   in_use = λ x. refl;
+  shared = λ x. refl;
 }
-
-abbrev pub is_gone : Refusal → Bool
-is_gone refusal.SourceNotFound = true
-is_gone refusal.Unresolved = true
-is_gone _ = false
 
 pub gone_of_names : OfNames is_gone
 gone_of_names = record {
@@ -111,6 +109,7 @@ gone_of_names = record {
   no_file = refl;
   not_statement = refl;
   in_use = λ x. refl;
+  shared = λ x. refl;
 }
 
 module _ (q : Refusal → Bool) (apart : OfNames q) where

@@ -8,12 +8,14 @@ use Rattle.meson_calls.specs.declared.refusal.Refusal.TheVariants as refusal
 use Rattle.meson_calls.specs.Loading.{Loaded}
 use Rattle.meson_steps.specs.declared.command.Command.{Command}
 use Rattle.meson_steps.specs.declared.command.Command.TheVariants as command
+use Rattle.meson_steps.specs.declared.source_change.SourceChange.TheVariants.{Remove}
 use Rattle.meson_inventory.specs.Holdings.{calls_named}
 use Rattle.meson_explaining.specs.declared.explanation.Explanation.{Explanation}
 use Rattle.meson_explaining.specs.declared.explanation.Note.{Note}
 use Rattle.meson_explaining.specs.Arguments.{value_explanation}
 use Rattle.meson_explaining.specs.ArgumentPlaces.{and_help, folder_lines}
 use Rattle.meson_explaining.specs.BadNames.{bad_help, bad_notes}
+use Rattle.meson_explaining.specs.Followed.{followed_not_there, shared_list}
 use Rattle.meson_explaining.specs.Insertions.{code_explanation, removal_explanation}
 use Rattle.meson_explaining.specs.Keys.{keys, nearest_key, unknown_notes, wrong_notes}
 use Rattle.meson_explaining.specs.NotFound.{not_found}
@@ -33,6 +35,7 @@ subject (command.SourcesAdd target sources) = (role.Target, target)
 subject (command.SourcesAddSorted target sources) = (role.Target, target)
 subject (command.SourcesRemove target sources) = (role.Target, target)
 subject (command.SourcesRename target old new) = (role.Target, target)
+subject (command.FollowedSources target change lists) = (role.Target, target)
 subject (command.ExtraAdd target sources) = (role.Target, target)
 subject (command.ExtraRemove target sources) = (role.Target, target)
 subject (command.TargetAdd target kind subdir sources) = (role.Target, anywhere target)
@@ -109,6 +112,7 @@ abbrev pub not_there : Loaded → Command → Explanation
 not_there l (command.SourcesRemove target names) = with_info (source_notes (sources_at l target) names)
 not_there l (command.SourcesRename target old new) = with_info (source_notes (sources_at l target) (old ∷ []))
 not_there l (command.ExtraRemove target names) = with_info (source_notes (extras_at l target) names)
+not_there l (command.FollowedSources target (Remove names) lists) = followed_not_there l target names
 not_there l _ = record { notes = []; help = [] }
 
 -- ---- a name is not valid
@@ -126,6 +130,12 @@ hidden l c = keyword_there l c (codes "kwargs") (codes "kwargs: may hold any key
 
 abbrev pub duplicate : Loaded → Command → List ℕ → Explanation
 duplicate l c key = keyword_there l c key (codes "remove one of them by hand")
+
+-- ---- something else reads the variable
+
+abbrev pub not_alone : Command → List ℕ → Explanation
+not_alone (command.FollowedSources target change lists) name = shared_list name
+not_alone _ name = shared
 
 -- ---- what is said of the calls that the command names
 
@@ -151,7 +161,7 @@ call_explanation reading l c refusal.BadName = not_valid c
 call_explanation reading l c refusal.HiddenKeywords = hidden l c
 call_explanation reading l c (refusal.DuplicateKeyword key) = duplicate l c key
 call_explanation reading l c (refusal.NotLiteral key) = not_literal l c key
-call_explanation reading l c (refusal.Shared name) = shared
+call_explanation reading l c (refusal.Shared name) = not_alone c name
 call_explanation reading l c (refusal.OtherKind key) = other_kind
 call_explanation reading l c refusal.ThereAlready = there_already
 call_explanation reading l c (refusal.NoSuchValue key) = no_such_value

@@ -11,6 +11,7 @@ pub mod Lines
 pub mod Keys
 pub mod Values
 pub mod Sources
+pub mod Followed
 pub mod Names
 pub mod BadNames
 pub mod Removals

@@ -12,6 +12,9 @@ use Rattle.meson_steps.specs.declared.command.Command.{Command}
 use Rattle.meson_steps.specs.declared.command.Command.TheVariants as command
 use Rattle.meson_steps.specs.declared.command.Setting.{Setting}
 use Rattle.meson_steps.specs.declared.command.Setting.TheVariants as setting
+use Rattle.meson_followed.specs.Changes.{names_of}
+use Rattle.meson_steps.specs.declared.source_change.SourceChange.TheVariants.{Remove}
+use Rattle.meson_explaining.specs.Followed.{is_absent, place_of}
 use Rattle.meson_explaining.specs.Sources.{extras_at, is_missing, sources_at}
 
 -- ---- names that are not valid
@@ -50,6 +53,7 @@ bad_name (command.SourcesAdd target sources) = find is_empty_name sources
 bad_name (command.SourcesAddSorted target sources) = find is_empty_name sources
 bad_name (command.SourcesRemove target sources) = find is_empty_name sources
 bad_name (command.SourcesRename target old new) = find is_empty_name (old ∷ new ∷ [])
+bad_name (command.FollowedSources target change shared) = find is_empty_name (names_of change)
 bad_name (command.ExtraAdd target sources) = find is_empty_name sources
 bad_name (command.ExtraRemove target sources) = find is_empty_name sources
 bad_name (command.TargetAdd target kind subdir sources) = find is_empty_name (target ∷ sources)
@@ -65,6 +69,7 @@ bad_name _ = None
 abbrev pub missing_name : Loaded → Command → Option (List ℕ)
 missing_name l (command.SourcesRemove target sources) = find (is_missing (sources_at l target)) sources
 missing_name l (command.SourcesRename target old new) = find (is_missing (sources_at l target)) (old ∷ [])
+missing_name l (command.FollowedSources target (Remove names) shared) = find (is_absent l (place_of l target)) names
 missing_name l (command.ExtraRemove target sources) = find (is_missing (extras_at l target)) sources
 missing_name l _ = None
 

@@ -74,3 +74,7 @@ source_notes items names =
     let missing = filter (is_missing items) names in
     (take 3 (map missing_note missing) ++ further (codes "further names that it does not have") (length missing - 3))
     ++ close_notes items (find (is_missing items) names)
+
+-- the first three notes of names that are not there, and how many others there are
+abbrev pub few_missing : List Note → List Note
+few_missing notes = take 3 notes ++ further (codes "further names that it does not have") (length notes - 3)

@@ -2,7 +2,7 @@
 
 ghost use Rattle.std.specs.Prelude.{◌≡◌, ◌∷◌, [], IfOk, option_map};
 ghost use Rattle.meson_explaining.specs.Sources.{source_notes};
-ghost use Rattle.meson_explaining.specs.Explaining.{ambiguous, ambiguous_help, call_explanation, explanation, folders_help, list_help, not_literal, not_there};
+ghost use Rattle.meson_explaining.specs.Explaining.{ambiguous, ambiguous_help, call_explanation, explanation, folders_help, list_help, not_alone, not_literal, not_there};
 ghost use Rattle.meson_explaining.specs.Explaining.{one_file_help, unknown_help, unknown_key, with_info, wrong_kind};
 ghost use Rattle.meson_calls.specs.Searching.{name_at};
 ghost use Rattle.meson_explaining.specs.ArgumentPlaces.{and_help, folder_lines};
@@ -11,6 +11,7 @@ ghost use Rattle.meson_explaining.specs.NotFound.{not_found};
 use crate::arguments::explain_value;
 use crate::calls::{Telling, add_few};
 use crate::explanation::{Explanation, Note};
+use crate::followed_reasons::{followed_not_there, shared_list};
 use crate::insertions::{explain_insertion, explain_removal};
 use crate::keys::{keys, nearest_key, unknown_notes, wrong_notes};
 use crate::missing_places::and_folder;
@@ -28,6 +29,7 @@ use meson_inventory::holdings::calls_named;
 use meson_plan::{Project, Role};
 use meson_splice::{Many, Text};
 use meson_steps::command::Command;
+use meson_steps::source_change::SourceChange;
 use meson_variables::SourceItem;
 use std::alloc::{AllocError, Global};
 use std::slice;
@@ -195,6 +197,11 @@ fn not_there(alloc: Global, project: &Project, command: &Command) -> Result<Expl
             let items = extras_at(alloc, project, target.as_name())?;
             with_info(alloc, items.get(), sources.get())
         }
+        Command::FollowedSources {
+            target,
+            change: SourceChange::Remove(names),
+            ..
+        } => followed_not_there(alloc, project, target.as_name(), names.get()),
         _ => Ok(unexplained(alloc)),
     }
 }
@@ -209,6 +216,16 @@ fn with_info(alloc: Global, items: &[SourceItem], names: &[Text]) -> Result<Expl
         notes,
         "info lists the sources and extra files of a target",
     )
+}
+
+/// What else reads a variable.
+fn not_alone(alloc: Global, command: &Command, name: &str) -> Result<Explanation, AllocError>
+    ensures { IfOk result (λ e. e ≡ not_alone command.now name.now) }
+{
+    match command {
+        Command::FollowedSources { .. } => shared_list(alloc, name),
+        _ => shared(alloc),
+    }
 }
 
 /// Nothing is said.
@@ -282,7 +299,7 @@ fn explain_call(
         Refusal::HiddenKeywords => hidden(alloc, project, command),
         Refusal::DuplicateKeyword(key) => duplicate(alloc, project, command, key.get()),
         Refusal::NotLiteral(key) => not_literal(alloc, project, command, key.get()),
-        Refusal::Shared(_) => shared(alloc),
+        Refusal::Shared(name) => not_alone(alloc, command, name.get()),
         Refusal::OtherKind(_) => other_kind(alloc),
         Refusal::ThereAlready => there_already(alloc),
         Refusal::NoSuchValue(_) => no_such_value(alloc),

@@ -10,6 +10,8 @@ mod distance;
 mod excerpts;
 mod explaining;
 mod explanation;
+pub mod followed;
+mod followed_reasons;
 mod insertions;
 mod keys;
 pub mod laws;

@@ -4,13 +4,16 @@ ghost use Rattle.std.specs.Prelude.{◌≡◌, IfOk, find, is_some, option_map};
 ghost use Rattle.meson_keywords.specs.ValueKinds.{is_identifier};
 ghost use Rattle.meson_explaining.specs.Names.{bad_name, bad_value, find_key, has_equals, is_bad_option, is_bad_pair, is_bad_variable, is_empty_name};
 ghost use Rattle.meson_explaining.specs.Names.{meant_name, missing_name};
+ghost use Rattle.meson_followed.specs.Changes.{names_of};
 
+use crate::followed::{first_absent, place_of};
 use crate::sources::{extras_at, first_missing, sources_at};
 use meson_calls::Refusal;
 use meson_calls::keys::is_identifier_list_key;
 use meson_plan::{Project, Role};
 use meson_splice::Text;
 use meson_steps::command::{Command, Setting};
+use meson_steps::source_change::SourceChange;
 use std::alloc::{AllocError, Global};
 use std::slice;
 
@@ -141,6 +144,15 @@ fn first_bad_key(role: Role, pairs: &[(Text, Setting)]) -> Option<&str>
     }
 }
 
+/// The names that are added or removed.
+fn names_of(change: &SourceChange) -> &[Text]
+    ensures { result.now ≡ names_of change.entry.now }
+{
+    match change {
+        SourceChange::Add(names) | SourceChange::Remove(names) => names.get(),
+    }
+}
+
 /// The first name of a command that is not valid.
 pub(crate) fn bad_name(command: &Command) -> Option<&str>
     ensures { option_map (λ name. name.now) result ≡ bad_name command.now }
@@ -151,6 +163,7 @@ pub(crate) fn bad_name(command: &Command) -> Option<&str>
         | Command::SourcesRemove { sources, .. }
         | Command::ExtraAdd { sources, .. }
         | Command::ExtraRemove { sources, .. } => first_empty(sources.get()),
+        Command::FollowedSources { change, .. } => first_empty(names_of(change)),
         Command::SourcesRename { old, new, .. } => {
             if is_empty_name(old.get()) {
                 Some(old.get())
@@ -204,6 +217,14 @@ fn missing_name(
         Command::SourcesRename { target, old, .. } => {
             let items = sources_at(alloc, project, target.as_name())?;
             copied(alloc, first_missing(items.get(), slice::from_ref(old)))
+        }
+        Command::FollowedSources {
+            target,
+            change: SourceChange::Remove(names),
+            ..
+        } => {
+            let place = place_of(alloc, project, target.as_name())?;
+            copied(alloc, first_absent(alloc, project, &place, names.get())?)
         }
         Command::ExtraRemove { target, sources } => {
             let items = extras_at(alloc, project, target.as_name())?;

@@ -10,6 +10,7 @@ use crate::bad_names::{bad_help, bad_notes, one_note};
 use crate::calls::{Telling, add_few, add_further};
 use crate::explaining::{unexplained, with_help};
 use crate::explanation::Explanation;
+use crate::followed_reasons::{followed_not_removable, followed_unresolved};
 use crate::removals::{Lost, fixed_notes, not_known};
 use crate::sources::{extras_at, sources_at};
 use crate::subject::subject_of;
@@ -19,6 +20,7 @@ use meson_inventory::holdings::calls_named;
 use meson_plan::Project;
 use meson_splice::{Many, Text};
 use meson_steps::command::Command;
+use meson_steps::source_change::SourceChange;
 use std::alloc::{AllocError, Global};
 use std::slice;
 
@@ -245,6 +247,11 @@ pub(crate) fn not_removable(
             let notes = fixed_notes(alloc, items.get(), sources.get())?;
             with_help(alloc, notes, help)
         }
+        Command::FollowedSources {
+            target,
+            change: SourceChange::Remove(names),
+            ..
+        } => followed_not_removable(alloc, project, target.as_name(), names.get()),
         _ => Ok(unexplained(alloc)),
     }
 }
@@ -291,6 +298,11 @@ pub(crate) fn unresolved(
             };
             not_known(alloc, project, lost)
         }
+        Command::FollowedSources {
+            target,
+            change: SourceChange::Remove(names),
+            ..
+        } => followed_unresolved(alloc, project, target.as_name(), names.get()),
         _ => Ok(unexplained(alloc)),
     }
 }

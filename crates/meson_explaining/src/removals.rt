@@ -95,7 +95,7 @@ pub(crate) fn fixed_notes(
 }
 
 /// The note of a name that is not among what is known.
-fn unknown_notes(alloc: Global, name: Option<&str>) -> Result<Vec<Note>, AllocError>
+pub(crate) fn unknown_notes(alloc: Global, name: Option<&str>) -> Result<Vec<Note>, AllocError>
     ensures { IfOk result (λ notes. notes.items ≡ unknown_notes (option_map (λ name. name.now) name.entry)) }
 {
     match name {

@@ -5,7 +5,7 @@ ghost use Rattle.meson_calls.specs.Loading.{project as trees_of};
 ghost use Rattle.meson_calls.specs.Roles.{is_target};
 ghost use Rattle.meson_sources.specs.Extras.{extra_files};
 ghost use Rattle.meson_variables.specs.TargetSources.{sources};
-ghost use Rattle.meson_explaining.specs.Sources.{close_notes, extras_at, has, is_close, is_missing, item_note, items_of, missing_note, source_notes, sources_at};
+ghost use Rattle.meson_explaining.specs.Sources.{close_notes, extras_at, few_missing, has, is_close, is_missing, item_note, items_of, missing_note, source_notes, sources_at};
 ghost use Rattle.meson_calls.specs.Searching.{name_at};
 
 use crate::calls::{add_further, plain_note};
@@ -119,7 +119,7 @@ fn item_note(alloc: Global, item: &SourceItem) -> Result<Note, AllocError>
 }
 
 /// The note of a name that is not there.
-fn missing_note(alloc: Global, name: &str) -> Result<Note, AllocError>
+pub(crate) fn missing_note(alloc: Global, name: &str) -> Result<Note, AllocError>
     ensures { IfOk result (λ note. note ≡ missing_note name.now) }
 {
     let text = format!(in alloc; "the target does not have {name}")?;
@@ -200,15 +200,11 @@ pub(crate) fn few_close_notes(
     }
 }
 
-/// The notes of the first names that no item has, and of items that are close to the first of them.
-pub(crate) fn source_notes(
-    alloc: Global,
-    items: &[SourceItem],
-    names: &[Text],
-) -> Result<Vec<Note>, AllocError>
-    ensures { IfOk result (λ notes. notes.items ≡ source_notes items.now names.now) }
+/// The first of some notes of names that are not there, and how many others there are.
+pub(crate) fn few_missing(alloc: Global, all: Vec<Note>) -> Result<Vec<Note>, AllocError>
+    ensures { IfOk result (λ few. few.items ≡ few_missing all.items) }
 {
-    let mut notes = all_missing(alloc, items, names)?;
+    let mut notes = all;
     let others = notes.len().saturating_sub(MOST_TOLD);
     notes.truncate(MOST_TOLD);
     add_further(
@@ -217,6 +213,19 @@ pub(crate) fn source_notes(
         "further names that it does not have",
         others,
     )?;
+    Ok(notes)
+}
+
+/// The notes of the first names that no item has, and of items that are close to the first of them.
+pub(crate) fn source_notes(
+    alloc: Global,
+    items: &[SourceItem],
+    names: &[Text],
+) -> Result<Vec<Note>, AllocError>
+    ensures { IfOk result (λ notes. notes.items ≡ source_notes items.now names.now) }
+{
+    let missing = all_missing(alloc, items, names)?;
+    let mut notes = few_missing(alloc, missing)?;
     let mut close = few_close_notes(alloc, first_missing(items, names), items)?;
     notes.append(&mut close)?;
     Ok(notes)

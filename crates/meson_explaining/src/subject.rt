@@ -27,6 +27,7 @@ pub(crate) fn subject_of(command: &Command) -> Subject<'_>
         | Command::SourcesAddSorted { target, .. }
         | Command::SourcesRemove { target, .. }
         | Command::SourcesRename { target, .. }
+        | Command::FollowedSources { target, .. }
         | Command::ExtraAdd { target, .. }
         | Command::ExtraRemove { target, .. }
         | Command::TargetRemove { target }

@@ -18,7 +18,7 @@ use Rattle.meson_following.specs.Following.{Mark, follow_marks}
 use Rattle.meson_sources.specs.SourceEdits.{inserted_in}
 use Rattle.meson_steps.specs.Names.{checked_names}
 use Rattle.meson_steps.specs.Steps.{Step}
-use Rattle.meson_followed.specs.declared.sharing.SharedLists.{SharedLists}
+use Rattle.meson_steps.specs.declared.source_change.SharedLists.{SharedLists}
 use Rattle.meson_followed.specs.FollowedEdits.{followed_added, followed_removed, new_sources, removed_from}
 use Rattle.meson_followed.specs.Homes.{Home, Homes, any_home, best_home, by_maker, first_home, home, home_by}
 use Rattle.meson_followed.specs.Sources.{sources_of}

@@ -20,11 +20,11 @@ use Rattle.meson_sharing.proofs.Sharing.{own_is_unshared}
 use Rattle.meson_sources.specs.SourceEdits.{inserted_in}
 use Rattle.meson_steps.specs.Names.{checked_names}
 use Rattle.meson_steps.specs.Steps.{Step}
-use Rattle.meson_followed.specs.declared.sharing.SharedLists.{SharedLists}
-use Rattle.meson_followed.specs.declared.sharing.SharedLists.TheVariants.{Kept, Changed}
+use Rattle.meson_steps.specs.declared.source_change.SharedLists.{SharedLists}
+use Rattle.meson_steps.specs.declared.source_change.SharedLists.TheVariants.{Kept, Changed}
 use Rattle.meson_followed.specs.FollowedEdits.{Removal, followed_added, followed_removed, if_may_go, is_sure_at, maker_name, new_sources, none_shared, removals_named, removed_from, removed_steps}
 use Rattle.meson_followed.specs.Homes.{Home, Homes, best_home, by_maker, first_home, home, homes_of}
-use Rattle.meson_followed.specs.Laws.{Adds, AddsToOne, GivesToOne, the_call, a_list, IsForOne, in_the_call, in_a_value, IsProvided, is_there, is_added, IsSurely, Takes, TakesFromOne, met_sources}
+use Rattle.meson_followed.specs.Laws.{Adds, AddsToOne, added_names, GivesToOne, the_call, a_list, IsForOne, in_the_call, in_a_value, IsProvided, is_there, is_added, IsSurely, Takes, TakesFromOne, met_sources}
 use Rattle.meson_followed.specs.Sources.{MetSource, distinct_paths, has_path, named_path, sources_of}
 use Rattle.meson_followed.proofs.NamedElements.{distinct_given, each_kept, head_there, kept_names, kept_paths, ok_then, path_named, takes_named}
 
@@ -38,7 +38,7 @@ once_is key (x ∷ w ∷ more) y z is = absurd cc
 -- ---- the list that is found
 
 -- the first of some lists that passes a test
-record Passes (test : Home → Bool) (hs : List Home) (q : CallRef) : Type 0 where
+pub record Passes (test : Home → Bool) (hs : List Home) (q : CallRef) : Type 0 where
   pub home : Home
   pub is_one : Contains hs home
   pub is_it : home.list ≡ q
@@ -56,7 +56,7 @@ module _ (test : Home → Bool) where
           let r = later more in
           record { home = r.home; is_one = Contains-append_right (h ∷ []) hs r.home r.is_one; is_it = r.is_it; passes = r.passes }
 
-  best_passes : (hs : Homes) (q : CallRef) → best_home test hs ≡ Some q → Passes test (hs.holding ++ hs.empties) q
+  pub best_passes : (hs : Homes) (q : CallRef) → best_home test hs ≡ Some q → Passes test (hs.holding ++ hs.empties) q
   best_passes hs q is = go (first_home test hs.holding) refl is
     where
       go : (o : Option CallRef) → first_home test hs.holding ≡ o → or_option o (first_home test hs.empties) ≡ Some q
@@ -88,7 +88,7 @@ module _ (p : Project Span) (c : Placed (Call Span)) where
       let r = best_passes (λ h. by_maker test h.maker) homes_met q is in
       a_list r.home r.is_one r.is_it (are r.home.maker r.passes)
 
-  home_is_for_one : GivesToOne p c (home p c Kept (follow_marks p c))
+  pub home_is_for_one : GivesToOne p c (home p c Kept (follow_marks p c))
   home_is_for_one =
       go (best_by (is_own p c)) (best_by (is_unshared p c)) (gives (is_own p c) own_is_for_one) (gives (is_unshared p c) unshared_is_for_one)
     where
@@ -98,17 +98,23 @@ module _ (p : Project Span) (c : Placed (Call Span)) where
       go None (Some q) own unshared = unshared q refl
       go None None own unshared = the_call refl
 
-  pub added_go_to_one : (names : List (List ℕ)) (steps : List Step) → followed_added p c Kept names ≡ Ok steps → AddsToOne p c names steps
-  added_go_to_one names steps is =
+  -- the list that gets them, by what is met
+  pub added_to_home : (shared : SharedLists) (names : List (List ℕ)) (steps : List Step) → followed_added p c shared names ≡ Ok steps
+      → inserted_in p (home p c shared (follow_marks p c)) (added_names p c names) ≡ steps
+  added_to_home shared names steps is =
       let by_marks : List (Mark Span) → List Step =
-      λ marks. inserted_in p (home p c Kept marks) (new_sources p c.place.file (sources_of p c.place.file marks) names) in
+      λ marks. inserted_in p (home p c shared marks) (new_sources p c.place.file (sources_of p c.place.file marks) names) in
       let then_added = λ (marks : List (Mark Span)). Ok (by_marks marks) in
       let called = once sources_key (keyword sources_key c.it) (follow_marks p c) in
       let checked = ok_then (checked_names names) (λ _. then_ok called then_added) steps is in
       let met = ok_then called then_added steps checked.2 in
       let marks_are : follow_marks p c ≡ met.0 = once_is sources_key (keyword sources_key c.it) (follow_marks p c) met.0 met.1 in
       let steps_are : by_marks met.0 ≡ steps = cc (met.2) in
-      record { list = home p c Kept (follow_marks p c); are_steps = ap by_marks marks_are ∙ steps_are; is_for_one = home_is_for_one }
+      ap by_marks marks_are ∙ steps_are
+
+  pub added_go_to_one : (names : List (List ℕ)) (steps : List Step) → followed_added p c Kept names ≡ Ok steps → AddsToOne p c names steps
+  added_go_to_one names steps is =
+      record { list = home p c Kept (follow_marks p c); are_steps = added_to_home Kept names steps is; is_for_one = home_is_for_one }
 
 -- ---- what is removed
 

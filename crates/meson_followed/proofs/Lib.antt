@@ -7,3 +7,6 @@ pub mod AddedSources
 pub mod RemovedSources
 mod NamedElements
 pub mod EditLaws
+mod EachOnce
+mod StandingMarks
+pub mod MayBeDone

@@ -11,8 +11,8 @@ use Rattle.meson_calls.specs.Project.{Placed, Project}
 use Rattle.meson_following.specs.Following.{Mark}
 use Rattle.meson_sharing.specs.Sharing.{is_unshared}
 use Rattle.meson_steps.specs.Steps.{Step}
-use Rattle.meson_followed.specs.declared.sharing.SharedLists.{SharedLists}
-use Rattle.meson_followed.specs.declared.sharing.SharedLists.TheVariants.{Kept, Changed}
+use Rattle.meson_steps.specs.declared.source_change.SharedLists.{SharedLists}
+use Rattle.meson_steps.specs.declared.source_change.SharedLists.TheVariants.{Kept, Changed}
 use Rattle.meson_followed.specs.CodeRemovals.{all_pass, pass_if_kept}
 use Rattle.meson_followed.specs.FollowedEdits.{Removal, if_may_go, maker_name, none_shared, removal_of, removals_named, removals_of, removed_from, removed_steps}
 use Rattle.meson_followed.specs.Homes.{by_maker}

@@ -16,7 +16,7 @@ use Rattle.meson_followed.specs.declared.homes.Home as code_home
 use Rattle.meson_followed.specs.declared.homes.Homes as code_homes
 use Rattle.meson_followed.specs.declared.named.Named.{Named}
 use Rattle.meson_followed.specs.declared.sources.MetSource as code
-use Rattle.meson_followed.specs.declared.sharing.SharedLists.{SharedLists}
+use Rattle.meson_steps.specs.declared.source_change.SharedLists.{SharedLists}
 use Rattle.meson_followed.specs.FollowedEdits.{is_sure_at, new_sources}
 use Rattle.meson_followed.specs.Homes.{Home, Homes, home}
 use Rattle.meson_followed.specs.Sources.{MetSource, named_path, sources_of, spot_of_item}

@@ -6,8 +6,8 @@ use Rattle.meson_calls.specs.declared.refusal.Refusal.TheVariants.{Shared}
 use Rattle.meson_calls.specs.Project.{Project}
 use Rattle.meson_sources.specs.inside.CodeSpots.{spot_view}
 use Rattle.meson_followed.specs.declared.removals.Removal as code
-use Rattle.meson_followed.specs.declared.sharing.SharedLists.{SharedLists}
-use Rattle.meson_followed.specs.declared.sharing.SharedLists.TheVariants.{Kept, Changed}
+use Rattle.meson_steps.specs.declared.source_change.SharedLists.{SharedLists}
+use Rattle.meson_steps.specs.declared.source_change.SharedLists.TheVariants.{Kept, Changed}
 use Rattle.meson_followed.specs.FollowedEdits.{Removal, maker_name}
 use Rattle.meson_followed.specs.Homes.{by_maker}
 

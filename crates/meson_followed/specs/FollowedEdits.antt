@@ -13,10 +13,11 @@ use Rattle.meson_following.specs.Following.{Mark, follow_marks}
 use Rattle.meson_sharing.specs.Sharing.{is_unshared, variable_of}
 use Rattle.meson_sharing.specs.Told.{is_opaque}
 use Rattle.meson_sources.specs.SourceEdits.{Spot, inserted_in, none_found, removal_steps}
+use Rattle.meson_sources.specs.Effects.{same_spot}
 use Rattle.meson_steps.specs.Names.{checked_names}
 use Rattle.meson_steps.specs.Steps.{Step}
-use Rattle.meson_followed.specs.declared.sharing.SharedLists.{SharedLists}
-use Rattle.meson_followed.specs.declared.sharing.SharedLists.TheVariants.{Kept, Changed}
+use Rattle.meson_steps.specs.declared.source_change.SharedLists.{SharedLists}
+use Rattle.meson_steps.specs.declared.source_change.SharedLists.TheVariants.{Kept, Changed}
 use Rattle.meson_followed.specs.Homes.{by_maker, home}
 use Rattle.meson_followed.specs.Sources.{MetSource, distinct_paths, has_path, named_path, sources_at, sources_of}
 
@@ -80,8 +81,13 @@ abbrev pub if_may_go : {S : Type 0} → Project S → Placed (Call S) → Shared
 if_may_go p c Kept rs = none_shared p c rs
 if_may_go p c Changed rs = Ok rs
 
+-- each element once, without those that were seen
+abbrev pub each_once : (seen : List Spot) → List Spot → List Spot
+each_once seen [] = []
+each_once seen (s ∷ more) = if list_any (same_spot s) seen then each_once seen more else s ∷ each_once (seen ++ s ∷ []) more
+
 abbrev pub removed_steps : List Removal → List Step
-removed_steps rs = removal_steps (map (λ r. r.spot) rs)
+removed_steps rs = removal_steps (each_once [] (map (λ r. r.spot) rs))
 
 -- each source at the paths of the names goes, in whatever branch it is
 abbrev pub removed_from : {S : Type 0} → Project S → Placed (Call S) → SharedLists → List (Mark S) → List (List ℕ) → Result (List Step) Refusal

@@ -8,8 +8,8 @@ use Rattle.meson_variables.specs.TargetSources.{or_call, or_option}
 use Rattle.meson_following.specs.Following.{Mark, Way, known, opaque, empty}
 use Rattle.meson_sharing.specs.Sharing.{is_own, is_unshared}
 use Rattle.meson_sharing.specs.Told.{last_of}
-use Rattle.meson_followed.specs.declared.sharing.SharedLists.{SharedLists}
-use Rattle.meson_followed.specs.declared.sharing.SharedLists.TheVariants.{Kept, Changed}
+use Rattle.meson_steps.specs.declared.source_change.SharedLists.{SharedLists}
+use Rattle.meson_steps.specs.declared.source_change.SharedLists.TheVariants.{Kept, Changed}
 use Rattle.meson_followed.specs.Sources.{list_around}
 
 -- a list that may get them: its place, and the maker in whose value it is, if it is in one

@@ -9,8 +9,8 @@ use Rattle.meson_following.specs.Following.{follow_marks}
 use Rattle.meson_sharing.specs.Sharing.{is_unshared}
 use Rattle.meson_sources.specs.SourceEdits.{inserted_in}
 use Rattle.meson_steps.specs.Steps.{Step}
-use Rattle.meson_followed.specs.declared.sharing.SharedLists.{SharedLists}
-use Rattle.meson_followed.specs.declared.sharing.SharedLists.TheVariants.{Kept}
+use Rattle.meson_steps.specs.declared.source_change.SharedLists.{SharedLists}
+use Rattle.meson_steps.specs.declared.source_change.SharedLists.TheVariants.{Kept}
 use Rattle.meson_followed.specs.FollowedEdits.{Removal, followed_added, followed_removed, new_sources, removal_of, removed_steps}
 use Rattle.meson_followed.specs.Homes.{Home, homes_of}
 use Rattle.meson_followed.specs.Sources.{MetSource, named_path, sources_of}

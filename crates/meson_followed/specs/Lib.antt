@@ -6,3 +6,5 @@ pub mod CodeEdits
 pub mod Rows
 pub mod Laws
 pub mod CodeRemovals
+pub mod Changes
+pub mod Effects

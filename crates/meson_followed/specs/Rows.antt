@@ -10,8 +10,8 @@ use Rattle.meson_calls.specs.Project.{Placed, Project, place}
 use Rattle.meson_following.specs.Samples.{E, S, adds, alone, beside_s, calling, does, each, either_way, elements, enters, holding, set_variable, sets, sets_to, src, sum_of, target, text, variable, where_x}
 use Rattle.meson_splice.specs.Patch.{then_ok}
 use Rattle.meson_steps.specs.Steps.{Step, all_stepped}
-use Rattle.meson_followed.specs.declared.sharing.SharedLists.{SharedLists}
-use Rattle.meson_followed.specs.declared.sharing.SharedLists.TheVariants.{Kept, Changed}
+use Rattle.meson_steps.specs.declared.source_change.SharedLists.{SharedLists}
+use Rattle.meson_steps.specs.declared.source_change.SharedLists.TheVariants.{Kept, Changed}
 use Rattle.meson_followed.specs.FollowedEdits.{followed_added, followed_removed}
 
 -- ---- what a command makes of build files

@@ -6,12 +6,12 @@ ghost use Rattle.meson_followed.specs.CodeEdits.{IsAnswer, asked, home_view, hom
 ghost use Rattle.meson_followed.specs.Homes.{any_home, best_home, by_maker, first_home};
 
 use crate::homes::{Home, Homes};
-use crate::sharing::SharedLists;
 use meson_calls::CallRef;
 use meson_calls::place::copy_place;
 use meson_following::Follower;
 use meson_following::makers::is_same_place;
 use meson_sharing::is_closed_by;
+use meson_steps::source_change::SharedLists;
 use std::alloc::{AllocError, Global};
 
 /// The question whether a list is read for the sources of one call alone, which follows these values and has these ways; or used, if uses are allowed.

@@ -3,15 +3,15 @@
 
 mod adding;
 mod asking;
+mod changing;
 mod homes;
 pub mod laws;
 mod named;
 mod paths;
 mod removals;
 pub mod removing;
-pub mod sharing;
 mod sources;
 
 pub use adding::sources_added;
+pub use changing::change_sources;
 pub use removing::sources_removed;
-pub use sharing::SharedLists;

@@ -1,6 +1,7 @@
 //! Sources removed from a target, where variables are followed.
 
-ghost use Rattle.std.specs.Prelude.{◌≡◌, All, IfOk, Ok, Some, map};
+ghost use Rattle.std.specs.Prelude.{◌≡◌, [], All, IfOk, Ok, Some, map};
+ghost use Rattle.std.specs.List.{list_any};
 ghost use Rattle.std.specs.Str.{IsUtf8};
 ghost use Rattle.meson_syntax.specs.View.{list_view};
 ghost use Rattle.meson_calls.specs.ChosenNotes.{Source, placed_call};
@@ -9,22 +10,24 @@ ghost use Rattle.meson_calls.specs.Loading.{IsProject, loaded_from};
 ghost use Rattle.meson_calls.specs.Refusals.{RefusedAs};
 ghost use Rattle.meson_following.specs.CodeFollowing.{followed_project};
 ghost use Rattle.meson_following.specs.Following.{follow_marks};
+ghost use Rattle.meson_sources.specs.Effects.{same_spot};
+ghost use Rattle.meson_sources.specs.inside.CodeSpots.{spot_view};
 ghost use Rattle.meson_steps.specs.ListSteps.{bare};
 ghost use Rattle.meson_steps.specs.Meanings.{AreMeant};
 ghost use Rattle.meson_followed.specs.CodeEdits.{asked};
 ghost use Rattle.meson_followed.specs.CodeRemovals.{all_pass, pass_if_kept, removal_view};
-ghost use Rattle.meson_followed.specs.FollowedEdits.{followed_removed, maker_name, removed_from, removed_steps};
+ghost use Rattle.meson_followed.specs.FollowedEdits.{each_once, followed_removed, maker_name, removed_from, removed_steps};
 
 use crate::asking::Asking;
 use crate::removals::{Removal, removals_named};
-use crate::sharing::SharedLists;
 use meson_calls::arguments::at_most_once;
 use meson_calls::{CallRef, Refusal};
 use meson_following::Follower;
 use meson_sharing::{variable_text, ways_of_sources};
-use meson_sources::removing::removals;
+use meson_sources::removing::{ElementSpot, removals};
 use meson_splice::Text;
 use meson_steps::names::checked_names;
+use meson_steps::source_change::SharedLists;
 use meson_steps::step::ListStep;
 use meson_syntax::List;
 use std::alloc::{AllocError, Global};
@@ -78,14 +81,43 @@ fn check_if_kept(
     }
 }
 
+/// Whether two spots are one element.
+fn is_same_spot(spot: &ElementSpot, other: &ElementSpot) -> bool
+    ensures { result ≡ same_spot (spot_view spot.now) (spot_view other.now) }
+{
+    spot.file == other.file && (spot.list == other.list && spot.number == other.number)
+}
+
+/// Whether a spot is one of these.
+fn has_spot(spots: &[ElementSpot], spot: &ElementSpot) -> bool
+    ensures { result ≡ list_any (same_spot (spot_view spot.now)) (map spot_view spots.now) }
+{
+    for other in spots {
+        if is_same_spot(spot, other) {
+            return true;
+        }
+    }
+    false
+}
+
+/// The elements that are removed, each once.
+fn spots_of(alloc: Global, found: Vec<Removal>) -> Result<Vec<ElementSpot>, AllocError>
+    ensures { IfOk result (λ spots. map spot_view spots.items ≡ each_once [] (map (λ r. r.spot) (map removal_view found.items))) }
+{
+    let mut spots = Vec::new(alloc);
+    for removal in found {
+        if !has_spot(spots.as_slice(), &removal.spot) {
+            spots.push(removal.spot)?;
+        }
+    }
+    Ok(spots)
+}
+
 /// The steps that remove elements one after the other, each from its place at that time.
 fn removed_steps(alloc: Global, found: Vec<Removal>) -> Result<Vec<ListStep>, AllocError>
     ensures { IfOk result (λ steps. map Some steps.items ≡ map bare (removed_steps (map removal_view found.items))) }
 {
-    let mut spots = Vec::new(alloc);
-    for removal in found {
-        spots.push(removal.spot)?;
-    }
+    let spots = spots_of(alloc, found)?;
     removals(alloc, spots.as_slice())
 }
 

@@ -25,6 +25,16 @@ and_asked a more = if a.is then more a.left else a
 abbrev pub or_asked : Asked → (ℕ → Asked) → Asked
 or_asked a more = if a.is then a else more a.left
 
+-- a list whatever variables hold: an array, or a call of `files`
+abbrev pub is_plain_list : {S : Type 0} → Expression S → Bool
+is_plain_list (array l) = true
+is_plain_list (call s f l) = is_files f.text l
+is_plain_list _ = false
+
+abbrev pub has_plain_list : {S : Type 0} → Operands S → Bool
+has_plain_list no_operands = false
+has_plain_list (operand o e more) = is_plain_list e || has_plain_list more
+
 -- depending on whether a variable is one where it is read
 module _ {S : Type 0} (is_variable : CallRef → List ℕ → ℕ → Asked) where
   abbrev mutual
@@ -33,7 +43,11 @@ module _ {S : Type 0} (is_variable : CallRef → List ℕ → ℕ → Asked) whe
     is_list_by q (call s f l) left = told (is_files f.text l) left
     is_list_by q (paren s e) left = is_list_by (child q 0) e left
     is_list_by q (conditional s c y n) left = and_asked (is_list_by (child q 1) y left) (λ now. is_list_by (child q 2) n now)
-    is_list_by q (row s e os) left = if are_plus os then or_asked (is_list_by (child q 0) e left) (λ now. has_list_by q 1 os now) else told false left
+    -- no variable is looked up where an operand is a list without one
+    is_list_by q (row s e os) left =
+        if are_plus os then
+        (if has_plain_list os then told true left else or_asked (is_list_by (child q 0) e left) (λ now. has_list_by q 1 os now))
+        else told false left
     is_list_by q (identifier s x) left = is_variable q x left
     is_list_by q _ left = told false left
 

@@ -9,7 +9,7 @@ ghost use Rattle.meson_calls.specs.Project.{child, place};
 ghost use Rattle.meson_following.specs.CodeFollowing.{followed_project};
 ghost use Rattle.meson_following.specs.CodeLists.{Answers, has_list_at, is_list_at, is_made_at, is_maker_at, is_variable_at, seen_at};
 ghost use Rattle.meson_following.specs.CodeMakers.{made_view, maker_view};
-ghost use Rattle.meson_following.specs.Lists.{hides, is_list, mixes, seen_with, told};
+ghost use Rattle.meson_following.specs.Lists.{has_plain_list, hides, is_list, is_plain_list, mixes, seen_with, told};
 
 use crate::follower::Follower;
 use crate::makers::{Made, Maker};
@@ -49,6 +49,33 @@ impl Seen {
     }
 }
 
+/// Whether an expression is a list whatever variables hold.
+fn is_plain_list(source: &[u8], expr: &Expr) -> bool
+    ensures { result ≡ is_plain_list (expr_view source.now expr.now) }
+{
+    match expr {
+        Expr::Array(_) => true,
+        Expr::Call {
+            name,
+            arguments,
+            ..
+        } => is_files(source, *name, arguments),
+        _ => false,
+    }
+}
+
+/// Whether one of the operands after the first is a list whatever variables hold.
+fn has_plain_list(source: &[u8], rest: &[Operand]) -> bool
+    ensures { result ≡ has_plain_list (operands_of (operands_view source.now rest.now)) }
+{
+    for operand in rest {
+        if is_plain_list(source, &operand.value) {
+            return true;
+        }
+    }
+    false
+}
+
 impl Lists<'_> {
     /// Whether the expression at the path is a list, if this number of variables may still be looked up.
     #[cycle(lists)]
@@ -80,6 +107,9 @@ impl Lists<'_> {
             Expr::Row { first, rest, .. } => {
                 if !are_plus(rest.get()) {
                     return Ok(false);
+                }
+                if has_plain_list(self.source, rest.get()) {
+                    return Ok(true);
                 }
                 if self.is_child(0, first.get(), path, left)? {
                     return Ok(true);

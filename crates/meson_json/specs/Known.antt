@@ -9,6 +9,8 @@ use Rattle.meson_steps.specs.declared.command.CodePlace.{CodePlace}
 use Rattle.meson_steps.specs.declared.command.CodePlace.TheVariants as place
 use Rattle.meson_steps.specs.declared.command.Command.{Command}
 use Rattle.meson_steps.specs.declared.command.Command.TheVariants as command
+use Rattle.meson_steps.specs.declared.source_change.SourceChange.{SourceChange}
+use Rattle.meson_steps.specs.declared.source_change.SourceChange.TheVariants as sources
 
 -- those that a change of a value uses
 abbrev pub value_members : ValueChange → List (List ℕ)
@@ -30,11 +32,17 @@ code_members (place.Above search) = codes "code" ∷ codes "blank" ∷ codes "fu
 code_members (place.Below search) = codes "code" ∷ codes "blank" ∷ codes "function" ∷ codes "id" ∷ codes "in" ∷ []
 code_members (place.End file) = codes "code" ∷ codes "blank" ∷ codes "file" ∷ []
 
+-- those that a change of sources uses where variables are followed
+abbrev pub source_members : SourceChange → List (List ℕ)
+source_members (sources.Add names) = codes "target" ∷ codes "sources" ∷ codes "in" ∷ codes "sorted" ∷ codes "follow" ∷ []
+source_members (sources.Remove names) = codes "target" ∷ codes "sources" ∷ codes "in" ∷ codes "follow" ∷ []
+
 -- those that the operation of a command uses
 abbrev pub used_members : Command → List (List ℕ)
-used_members (command.SourcesAdd target sources) = codes "target" ∷ codes "sources" ∷ codes "in" ∷ codes "sorted" ∷ []
-used_members (command.SourcesAddSorted target sources) = codes "target" ∷ codes "sources" ∷ codes "in" ∷ codes "sorted" ∷ []
-used_members (command.SourcesRemove target sources) = codes "target" ∷ codes "sources" ∷ codes "in" ∷ []
+used_members (command.SourcesAdd target sources) = codes "target" ∷ codes "sources" ∷ codes "in" ∷ codes "sorted" ∷ codes "follow" ∷ []
+used_members (command.SourcesAddSorted target sources) = codes "target" ∷ codes "sources" ∷ codes "in" ∷ codes "sorted" ∷ codes "follow" ∷ []
+used_members (command.SourcesRemove target sources) = codes "target" ∷ codes "sources" ∷ codes "in" ∷ codes "follow" ∷ []
+used_members (command.FollowedSources target change shared) = source_members change
 used_members (command.SourcesRename target old new) = codes "target" ∷ codes "sources" ∷ codes "in" ∷ []
 used_members (command.ExtraAdd target sources) = codes "target" ∷ codes "sources" ∷ codes "in" ∷ []
 used_members (command.ExtraRemove target sources) = codes "target" ∷ codes "sources" ∷ codes "in" ∷ []

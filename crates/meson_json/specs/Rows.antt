@@ -19,6 +19,8 @@ use Rattle.meson_steps.specs.declared.given.Given.TheVariants as given
 use Rattle.meson_steps.specs.declared.command.Command.{Command}
 use Rattle.meson_steps.specs.declared.command.Command.TheVariants as command
 use Rattle.meson_steps.specs.declared.command.Setting.TheVariants as setting
+use Rattle.meson_steps.specs.declared.source_change.SharedLists.TheVariants.{Kept, Changed}
+use Rattle.meson_steps.specs.declared.source_change.SourceChange.TheVariants as sources
 use Rattle.meson_json.specs.Log.{log_of, logged}
 use Rattle.meson_json.specs.Scripts.{script_of}
 use Rattle.meson_json.specs.declared.member_check.UnknownMembers.TheVariants.{Ignored, Refused}
@@ -62,7 +64,7 @@ TargetEntries =
     × stands_for (codes "[{'type':'target','target':'l','operation':'target_add','in':1}]") (command.TargetAdd (codes "l") (codes "executable") [] [])
     × gives (codes "[{'type':'target','target':'e','operation':'info','in':1}]") (Err (BadField 0 (codes "in")))
 
--- `follow` is a member of `info` alone
+-- `follow` is a member of `info`, which takes truth values, and of the changes of sources, which take `"shared"` too, and then no `sorted` that is `true`
 abbrev pub FollowEntries : Type 0
 FollowEntries =
     stands_for (codes "[{'type':'target','target':'e','operation':'info','follow':true}]") (command.TargetInfo (anywhere (codes "e")) Followed)
@@ -70,14 +72,57 @@ FollowEntries =
     × stands_for (codes "[{'type':'target','target':'e','operation':'info','follow':true,'in':'s'}]")
     (command.TargetInfo (record { id = codes "e"; folder = Some (codes "s") }) Followed)
     × gives (codes "[{'type':'target','target':'e','operation':'info','follow':'true'}]") (Err (BadField 0 (codes "follow")))
+    × gives (codes "[{'type':'target','target':'e','operation':'info','follow':'shared'}]") (Err (BadField 0 (codes "follow")))
     × gives (codes "[{'type':'target','target':'e','operation':'info','follow':null}]") (Err (BadField 0 (codes "follow")))
     × gives (codes "[{'type':'target','target':'e','operation':'info','follow':1,'in':1}]") (Err (BadField 0 (codes "in")))
-    × stands_for (codes "[{'type':'target','target':'e','operation':'src_add','follow':true}]") (command.SourcesAdd (anywhere (codes "e")) [])
+    × stands_for (codes "[{'type':'target','target':'e','operation':'src_add','sources':['a.c'],'follow':true}]")
+    (command.FollowedSources (anywhere (codes "e")) (sources.Add (codes "a.c" ∷ [])) Kept)
+    × stands_for (codes "[{'type':'target','target':'e','operation':'src_add','sources':['a.c','b.c'],'follow':'shared','in':'s'}]")
+    (command.FollowedSources (record { id = codes "e"; folder = Some (codes "s") }) (sources.Add (codes "a.c" ∷ codes "b.c" ∷ [])) Changed)
+    × stands_for (codes "[{'type':'target','target':'e','operation':'src_rm','sources':['a.c'],'follow':true}]")
+    (command.FollowedSources (anywhere (codes "e")) (sources.Remove (codes "a.c" ∷ [])) Kept)
+    × stands_for (codes "[{'type':'target','target':'e','operation':'src_rm','sources':['a.c'],'follow':'shared'}]")
+    (command.FollowedSources (anywhere (codes "e")) (sources.Remove (codes "a.c" ∷ [])) Changed)
+    × stands_for (codes "[{'type':'target','target':'e','operation':'src_add','sources':['a.c'],'follow':false}]")
+    (command.SourcesAdd (anywhere (codes "e")) (codes "a.c" ∷ []))
+    × stands_for (codes "[{'type':'target','target':'e','operation':'src_rm','sources':['a.c'],'follow':false}]")
+    (command.SourcesRemove (anywhere (codes "e")) (codes "a.c" ∷ []))
+    × gives (codes "[{'type':'target','target':'e','operation':'src_add','sources':['a.c'],'follow':'own'}]") (Err (BadField 0 (codes "follow")))
+    × gives (codes "[{'type':'target','target':'e','operation':'src_add','sources':['a.c'],'follow':null}]") (Err (BadField 0 (codes "follow")))
+    × gives (codes "[{'type':'target','target':'e','operation':'src_rm','sources':['a.c'],'follow':'true'}]") (Err (BadField 0 (codes "follow")))
+    × gives (codes "[{'type':'target','target':'e','operation':'src_rm','sources':['a.c'],'follow':1,'in':1}]") (Err (BadField 0 (codes "in")))
+    × gives (codes "[{'type':'target','target':'e','operation':'src_add','sources':['a.c'],'follow':true,'sorted':true}]") (Err (BadField 0 (codes "sorted")))
+    × gives (codes "[{'type':'target','target':'e','operation':'src_add','sources':['a.c'],'follow':'shared','sorted':true}]")
+    (Err (BadField 0 (codes "sorted")))
+    × gives (codes "[{'type':'target','target':'e','operation':'src_add','sources':['a.c'],'follow':1,'sorted':1}]") (Err (BadField 0 (codes "follow")))
+    × stands_for (codes "[{'type':'target','target':'e','operation':'src_add','sources':['a.c'],'follow':true,'sorted':false}]")
+    (command.FollowedSources (anywhere (codes "e")) (sources.Add (codes "a.c" ∷ [])) Kept)
+    × stands_for (codes "[{'type':'target','target':'e','operation':'src_add','sources':['a.c'],'follow':false,'sorted':true}]")
+    (command.SourcesAddSorted (anywhere (codes "e")) (codes "a.c" ∷ []))
     × stands_for (codes "[{'type':'target','target':'e','operation':'target_rm','follow':1}]") (command.TargetRemove (anywhere (codes "e")))
-    × gives_known (codes "[{'type':'target','target':'e','operation':'info','follow':true}]") (Ok (command.TargetInfo (anywhere (codes "e")) Followed ∷ []))
+    × stands_for (codes "[{'type':'target','target':'e','operation':'rename','sources':['a.c','b.c'],'follow':1}]")
+    (command.SourcesRename (anywhere (codes "e")) (codes "a.c") (codes "b.c"))
+    × stands_for (codes "[{'type':'target','target':'e','operation':'extra_files_add','sources':['x.h'],'follow':1}]")
+    (command.ExtraAdd (anywhere (codes "e")) (codes "x.h" ∷ []))
+
+-- and it is known for these alone
+abbrev pub FollowMembers : Type 0
+FollowMembers =
+    gives_known (codes "[{'type':'target','target':'e','operation':'info','follow':true}]") (Ok (command.TargetInfo (anywhere (codes "e")) Followed ∷ []))
     × gives_known (codes "[{'type':'target','target':'e','operation':'info','follow':false}]") (Ok (command.TargetInfo (anywhere (codes "e")) Written ∷ []))
-    × gives_known (codes "[{'type':'target','target':'e','operation':'src_add','follow':true}]") (Err (UnknownMember 0 (codes "follow")))
+    × gives_known (codes "[{'type':'target','target':'e','operation':'src_add','sources':['a.c'],'follow':'shared','in':'s','sorted':false}]")
+    (Ok (command.FollowedSources (record { id = codes "e"; folder = Some (codes "s") }) (sources.Add (codes "a.c" ∷ [])) Changed ∷ []))
+    × gives_known (codes "[{'type':'target','target':'e','operation':'src_rm','sources':['a.c'],'follow':true,'in':'s'}]")
+    (Ok (command.FollowedSources (record { id = codes "e"; folder = Some (codes "s") }) (sources.Remove (codes "a.c" ∷ [])) Kept ∷ []))
+    × gives_known (codes "[{'type':'target','target':'e','operation':'src_add','sources':['a.c'],'follow':false,'sorted':true}]")
+    (Ok (command.SourcesAddSorted (anywhere (codes "e")) (codes "a.c" ∷ []) ∷ []))
+    × gives_known (codes "[{'type':'target','target':'e','operation':'src_rm','sources':['a.c'],'follow':false}]")
+    (Ok (command.SourcesRemove (anywhere (codes "e")) (codes "a.c" ∷ []) ∷ []))
+    × gives_known (codes "[{'type':'target','target':'e','operation':'src_rm','sources':['a.c'],'follow':true,'sorted':true}]")
+    (Err (UnknownMember 0 (codes "sorted")))
     × gives_known (codes "[{'type':'target','target':'e','operation':'rename','sources':['a.c','b.c'],'follow':true}]") (Err (UnknownMember 0 (codes "follow")))
+    × gives_known (codes "[{'type':'target','target':'e','operation':'extra_files_rm','sources':['x.h'],'follow':true}]")
+    (Err (UnknownMember 0 (codes "follow")))
     × gives_known (codes "[{'type':'kwargs','function':'target','id':'e','operation':'info','follow':true}]") (Err (UnknownMember 0 (codes "follow")))
 
 -- keys and options in the order of their bytes

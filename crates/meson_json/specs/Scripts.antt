@@ -1,6 +1,6 @@
 -- The commands of a JSON value, or the first fault.
-use Rattle.std.specs.Prelude.{ℕ, ◌+◌, Bool, false, ◌&&◌, List, [], ◌∷◌, bytes_eq, codes, is_some, nat_lt, if◌then◌else◌, Option, Some, None, ok_or, option_and_then, option_map, Result, Ok, Err}
-use Rattle.serde_json.specs.Data.{Data, array, string, Items, no_items, item, Members, no_members}
+use Rattle.std.specs.Prelude.{ℕ, ◌+◌, Bool, false, true, ◌&&◌, List, [], ◌∷◌, bytes_eq, codes, is_some, nat_lt, if◌then◌else◌, Option, Some, None, ok_or, option_and_then, option_map, Result, Ok, Err}
+use Rattle.serde_json.specs.Data.{Data, array, boolean, string, Items, no_items, item, Members, no_members}
 use Rattle.serde_json.specs.Events.{items_len}
 use Rattle.serde_json.specs.Find.{get, as_array, as_bool, as_number, as_object, as_str, as_u64}
 use Rattle.meson_splice.specs.Patch.{then_ok}
@@ -12,7 +12,7 @@ use Rattle.meson_json.specs.Known.{unknown_in}
 use Rattle.meson_json.specs.Members.{member_text}
 use Rattle.meson_json.specs.Operations.{argument_operation, code_operation, entry_type, target_operation, kwargs_operation, options_operation, role_of}
 use Rattle.meson_json.specs.Settings.{given_value, setting_of, option_value}
-use Rattle.meson_json.specs.Targets.{reading_of, renaming_of, target_command}
+use Rattle.meson_json.specs.Targets.{kept_lists, renaming_of, target_command}
 use Rattle.meson_steps.specs.declared.argument.Search.{Search}
 use Rattle.meson_steps.specs.declared.argument.ValueName.{ValueName}
 use Rattle.meson_steps.specs.declared.command.CodePlace.{CodePlace}
@@ -20,9 +20,9 @@ use Rattle.meson_steps.specs.declared.command.CodePlace.TheVariants as place
 use Rattle.meson_steps.specs.declared.command.Command.{Command}
 use Rattle.meson_steps.specs.declared.command.Command.TheVariants as command
 use Rattle.meson_steps.specs.declared.given.Given.{Given}
+use Rattle.meson_steps.specs.declared.source_change.SharedLists.{SharedLists}
+use Rattle.meson_steps.specs.declared.source_change.SharedLists.TheVariants.{Kept, Changed}
 use Rattle.meson_calls.specs.declared.call.CallName.{CallName}
-use Rattle.meson_calls.specs.declared.call.Reading.{Reading}
-use Rattle.meson_calls.specs.declared.call.Reading.TheVariants.{Written}
 use Rattle.meson_calls.specs.declared.call.Role.{Role}
 use Rattle.meson_json.specs.declared.target.TargetMembers.{TargetMembers}
 use Rattle.meson_json.specs.declared.target.TargetOperation.{TargetOperation}
@@ -57,6 +57,10 @@ given read i name otherwise (Some d) = ok_or (read d) (BadField i name)
 abbrev pub flag_at : ℕ → List ℕ → Data → Result Bool ScriptFault
 flag_at i name d = given as_bool i name false (get name d)
 
+-- whether `sorted` is `true`, which it may not be where something else says where values go
+abbrev pub sorted_unless : ℕ → (placed : Bool) → Data → Result Bool ScriptFault
+sorted_unless i placed d = then_ok (flag_at i (codes "sorted") d) (λ sorted. if sorted && placed then Err (BadField i (codes "sorted")) else Ok sorted)
+
 -- ---- entries of type `target`
 
 -- the folder of an entry, if it names one
@@ -73,15 +77,27 @@ target_folder i target.ExtraAdd d = folder_at i d
 target_folder i target.ExtraRemove d = folder_at i d
 target_folder i target.Info d = folder_at i d
 
--- whether sources go each into its place; only their addition reads it
-abbrev pub target_sorted : ℕ → TargetOperation → Data → Result Bool ScriptFault
-target_sorted i target.SourcesAdd d = flag_at i (codes "sorted") d
-target_sorted i operation d = Ok false
+-- whether variables are followed where sources are changed: `true` keeps the lists that another target gets too, and `"shared"` changes them
+abbrev pub lists_of : Data → Option (Option SharedLists)
+lists_of (boolean true) = Some (Some Kept)
+lists_of (boolean false) = Some None
+lists_of (string word) = if bytes_eq word (codes "shared") then Some (Some Changed) else None
+lists_of _ = None
 
--- how the sources of a target are read; only the report of them reads it
-abbrev pub target_reading : ℕ → TargetOperation → Data → Result Reading ScriptFault
-target_reading i target.Info d = then_ok (flag_at i (codes "follow") d) (λ follow. Ok (reading_of follow))
-target_reading i operation d = Ok Written
+abbrev pub lists_at : ℕ → Data → Result (Option SharedLists) ScriptFault
+lists_at i d = given lists_of i (codes "follow") None (get (codes "follow") d)
+
+-- whether variables are followed; only the changes of sources read it, and the report of them, which takes truth values alone
+abbrev pub target_follow : ℕ → TargetOperation → Data → Result (Option SharedLists) ScriptFault
+target_follow i target.SourcesAdd d = lists_at i d
+target_follow i target.SourcesRemove d = lists_at i d
+target_follow i target.Info d = then_ok (flag_at i (codes "follow") d) (λ follow. Ok (kept_lists follow))
+target_follow i operation d = Ok None
+
+-- whether sources go each into its place; only their addition reads it, where variables are not followed
+abbrev pub target_sorted : ℕ → TargetOperation → (follows : Bool) → Data → Result Bool ScriptFault
+target_sorted i target.SourcesAdd follows d = sorted_unless i follows d
+target_sorted i operation follows d = Ok false
 
 unfoldable pub target_members : ℕ → TargetOperation → Data → Result TargetMembers ScriptFault
 target_members i operation d =
@@ -90,9 +106,9 @@ target_members i operation d =
     then_ok (given as_str i (codes "subdir") [] (get (codes "subdir") d)) (λ subdir.
     then_ok (given as_str i (codes "target_type") (codes "executable") (get (codes "target_type") d)) (λ kind.
     then_ok (target_folder i operation d) (λ folder.
-    then_ok (target_sorted i operation d) (λ sorted.
-    then_ok (target_reading i operation d) (λ reading.
-    Ok (record { target = target; folder = folder; sources = sources; subdir = subdir; target_kind = kind; sorted = sorted; reading = reading }))))))))
+    then_ok (target_follow i operation d) (λ follow.
+    then_ok (target_sorted i operation (is_some follow) d) (λ sorted.
+    Ok (record { target = target; folder = folder; sources = sources; subdir = subdir; target_kind = kind; sorted = sorted; follow = follow }))))))))
 
 -- `rename`: the sources are the old name and the new one
 unfoldable pub rename_entry : ℕ → Data → Result Command ScriptFault
@@ -186,8 +202,7 @@ after_at i operation d = Ok None
 
 -- whether each of the values goes into its place; only `add` reads it, which puts them after another one or into their places
 abbrev pub sorted_at : ℕ → ArgumentOperation → (has_after : Bool) → Data → Result Bool ScriptFault
-sorted_at i argument.Add has_after d =
-    then_ok (flag_at i (codes "sorted") d) (λ sorted. if sorted && has_after then Err (BadField i (codes "sorted")) else Ok sorted)
+sorted_at i argument.Add has_after d = sorted_unless i has_after d
 sorted_at i operation has_after d = Ok false
 
 abbrev pub value_command : ℕ → ArgumentOperation → ValueName → Data → Result Command ScriptFault

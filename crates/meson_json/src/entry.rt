@@ -3,24 +3,25 @@
 ghost use Rattle.std.specs.Prelude.{◌≡◌, ◌≢◌, Err, IfErr, IfOk, Ok};
 ghost use Rattle.serde_json.specs.View.{members_view, view};
 ghost use Rattle.meson_json.specs.Operations.{kwargs_operation};
-ghost use Rattle.meson_json.specs.Scripts.{entry_of, kwargs_asked, kwargs_command, kwargs_entry, options_command, options_entry, rename_entry, role_at, target_entry, target_folder, target_members, target_reading, target_sorted};
+ghost use Rattle.meson_json.specs.Scripts.{entry_of, kwargs_asked, kwargs_command, kwargs_entry, lists_at, options_command, options_entry, rename_entry, role_at, target_entry, target_folder, target_follow, target_members, target_sorted};
 ghost use Rattle.meson_json.specs.declared.fault.ScriptFault.TheVariants.{OutOfMemory};
 
 use crate::code_entry::code_entry;
 use crate::fault::ScriptFault;
 use crate::members::{
     bad_field, flag_at, folder_at, members_or, names, option_texts, required_text, settings,
-    text_at, text_or, texts_or_none,
+    sorted_unless, text_at, text_or, texts_or_none,
 };
 use crate::names::{
     EntryType, KwargsOperation, OptionsOperation, find_kwargs_operation, find_options_operation,
     find_role, find_target_operation, find_type,
 };
-use crate::target::{TargetMembers, TargetOperation, reading_of, renaming_of, target_command};
+use crate::target::{TargetMembers, TargetOperation, kept_lists, renaming_of, target_command};
 use crate::value_entry::argument_entry;
-use meson_calls::{CallName, Reading, Role};
+use meson_calls::{CallName, Role};
 use meson_splice::Text;
 use meson_steps::command::Command;
+use meson_steps::source_change::SharedLists;
 use serde_json::{Map, Value};
 use std::alloc::Global;
 
@@ -45,45 +46,59 @@ fn target_folder(
     }
 }
 
-/// Whether the sources of an entry of type `target` go each into its place. Only their addition reads it.
-fn target_sorted(
+/// Whether variables are followed where sources are changed, and then whether lists that another target gets too are changed.
+fn lists_at(alloc: Global, index: usize, entry: &Value) -> Result<Option<SharedLists>, ScriptFault>
+    ensures ok { IfOk result (λ l. lists_at index (view entry.now) ≡ Ok l) }
+    ensures refused { IfErr result (λ e. e ≢ OutOfMemory → lists_at index (view entry.now) ≡ Err e) }
+{
+    match entry.get("follow") {
+        None | Some(Value::Bool(false)) => Ok(None),
+        Some(Value::Bool(true)) => Ok(Some(SharedLists::Kept)),
+        Some(Value::String(word)) if word.as_str() == "shared" => Ok(Some(SharedLists::Changed)),
+        Some(_) => Err(bad_field(alloc, index, "follow")?),
+    }
+}
+
+/// Whether variables are followed for an entry of type `target`. Only the changes of its sources and their report read it.
+fn target_follow(
     alloc: Global,
     index: usize,
     operation: TargetOperation,
     entry: &Value,
-) -> Result<bool, ScriptFault>
-    ensures ok { IfOk result (λ b. target_sorted index operation (view entry.now) ≡ Ok b) }
-    ensures refused { IfErr result (λ e. e ≢ OutOfMemory → target_sorted index operation (view entry.now) ≡ Err e) }
+) -> Result<Option<SharedLists>, ScriptFault>
+    ensures ok { IfOk result (λ l. target_follow index operation (view entry.now) ≡ Ok l) }
+    ensures refused { IfErr result (λ e. e ≢ OutOfMemory → target_follow index operation (view entry.now) ≡ Err e) }
 {
     match operation {
-        TargetOperation::SourcesAdd => flag_at(alloc, index, entry, "sorted"),
+        TargetOperation::SourcesAdd => lists_at(alloc, index, entry),
+        TargetOperation::SourcesRemove => lists_at(alloc, index, entry),
+        TargetOperation::Info => Ok(kept_lists(flag_at(alloc, index, entry, "follow")?)),
+        TargetOperation::TargetAdd => Ok(None),
+        TargetOperation::TargetRemove => Ok(None),
+        TargetOperation::ExtraAdd => Ok(None),
+        TargetOperation::ExtraRemove => Ok(None),
+    }
+}
+
+/// Whether the sources of an entry of type `target` go each into its place. Only their addition reads it, where variables are not followed.
+fn target_sorted(
+    alloc: Global,
+    index: usize,
+    operation: TargetOperation,
+    follows: bool,
+    entry: &Value,
+) -> Result<bool, ScriptFault>
+    ensures ok { IfOk result (λ b. target_sorted index operation follows (view entry.now) ≡ Ok b) }
+    ensures refused { IfErr result (λ e. e ≢ OutOfMemory → target_sorted index operation follows (view entry.now) ≡ Err e) }
+{
+    match operation {
+        TargetOperation::SourcesAdd => sorted_unless(alloc, index, follows, entry),
         TargetOperation::SourcesRemove => Ok(false),
         TargetOperation::TargetAdd => Ok(false),
         TargetOperation::TargetRemove => Ok(false),
         TargetOperation::ExtraAdd => Ok(false),
         TargetOperation::ExtraRemove => Ok(false),
         TargetOperation::Info => Ok(false),
-    }
-}
-
-/// How the sources of the target of an entry of type `target` are read. Only their report reads it.
-fn target_reading(
-    alloc: Global,
-    index: usize,
-    operation: TargetOperation,
-    entry: &Value,
-) -> Result<Reading, ScriptFault>
-    ensures ok { IfOk result (λ r. target_reading index operation (view entry.now) ≡ Ok r) }
-    ensures refused { IfErr result (λ e. e ≢ OutOfMemory → target_reading index operation (view entry.now) ≡ Err e) }
-{
-    match operation {
-        TargetOperation::Info => Ok(reading_of(flag_at(alloc, index, entry, "follow")?)),
-        TargetOperation::SourcesAdd => Ok(Reading::Written),
-        TargetOperation::SourcesRemove => Ok(Reading::Written),
-        TargetOperation::TargetAdd => Ok(Reading::Written),
-        TargetOperation::TargetRemove => Ok(Reading::Written),
-        TargetOperation::ExtraAdd => Ok(Reading::Written),
-        TargetOperation::ExtraRemove => Ok(Reading::Written),
     }
 }
 
@@ -97,14 +112,21 @@ fn target_members(
     ensures ok { IfOk result (λ m. target_members index operation (view entry.now) ≡ Ok m) }
     ensures refused { IfErr result (λ e. e ≢ OutOfMemory → target_members index operation (view entry.now) ≡ Err e) }
 {
+    let target = required_text(alloc, index, entry, "target")?;
+    let sources = texts_or_none(alloc, index, entry, "sources")?;
+    let subdir = text_or(alloc, index, entry, "subdir", "")?;
+    let target_kind = text_or(alloc, index, entry, "target_type", "executable")?;
+    let folder = target_folder(alloc, index, operation, entry)?;
+    let follow = target_follow(alloc, index, operation, entry)?;
+    let sorted = target_sorted(alloc, index, operation, follow.is_some(), entry)?;
     Ok(TargetMembers {
-        target: required_text(alloc, index, entry, "target")?,
-        sources: texts_or_none(alloc, index, entry, "sources")?,
-        subdir: text_or(alloc, index, entry, "subdir", "")?,
-        target_kind: text_or(alloc, index, entry, "target_type", "executable")?,
-        folder: target_folder(alloc, index, operation, entry)?,
-        sorted: target_sorted(alloc, index, operation, entry)?,
-        reading: target_reading(alloc, index, operation, entry)?,
+        target,
+        folder,
+        sources,
+        subdir,
+        target_kind,
+        sorted,
+        follow,
     })
 }
 

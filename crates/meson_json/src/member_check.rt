@@ -4,7 +4,7 @@ ghost use Rattle.std.specs.Prelude.{◌≡◌, ◌≢◌, Err, IfErr, IfOk, Ok, 
 ghost use Rattle.std.specs.List.{list_any};
 ghost use Rattle.serde_json.specs.Find.{as_object};
 ghost use Rattle.serde_json.specs.View.{view};
-ghost use Rattle.meson_json.specs.Known.{code_members, is_known, unknown_in, value_members};
+ghost use Rattle.meson_json.specs.Known.{code_members, is_known, source_members, unknown_in, value_members};
 ghost use Rattle.meson_json.specs.Scripts.{entry_by};
 ghost use Rattle.meson_json.specs.declared.fault.ScriptFault.TheVariants.{OutOfMemory};
 
@@ -13,6 +13,7 @@ use crate::fault::ScriptFault;
 use crate::members::owned;
 use meson_steps::argument::ValueChange;
 use meson_steps::command::{CodePlace, Command};
+use meson_steps::source_change::SourceChange;
 use serde_json::Value;
 use std::alloc::Global;
 
@@ -58,6 +59,19 @@ fn is_known_of_code(place: &CodePlace, name: &str) -> bool
     }
 }
 
+/// Whether a member has an effect on a change of sources where variables are followed.
+fn is_known_of_sources(change: &SourceChange, name: &str) -> bool
+    ensures { result ≡ list_any (bytes_eq name.now) (source_members change.now) }
+{
+    if name == "target" || name == "sources" || name == "in" || name == "follow" {
+        return true;
+    }
+    match change {
+        SourceChange::Add(_) => name == "sorted",
+        SourceChange::Remove(_) => false,
+    }
+}
+
 /// Whether a member has an effect on the command of its entry.
 fn is_known(command: &Command, name: &str) -> bool
     ensures { result ≡ is_known command.now name.now }
@@ -67,12 +81,19 @@ fn is_known(command: &Command, name: &str) -> bool
     }
     match command {
         Command::SourcesAdd { .. } | Command::SourcesAddSorted { .. } => {
-            name == "target" || name == "sources" || name == "in" || name == "sorted"
+            name == "target"
+                || name == "sources"
+                || name == "in"
+                || name == "sorted"
+                || name == "follow"
         }
-        Command::SourcesRemove { .. }
-        | Command::SourcesRename { .. }
-        | Command::ExtraAdd { .. }
-        | Command::ExtraRemove { .. } => name == "target" || name == "sources" || name == "in",
+        Command::SourcesRemove { .. } => {
+            name == "target" || name == "sources" || name == "in" || name == "follow"
+        }
+        Command::FollowedSources { change, .. } => is_known_of_sources(change, name),
+        Command::SourcesRename { .. } | Command::ExtraAdd { .. } | Command::ExtraRemove { .. } => {
+            name == "target" || name == "sources" || name == "in"
+        }
         Command::TargetAdd { .. } => {
             name == "target" || name == "sources" || name == "subdir" || name == "target_type"
         }

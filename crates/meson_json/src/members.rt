@@ -5,7 +5,7 @@ ghost use Rattle.serde_json.specs.Find.{as_array, as_object, as_str, get};
 ghost use Rattle.serde_json.specs.View.{items_view, members_view, view};
 ghost use Rattle.meson_json.specs.Each.{each_member, each_of, names_of_members};
 ghost use Rattle.meson_json.specs.Members.{member_text};
-ghost use Rattle.meson_json.specs.Scripts.{flag_at, folder_at, given, required_text};
+ghost use Rattle.meson_json.specs.Scripts.{flag_at, folder_at, given, required_text, sorted_unless};
 ghost use Rattle.meson_json.specs.Settings.{given_value, option_value, setting_of};
 ghost use Rattle.meson_json.specs.declared.fault.ScriptFault.TheVariants.{BadField, OutOfMemory};
 
@@ -106,6 +106,23 @@ pub(crate) fn flag_at(
         Some(flag) => Ok(flag),
         None => Err(bad_field(alloc, index, name)?),
     }
+}
+
+/// Whether the member `sorted` of an entry is `true`. It may not be so where something else says where values go.
+pub(crate) fn sorted_unless(
+    alloc: Global,
+    index: usize,
+    placed: bool,
+    entry: &Value,
+) -> Result<bool, ScriptFault>
+    ensures ok { IfOk result (λ b. sorted_unless index placed (view entry.now) ≡ Ok b) }
+    ensures refused { IfErr result (λ e. e ≢ OutOfMemory → sorted_unless index placed (view entry.now) ≡ Err e) }
+{
+    let sorted = flag_at(alloc, index, entry, "sorted")?;
+    if sorted && placed {
+        return Err(bad_field(alloc, index, "sorted")?);
+    }
+    Ok(sorted)
 }
 
 /// The texts of an array that holds nothing else.

@@ -57,10 +57,10 @@ const CODE_OPERATIONS: Choice = Choice {
     words: &["after", "before", "append", "remove"],
 };
 
-/// The members that an operation uses, by the names of its type and of itself.
-fn members_of(entry_type: &str, operation: &str) -> Choice {
-    let words: &'static [&'static str] = match (entry_type, operation) {
-        ("target", "target_add") => {
+/// The members that an operation on a target uses.
+fn target_members_of(operation: &str) -> &'static [&'static str] {
+    match operation {
+        "target_add" => {
             &[
                 "type",
                 "operation",
@@ -70,10 +70,28 @@ fn members_of(entry_type: &str, operation: &str) -> Choice {
                 "target_type",
             ]
         }
-        ("target", "target_rm") => &["type", "operation", "target", "in"],
-        ("target", "info") => &["type", "operation", "target", "in", "follow"],
-        ("target", "src_add") => &["type", "operation", "target", "sources", "in", "sorted"],
-        ("target", _) => &["type", "operation", "target", "sources", "in"],
+        "target_rm" => &["type", "operation", "target", "in"],
+        "info" => &["type", "operation", "target", "in", "follow"],
+        "src_add" => {
+            &[
+                "type",
+                "operation",
+                "target",
+                "sources",
+                "in",
+                "sorted",
+                "follow",
+            ]
+        }
+        "src_rm" => &["type", "operation", "target", "sources", "in", "follow"],
+        _ => &["type", "operation", "target", "sources", "in"],
+    }
+}
+
+/// The members that an operation uses, by the names of its type and of itself.
+fn members_of(entry_type: &str, operation: &str) -> Choice {
+    let words: &'static [&'static str] = match (entry_type, operation) {
+        ("target", _) => target_members_of(operation),
         ("kwargs", "info") => &["type", "operation", "function", "id", "in"],
         ("kwargs", _) => { &["type", "operation", "function", "id", "kwargs", "in"] }
         ("arg", "delete") => &["type", "operation", "function", "id", "key", "in"],
@@ -156,6 +174,10 @@ fn value_of(entry: &Value, member: &str) -> &'static str {
         "function" => "one of project, target, dependency",
         "kwargs" => "an object, whose values are texts, true, false or arrays of texts",
         "options" => "an object, whose values are texts, true, false or whole numbers",
+        "sorted" if entry.get("follow").is_some() => {
+            "true or false, and not true where variables are followed"
+        }
+        "follow" if text_at(entry, "operation") != Some("info") => "true, false or \"shared\"",
         "sorted" | "follow" => "true or false",
         _ => "a text",
     }

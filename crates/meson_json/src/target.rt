@@ -1,11 +1,12 @@
 //! Requests on a target, by a script or on the command line.
 
 ghost use Rattle.std.specs.Prelude.{◌≡◌};
-ghost use Rattle.meson_json.specs.Targets.{reading_of, renaming_of, target_command};
+ghost use Rattle.meson_json.specs.Targets.{addition_of, kept_lists, reading_of, removal_of, renaming_of, target_command};
 
 use meson_calls::{CallName, Reading};
 use meson_splice::{Many, Text};
 use meson_steps::command::Command;
+use meson_steps::source_change::{SharedLists, SourceChange};
 
 /// What is done to a target.
 #[derive(Clone, Copy)]
@@ -30,18 +31,62 @@ pub struct TargetMembers {
     pub target_kind: Text,
     /// Whether sources are added each in its place.
     pub sorted: bool,
-    /// How the sources of the target are read where they are reported.
-    pub reading: Reading,
+    /// Where variables are followed, whether lists that another target gets too are changed.
+    pub follow: Option<SharedLists>,
 }
 
-/// How build files are read, by whether variables are to be followed.
-pub fn reading_of(follow: bool) -> Reading
-    ensures { result ≡ reading_of follow }
+/// Where variables are to be followed, shared lists stay as they are.
+pub fn kept_lists(follow: bool) -> Option<SharedLists>
+    ensures { result ≡ kept_lists follow }
 {
     if follow {
-        Reading::Followed
+        Some(SharedLists::Kept)
     } else {
-        Reading::Written
+        None
+    }
+}
+
+/// How build files are read, by whether variables are followed.
+pub fn reading_of(follow: Option<SharedLists>) -> Reading
+    ensures { result ≡ reading_of follow }
+{
+    match follow {
+        Some(_) => Reading::Followed,
+        None => Reading::Written,
+    }
+}
+
+/// The command that adds sources to a target.
+fn addition_of(
+    target: CallName,
+    sources: Many<Text>,
+    sorted: bool,
+    follow: Option<SharedLists>,
+) -> Command
+    ensures { result ≡ addition_of target sources sorted follow }
+{
+    match follow {
+        Some(shared) => Command::FollowedSources {
+            target,
+            change: SourceChange::Add(sources),
+            shared,
+        },
+        None if sorted => Command::SourcesAddSorted { target, sources },
+        None => Command::SourcesAdd { target, sources },
+    }
+}
+
+/// The command that removes sources from a target.
+fn removal_of(target: CallName, sources: Many<Text>, follow: Option<SharedLists>) -> Command
+    ensures { result ≡ removal_of target sources follow }
+{
+    match follow {
+        Some(shared) => Command::FollowedSources {
+            target,
+            change: SourceChange::Remove(sources),
+            shared,
+        },
+        None => Command::SourcesRemove { target, sources },
     }
 }
 
@@ -56,21 +101,13 @@ pub fn target_command(operation: TargetOperation, members: TargetMembers) -> Com
         subdir,
         target_kind,
         sorted,
-        reading,
+        follow,
     } = members;
     match operation {
-        TargetOperation::SourcesAdd if sorted => Command::SourcesAddSorted {
-            target: CallName { id, folder },
-            sources,
-        },
-        TargetOperation::SourcesAdd => Command::SourcesAdd {
-            target: CallName { id, folder },
-            sources,
-        },
-        TargetOperation::SourcesRemove => Command::SourcesRemove {
-            target: CallName { id, folder },
-            sources,
-        },
+        TargetOperation::SourcesAdd => {
+            addition_of(CallName { id, folder }, sources, sorted, follow)
+        }
+        TargetOperation::SourcesRemove => removal_of(CallName { id, folder }, sources, follow),
         TargetOperation::TargetRemove => Command::TargetRemove {
             target: CallName { id, folder },
         },
@@ -90,7 +127,7 @@ pub fn target_command(operation: TargetOperation, members: TargetMembers) -> Com
         },
         TargetOperation::Info => Command::TargetInfo {
             target: CallName { id, folder },
-            reading,
+            reading: reading_of(follow),
         },
     }
 }

@@ -10,7 +10,7 @@ ghost use Rattle.meson_json.specs.declared.names.ArgumentOperation.TheVariants a
 use crate::argument::{command_to, keys_in, keys_left_out, place_named};
 use crate::fault::ScriptFault;
 use crate::members::{
-    bad_field, flag_at, folder_at, given_value, given_values, required_text, texts,
+    bad_field, folder_at, given_value, given_values, required_text, sorted_unless, texts,
 };
 use crate::names::{ArgumentOperation, find_argument_operation};
 use meson_splice::{Many, Text};
@@ -158,23 +158,6 @@ fn after_at(
     }
 }
 
-/// Whether the member `sorted` of an entry is `true`. It may not be so beside a value after which values are added.
-fn sorted_of(
-    alloc: Global,
-    index: usize,
-    has_after: bool,
-    entry: &Value,
-) -> Result<bool, ScriptFault>
-    ensures ok { IfOk result (λ b. sorted_at index argument.Add has_after (view entry.now) ≡ Ok b) }
-    ensures refused { IfErr result (λ e. e ≢ OutOfMemory → sorted_at index argument.Add has_after (view entry.now) ≡ Err e) }
-{
-    let sorted = flag_at(alloc, index, entry, "sorted")?;
-    if sorted && has_after {
-        return Err(bad_field(alloc, index, "sorted")?);
-    }
-    Ok(sorted)
-}
-
 /// Whether each of the values goes into its place, if the operation of the entry reads it.
 fn sorted_at(
     alloc: Global,
@@ -187,7 +170,7 @@ fn sorted_at(
     ensures refused { IfErr result (λ e. e ≢ OutOfMemory → sorted_at index operation has_after (view entry.now) ≡ Err e) }
 {
     match operation {
-        ArgumentOperation::Add => sorted_of(alloc, index, has_after, entry),
+        ArgumentOperation::Add => sorted_unless(alloc, index, has_after, entry),
         ArgumentOperation::Set => Ok(false),
         ArgumentOperation::Remove => Ok(false),
         ArgumentOperation::Replace => Ok(false),

@@ -147,6 +147,32 @@ e
 [{\"type\":\"target\",\"target\":\"e\",\"operation\":\"src_add\",\"sources\":[\"c.c\",\"d.c\"]},
 {\"type\":\"target\",\"target\":\"e\",\"operation\":\"src_rm\",\"sources\":[\"a.c\"]}]
 ====
+src = ['a.c']
+if x
+  src += files('b.c')
+endif
+executable('e', src)
+
+==
+
+==
+e
+==
+[{\"type\":\"target\",\"target\":\"e\",\"operation\":\"src_add\",\"sources\":[\"c.c\"],\"follow\":true}]
+====
+src = ['a.c']
+subdir('sub')
+executable('e', src)
+executable('f', src)
+
+==
+src += ['b.c']
+==
+e
+==
+[{\"type\":\"target\",\"target\":\"e\",\"operation\":\"src_rm\",\"sources\":[\"b.c\",\"./a.c\"],\"follow\":\"shared\"},
+{\"type\":\"target\",\"target\":\"e\",\"operation\":\"src_rm\",\"sources\":[\"b.c\"],\"follow\":true}]
+====
 project('p', 'c', default_options: 'cpp_std=c++17')
 
 ==

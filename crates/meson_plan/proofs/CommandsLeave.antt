@@ -37,10 +37,14 @@ use Rattle.meson_sources.proofs.SourcesSorted.{order-is-kept, sources-are-sorted
 use Rattle.meson_sources.specs.Sorting.{sources_sorted}
 use Rattle.meson_sources.specs.Targeted.{sorted_steps}
 use Rattle.meson_steps.proofs.WentWell.{then_was}
+use Rattle.meson_steps.specs.declared.source_change.SharedLists.{SharedLists}
+use Rattle.meson_steps.specs.declared.source_change.SourceChange.{SourceChange}
+use Rattle.meson_followed.specs.Changes.{sources_changed, target_changed}
+use Rattle.meson_followed.proofs.MayBeDone.{changes-leave}
 use Rattle.meson_targets.specs.TargetEdits.{target_added, target_removed}
 use Rattle.meson_targets.proofs.AddedTargets.{added-targets-are-named}
 use Rattle.meson_targets.proofs.RemovedTargets.{removed-targets-are-gone}
-use Rattle.meson_plan.specs.Effects.{CodeComes, CommandsLeave, ExtrasCome, ExtrasGo, LeavesOf, SourcesCome, SourcesComeAmong, SourcesGo, SourcesRenamed, TargetComes, TargetGoes}
+use Rattle.meson_plan.specs.Effects.{CodeComes, CommandsLeave, ExtrasCome, ExtrasGo, LeavesOf, SourcesCome, SourcesComeAmong, SourcesFollow, SourcesGo, SourcesRenamed, TargetComes, TargetGoes}
 use Rattle.meson_places.specs.Effects.{ValueLeft}
 use Rattle.meson_code.specs.declared.insertion.FileLines.{FileLines}
 use Rattle.meson_code.specs.Insertion.{code_statements, code_steps, has_room, inserted_if_room, insertion_step, lines_at}
@@ -116,6 +120,12 @@ module _ (old new : Loaded) (c : Command) (done : Done) (is : IsProject old) (p 
       let k = one id (λ q k. sources_renamed q k was now) made in
       record { call = k.0; is_call = k.1; changes = sources-are-renamed old is id k.0 k.1 was now p.made.steps (plain_trees new) k.2 stepped }
 
+  sources_follow : (id : CallName) (change : SourceChange) (shared : SharedLists) → target_changed (project old) id change shared ≡ Ok p.made.steps
+      → SourcesFollow old id change shared new
+  sources_follow id change shared made =
+      let k = one id (λ q. sources_changed q change shared) made in
+      record { call = k.0; is_call = k.1; left = changes-leave old is id k.0 k.1 change shared p.made.steps (plain_trees new) k.2 stepped }
+
   extras_come : (id : CallName) (names : List (List ℕ)) → then_ok (the_call (project old) role.Target id) (λ k. extra_added (project old) k names) ≡ Ok p.made.steps → ExtrasCome old id names new
   extras_come id names made =
       let k = one id (λ q k. extra_added q k names) made in
@@ -172,6 +182,8 @@ commands-leave old new (command.SourcesAddSorted id names) done is p = sources_c
 commands-leave old new (command.TargetAdd name kind folder sources) done is p = λ utf8. target_comes old new (command.TargetAdd name kind folder sources) done is p name kind folder sources p.made.are_planned utf8
 commands-leave old new (command.SourcesRemove id names) done is p = sources_go old new (command.SourcesRemove id names) done is p id names p.made.are_planned
 commands-leave old new (command.SourcesRename id was now) done is p = sources_renamed_there old new (command.SourcesRename id was now) done is p id was now p.made.are_planned
+commands-leave old new (command.FollowedSources id change shared) done is p =
+    sources_follow old new (command.FollowedSources id change shared) done is p id change shared p.made.are_planned
 commands-leave old new (command.ExtraAdd id names) done is p = extras_come old new (command.ExtraAdd id names) done is p id names p.made.are_planned
 commands-leave old new (command.ExtraRemove id names) done is p = extras_go old new (command.ExtraRemove id names) done is p id names p.made.are_planned
 commands-leave old new (command.TargetRemove id) done is p = target_goes old new (command.TargetRemove id) done is p id p.made.are_planned

@@ -15,6 +15,7 @@ means-one l (command.SourcesAdd target sources) m n p q = sym p ∙ q
 means-one l (command.SourcesAddSorted target sources) m n p q = sym p ∙ q
 means-one l (command.SourcesRemove target sources) m n p q = sym p ∙ q
 means-one l (command.SourcesRename target was now) m n p q = sym p ∙ q
+means-one l (command.FollowedSources target change shared) m n p q = sym p ∙ q
 means-one l (command.ExtraAdd target sources) m n p q = sym p ∙ q
 means-one l (command.ExtraRemove target sources) m n p q = sym p ∙ q
 means-one l (command.TargetAdd target kind subdir sources) m n p q = sym p ∙ q
@@ -41,6 +42,7 @@ module _ (l k : Loaded) (same_files : l.files ≡ k.files) (same_trees : trees l
   means-same (command.SourcesAddSorted target sources) m is = sym (ap₂ (λ fs ts. sorted_steps fs (named_trees fs ts) target sources) same_files same_trees) ∙ is
   means-same (command.SourcesRemove target sources) m is = same-plan (command.SourcesRemove target sources) m is
   means-same (command.SourcesRename target was now) m is = same-plan (command.SourcesRename target was now) m is
+  means-same (command.FollowedSources target change shared) m is = same-plan (command.FollowedSources target change shared) m is
   means-same (command.ExtraAdd target sources) m is = same-plan (command.ExtraAdd target sources) m is
   means-same (command.ExtraRemove target sources) m is = same-plan (command.ExtraRemove target sources) m is
   means-same (command.TargetAdd target kind subdir sources) m is = same-plan (command.TargetAdd target kind subdir sources) m is

@@ -16,6 +16,9 @@ use Rattle.meson_calls.specs.Project.{Placed}
 use Rattle.meson_variables.specs.TargetSources.{home, source_marks}
 use Rattle.meson_keywords.specs.Effects.{AreAskedTexts, CallLeft}
 use Rattle.meson_keywords.specs.Tasking.{Asked, to_set, to_add, to_remove, to_delete, to_set_options, to_delete_options}
+use Rattle.meson_followed.specs.Effects.{SourcesLeft}
+use Rattle.meson_steps.specs.declared.source_change.SharedLists.{SharedLists}
+use Rattle.meson_steps.specs.declared.source_change.SourceChange.{SourceChange}
 use Rattle.meson_steps.specs.declared.command.CodePlace.{CodePlace}
 use Rattle.meson_steps.specs.declared.command.Command.{Command}
 use Rattle.meson_steps.specs.declared.command.Command.TheVariants as command
@@ -77,6 +80,13 @@ pub record SourcesRenamed (old : Loaded) (target : CallName) (was now : List ℕ
   pub is_call : the_call (project old) role.Target target ≡ Ok call
   pub changes : NameChanges (source_marks (project old) call) was now (plain_trees old) (plain_trees new)
 
+-- The target is the only one that the id names. What is added is in a list of its sources, and what is removed is gone from all of them, as they are where
+-- variables are followed.
+pub record SourcesFollow (old : Loaded) (target : CallName) (change : SourceChange) (shared : SharedLists) (new : Loaded) : Type 0 where
+  pub call : Placed (Call Span)
+  pub is_call : the_call (project old) role.Target target ≡ Ok call
+  pub left : SourcesLeft old call change shared (plain_trees new)
+
 -- Each new extra file is there once. All extra files of the target are those that it had and these.
 pub record ExtrasCome (old : Loaded) (target : CallName) (names : List (List ℕ)) (new : Loaded) : Type 0 where
   pub call : Placed (Call Span)
@@ -115,6 +125,7 @@ HasEffect old (command.SourcesAdd target names) new = SourcesCome old target nam
 HasEffect old (command.SourcesAddSorted target names) new = SourcesComeAmong old target names new
 HasEffect old (command.SourcesRemove target names) new = SourcesGo old target names new
 HasEffect old (command.SourcesRename target was now) new = SourcesRenamed old target was now new
+HasEffect old (command.FollowedSources target change shared) new = SourcesFollow old target change shared new
 HasEffect old (command.ExtraAdd target names) new = ExtrasCome old target names new
 HasEffect old (command.ExtraRemove target names) new = ExtrasGo old target names new
 HasEffect old (command.TargetRemove target) new = TargetGoes old target new

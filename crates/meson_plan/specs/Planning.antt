@@ -14,6 +14,7 @@ use Rattle.meson_calls.specs.NamedArguments.{sources_key}
 use Rattle.meson_details.specs.Once.{call_told, only_once}
 use Rattle.meson_sources.specs.SourceEdits.{extra_key, sources_added, sources_removed, sources_renamed, extra_added, extra_removed}
 use Rattle.meson_sources.specs.Targeted.{sorted_steps}
+use Rattle.meson_followed.specs.Changes.{target_changed}
 use Rattle.meson_targets.specs.TargetEdits.{target_added, target_removed}
 use Rattle.meson_keywords.specs.Tasks.{each_made, set_entry, delete_entry, add_entry, remove_entry, set_option_entry, delete_option_entry}
 use Rattle.meson_keywords.specs.TaskSteps.{call_changed}
@@ -40,6 +41,7 @@ abbrev pub planned : {S : Type 0} → Project S → Command → Result (List Ste
 planned p (command.SourcesAdd target sources) = then_ok (the_call p role.Target target) (λ c. sources_added p c sources)
 planned p (command.SourcesRemove target sources) = then_ok (the_call p role.Target target) (λ c. sources_removed p c sources)
 planned p (command.SourcesRename target old new) = then_ok (the_call p role.Target target) (λ c. sources_renamed p c old new)
+planned p (command.FollowedSources target change shared) = target_changed p target change shared
 planned p (command.ExtraAdd target sources) = then_ok (the_call p role.Target target) (λ c. extra_added p c sources)
 planned p (command.ExtraRemove target sources) = then_ok (the_call p role.Target target) (λ c. extra_removed p c sources)
 planned p (command.TargetAdd target kind subdir sources) = target_added p target kind subdir sources

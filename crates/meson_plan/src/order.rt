@@ -5,6 +5,7 @@ ghost use Rattle.meson_lex.specs.declared.kinds.Span as lex;
 ghost use Rattle.meson_calls.specs.Loading.{Loaded, project};
 ghost use Rattle.meson_calls.specs.Project.{Project};
 ghost use Rattle.meson_calls.specs.Searching.{anywhere};
+ghost use Rattle.meson_followed.specs.Changes.{target_changed};
 ghost use Rattle.meson_keywords.specs.Changing.{request_steps};
 ghost use Rattle.meson_keywords.specs.Tasking.{asked, request_view};
 ghost use Rattle.meson_plan.specs.Listing.{asks};
@@ -23,6 +24,7 @@ use meson_sources::targeting::TargetChange::{
 use meson_splice::{Many, Text};
 use meson_steps::argument::{ValueChange, ValueName};
 use meson_steps::command::Command;
+use meson_steps::source_change::{SharedLists, SourceChange};
 use meson_targets::target_adding::NewTarget;
 
 /// What is done by steps that are all known at once.
@@ -34,6 +36,8 @@ pub(crate) enum Plan<'c> {
     SortSources(BorrowedName<'c>, &'c Many<Text>),
     /// Sources of a target get another name.
     RenameSources(BorrowedName<'c>, Renaming<'c>),
+    /// The sources of a target are changed where variables are followed.
+    FollowSources(BorrowedName<'c>, &'c SourceChange, SharedLists),
     /// A target is added at the end of its file.
     AddTarget(NewTarget<'c>),
     /// A target is removed, with its statement.
@@ -49,6 +53,7 @@ impl<'c> Plan<'c> {
             Plan::OnTarget(target, _, _) => (Role::Target, target.id),
             Plan::SortSources(target, _) => (Role::Target, target.id),
             Plan::RenameSources(target, _) => (Role::Target, target.id),
+            Plan::FollowSources(target, _, _) => (Role::Target, target.id),
             Plan::AddTarget(new) => (Role::Target, new.name.get()),
             Plan::RemoveTarget(target) => (Role::Target, target.id),
         }
@@ -87,6 +92,17 @@ fn on_sources<'c>(target: &'c CallName, old: &'c Text, new: &'c Text) -> Plan<'c
     ensures { (l : Loaded) → plan_steps l result ≡ renamed_steps (project l) target.entry.now old.entry.now new.entry.now }
 {
     Plan::RenameSources(target.as_name(), Renaming { old, new })
+}
+
+/// A change of sources where variables are followed.
+fn follow_sources<'c>(
+    target: &'c CallName,
+    change: &'c SourceChange,
+    shared: SharedLists,
+) -> Plan<'c>
+    ensures { (l : Loaded) → plan_steps l result ≡ target_changed (project l) target.entry.now change.entry.now shared }
+{
+    Plan::FollowSources(target.as_name(), change, shared)
 }
 
 /// A change of a call.
@@ -130,6 +146,11 @@ pub(crate) fn order_of(command: &Command) -> Order<'_>
         Command::SourcesRename { target, old, new } => {
             Order::Planned(on_sources(target, old, new))
         }
+        Command::FollowedSources {
+            target,
+            change,
+            shared,
+        } => Order::Planned(follow_sources(target, change, *shared)),
         Command::ExtraAdd { target, sources } => {
             Order::Planned(on_target(target, ExtraAdded, sources))
         }

@@ -19,6 +19,7 @@ use meson_calls::noted::Noted;
 use meson_calls::notes::notes_for;
 use meson_code::insertion_steps;
 use meson_code::removing::remove_code;
+use meson_followed::change_sources;
 use meson_keywords::changing::changed;
 use meson_places::Sources;
 use meson_places::arguments::argument_steps;
@@ -98,6 +99,9 @@ fn steps_of(alloc: Global, noted: &Noted<'_>, plan: Plan<'_>) -> Result<Vec<List
         Plan::OnTarget(target, change, names) => on_target(alloc, noted, target, change, names),
         Plan::SortSources(target, names) => sort_sources(alloc, noted, target, names),
         Plan::RenameSources(target, names) => on_sources(alloc, noted, target, names),
+        Plan::FollowSources(target, change, shared) => {
+            change_sources(alloc, noted, target, change, shared)
+        }
         Plan::AddTarget(new) => target_added(alloc, noted, new),
         Plan::RemoveTarget(target) => target_removed(alloc, noted, target),
     }

@@ -3,10 +3,12 @@ use Rattle.std.proofs.Common.{◌≡◌, ℕ, Bool, true, false, List, [], ◌�
 use Rattle.meson_calls.specs.declared.refusal.Refusal.{Refusal}
 use Rattle.meson_calls.specs.declared.refusal.Refusal.TheVariants as refusal
 use Rattle.meson_calls.specs.Loading.{Loaded}
+use Rattle.meson_explaining.specs.Followed.{is_absent, place_of}
 use Rattle.meson_explaining.specs.Names.{bad_name, find_key, is_bad_option, is_bad_pair, is_empty_name, meant_name, missing_name}
 use Rattle.meson_explaining.specs.Sources.{extras_at, is_missing, sources_at}
 use Rattle.meson_steps.specs.declared.command.Command.{Command}
-use Rattle.meson_steps.specs.declared.command.Command.TheVariants.{SourcesAdd, SourcesAddSorted, SourcesRemove, SourcesRename, ExtraAdd, ExtraRemove, TargetAdd, TargetRemove, TargetInfo, KwargsSet, KwargsAdd, KwargsRemove, KwargsDelete, KwargsInfo, OptionsSet, OptionsDelete, Argument, ArgumentInfo, CodeInsert, CodeRemove}
+use Rattle.meson_steps.specs.declared.command.Command.TheVariants.{SourcesAdd, SourcesAddSorted, SourcesRemove, SourcesRename, FollowedSources, ExtraAdd, ExtraRemove, TargetAdd, TargetRemove, TargetInfo, KwargsSet, KwargsAdd, KwargsRemove, KwargsDelete, KwargsInfo, OptionsSet, OptionsDelete, Argument, ArgumentInfo, CodeInsert, CodeRemove}
+use Rattle.meson_steps.specs.declared.source_change.SourceChange.TheVariants as change
 use Rattle.meson_rewrite.specs.RefusalLaws.{IsAmong, SubjectsAreWords, id_and, words_of}
 use Rattle.meson_rewrite.specs.Subjects.{anchor_id, folder_of, id_in, id_of, subject_of}
 
@@ -42,6 +44,8 @@ module _ (name : List ℕ) where
   id_among (SourcesAddSorted target sources) e = inl (some-same target.id name e)
   id_among (SourcesRemove target sources) e = inl (some-same target.id name e)
   id_among (SourcesRename target old new) e = inl (some-same target.id name e)
+  id_among (FollowedSources target (change.Add names) shared) e = inl (some-same target.id name e)
+  id_among (FollowedSources target (change.Remove names) shared) e = inl (some-same target.id name e)
   id_among (ExtraAdd target sources) e = inl (some-same target.id name e)
   id_among (ExtraRemove target sources) e = inl (some-same target.id name e)
   id_among (TargetAdd target kind subdir sources) e = inl (some-same target name e)
@@ -71,6 +75,8 @@ module _ (name : List ℕ) where
   bad_among (SourcesAddSorted target sources) e = inr (found_among is_empty_name sources e)
   bad_among (SourcesRemove target sources) e = inr (found_among is_empty_name sources e)
   bad_among (SourcesRename target old new) e = inr (found_among is_empty_name (old ∷ new ∷ []) e)
+  bad_among (FollowedSources target (change.Add names) shared) e = inr (found_among is_empty_name names e)
+  bad_among (FollowedSources target (change.Remove names) shared) e = inr (found_among is_empty_name names e)
   bad_among (ExtraAdd target sources) e = inr (found_among is_empty_name sources e)
   bad_among (ExtraRemove target sources) e = inr (found_among is_empty_name sources e)
   bad_among (TargetAdd target kind subdir sources) e = new_among target subdir sources e
@@ -88,6 +94,7 @@ module _ (name : List ℕ) where
       old_among : IsAmong (old ∷ []) name → IsAmong (old ∷ new ∷ []) name
       old_among (inl is) = inl is
       old_among (inr none) = absurd none
+  missing_among found (FollowedSources target (change.Remove names) shared) e = inr (found_among (is_absent found (place_of found target)) names e)
   missing_among found (ExtraRemove target sources) e = inr (found_among (is_missing (extras_at found target)) sources e)
   missing_among found _ e = absurd (not-none (List ℕ) name e)
 

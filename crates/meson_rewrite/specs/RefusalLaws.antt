@@ -6,7 +6,8 @@ use Rattle.serde_json.specs.Find.{get}
 use Rattle.meson_calls.specs.Loading.{Loaded}
 use Rattle.meson_calls.specs.declared.refusal.Refusal.{Refusal}
 use Rattle.meson_steps.specs.declared.command.Command.{Command}
-use Rattle.meson_steps.specs.declared.command.Command.TheVariants.{SourcesAdd, SourcesAddSorted, SourcesRemove, SourcesRename, ExtraAdd, ExtraRemove, TargetAdd, TargetRemove, TargetInfo, KwargsSet, KwargsAdd, KwargsRemove, KwargsDelete, KwargsInfo, OptionsSet, OptionsDelete, Argument, ArgumentInfo, CodeInsert, CodeRemove}
+use Rattle.meson_steps.specs.declared.command.Command.TheVariants.{SourcesAdd, SourcesAddSorted, SourcesRemove, SourcesRename, FollowedSources, ExtraAdd, ExtraRemove, TargetAdd, TargetRemove, TargetInfo, KwargsSet, KwargsAdd, KwargsRemove, KwargsDelete, KwargsInfo, OptionsSet, OptionsDelete, Argument, ArgumentInfo, CodeInsert, CodeRemove}
+use Rattle.meson_steps.specs.declared.source_change.SourceChange.TheVariants as change
 use Rattle.meson_rewrite.specs.Codes.{memory_code, stop_code}
 use Rattle.meson_rewrite.specs.Lines.{stop_text}
 use Rattle.meson_rewrite.specs.Refused.{stop_command, stop_entry, stop_members}
@@ -49,6 +50,8 @@ words_of (SourcesAdd target sources) = target.id ∷ sources
 words_of (SourcesAddSorted target sources) = target.id ∷ sources
 words_of (SourcesRemove target sources) = target.id ∷ sources
 words_of (SourcesRename target old new) = target.id ∷ old ∷ new ∷ []
+words_of (FollowedSources target (change.Add names) shared) = target.id ∷ names
+words_of (FollowedSources target (change.Remove names) shared) = target.id ∷ names
 words_of (ExtraAdd target sources) = target.id ∷ sources
 words_of (ExtraRemove target sources) = target.id ∷ sources
 words_of (TargetAdd target kind subdir sources) = target ∷ subdir ∷ sources

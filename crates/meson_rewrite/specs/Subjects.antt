@@ -9,7 +9,7 @@ use Rattle.meson_steps.specs.declared.argument.PlaceName.TheVariants as name
 use Rattle.meson_steps.specs.declared.command.CodePlace.{CodePlace}
 use Rattle.meson_steps.specs.declared.command.CodePlace.TheVariants as place
 use Rattle.meson_steps.specs.declared.command.Command.{Command}
-use Rattle.meson_steps.specs.declared.command.Command.TheVariants.{SourcesAdd, SourcesAddSorted, SourcesRemove, SourcesRename, ExtraAdd, ExtraRemove, TargetAdd, TargetRemove, TargetInfo, KwargsSet, KwargsAdd, KwargsRemove, KwargsDelete, KwargsInfo, OptionsSet, OptionsDelete, Argument, ArgumentInfo, CodeInsert, CodeRemove}
+use Rattle.meson_steps.specs.declared.command.Command.TheVariants.{SourcesAdd, SourcesAddSorted, SourcesRemove, SourcesRename, FollowedSources, ExtraAdd, ExtraRemove, TargetAdd, TargetRemove, TargetInfo, KwargsSet, KwargsAdd, KwargsRemove, KwargsDelete, KwargsInfo, OptionsSet, OptionsDelete, Argument, ArgumentInfo, CodeInsert, CodeRemove}
 
 -- the id of a call or a variable; a line has none
 abbrev pub id_in : PlaceName → Option (List ℕ)
@@ -30,6 +30,7 @@ id_of (SourcesAdd target sources) = Some target.id
 id_of (SourcesAddSorted target sources) = Some target.id
 id_of (SourcesRemove target sources) = Some target.id
 id_of (SourcesRename target old new) = Some target.id
+id_of (FollowedSources target change shared) = Some target.id
 id_of (ExtraAdd target sources) = Some target.id
 id_of (ExtraRemove target sources) = Some target.id
 id_of (TargetAdd target kind subdir sources) = Some target

@@ -40,6 +40,7 @@ fn id_of(command: &Command) -> Option<&Text>
         | Command::SourcesAddSorted { target, .. }
         | Command::SourcesRemove { target, .. }
         | Command::SourcesRename { target, .. }
+        | Command::FollowedSources { target, .. }
         | Command::ExtraAdd { target, .. }
         | Command::ExtraRemove { target, .. }
         | Command::TargetRemove { target }

@@ -126,6 +126,7 @@ info-plain l (command.SourcesAdd target sources) d i = absurd (let no : ⊥ = cc
 info-plain l (command.SourcesAddSorted target sources) d i = absurd (let no : ⊥ = cc in no)
 info-plain l (command.SourcesRemove target sources) d i = absurd (let no : ⊥ = cc in no)
 info-plain l (command.SourcesRename target old new) d i = absurd (let no : ⊥ = cc in no)
+info-plain l (command.FollowedSources target change shared) d i = absurd (let no : ⊥ = cc in no)
 info-plain l (command.ExtraAdd target sources) d i = absurd (let no : ⊥ = cc in no)
 info-plain l (command.ExtraRemove target sources) d i = absurd (let no : ⊥ = cc in no)
 info-plain l (command.TargetAdd target kind subdir sources) d i = absurd (let no : ⊥ = cc in no)
@@ -219,6 +220,7 @@ no-info l (command.SourcesAdd target sources) why ds h is = h
 no-info l (command.SourcesAddSorted target sources) why ds h is = h
 no-info l (command.SourcesRemove target sources) why ds h is = h
 no-info l (command.SourcesRename target old new) why ds h is = h
+no-info l (command.FollowedSources target change shared) why ds h is = h
 no-info l (command.ExtraAdd target sources) why ds h is = h
 no-info l (command.ExtraRemove target sources) why ds h is = h
 no-info l (command.TargetAdd target kind subdir sources) why ds h is = h
@@ -247,6 +249,7 @@ lists-nothing l (command.SourcesAdd target ss) quiet = (refl, refl)
 lists-nothing l (command.SourcesAddSorted target ss) quiet = (refl, refl)
 lists-nothing l (command.SourcesRemove target ss) quiet = (refl, refl)
 lists-nothing l (command.SourcesRename target old new) quiet = (refl, refl)
+lists-nothing l (command.FollowedSources target change shared) quiet = (refl, refl)
 lists-nothing l (command.ExtraAdd target ss) quiet = (refl, refl)
 lists-nothing l (command.ExtraRemove target ss) quiet = (refl, refl)
 lists-nothing l (command.TargetAdd target kind subdir ss) quiet = (refl, refl)

@@ -219,6 +219,7 @@ told-plain l (command.SourcesAdd target sources) more is = none-plain more is
 told-plain l (command.SourcesAddSorted target sources) more is = none-plain more is
 told-plain l (command.SourcesRemove target sources) more is = none-plain more is
 told-plain l (command.SourcesRename target old new) more is = none-plain more is
+told-plain l (command.FollowedSources target change shared) more is = none-plain more is
 told-plain l (command.ExtraAdd target sources) more is = none-plain more is
 told-plain l (command.ExtraRemove target sources) more is = none-plain more is
 told-plain l (command.TargetAdd target kind subdir sources) more is = none-plain more is

@@ -52,6 +52,7 @@ told-same p q s (command.SourcesAdd target sources) = refl
 told-same p q s (command.SourcesAddSorted target sources) = refl
 told-same p q s (command.SourcesRemove target sources) = refl
 told-same p q s (command.SourcesRename target old new) = refl
+told-same p q s (command.FollowedSources target change shared) = refl
 told-same p q s (command.ExtraAdd target sources) = refl
 told-same p q s (command.ExtraRemove target sources) = refl
 told-same p q s (command.TargetAdd target kind subdir sources) = refl

@@ -9,11 +9,11 @@ pub mod AllSources
 pub mod ShrunkFiles
 pub mod AllExtras
 mod told
-mod trees
-mod met
-mod gone
-mod added
+pub mod trees
+pub mod met
+pub mod gone
+pub mod added
 mod renamed
 mod LoneTokens
 mod sorted
-mod commands
+pub mod commands

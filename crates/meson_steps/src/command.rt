@@ -1,6 +1,7 @@
 //! Commands, and what a command did.
 
 use crate::argument::{Search, ValueChange, ValueName};
+use crate::source_change::{SharedLists, SourceChange};
 use meson_calls::{CallName, Reading, Role};
 use meson_splice::{Change, Many, Text};
 use meson_statements::StatementCode;
@@ -45,6 +46,12 @@ pub enum Command {
         target: CallName,
         old: Text,
         new: Text,
+    },
+    /// The sources of a target are changed where variables are followed.
+    FollowedSources {
+        target: CallName,
+        change: SourceChange,
+        shared: SharedLists,
     },
     ExtraAdd {
         target: CallName,
@@ -150,6 +157,11 @@ impl Drop for Command {
                 old: _,
                 new: _,
             } => {}
+            Command::FollowedSources {
+                target: _,
+                change: _,
+                shared: _,
+            } => {}
             Command::ExtraAdd {
                 target: _,
                 sources: _,
@@ -237,6 +249,7 @@ impl Command {
             Command::SourcesAddSorted { .. } => "SourcesAddSorted",
             Command::SourcesRemove { .. } => "SourcesRemove",
             Command::SourcesRename { .. } => "SourcesRename",
+            Command::FollowedSources { .. } => "FollowedSources",
             Command::ExtraAdd { .. } => "ExtraAdd",
             Command::ExtraRemove { .. } => "ExtraRemove",
             Command::TargetAdd { .. } => "TargetAdd",
@@ -270,6 +283,11 @@ impl fmt::Debug for Command {
             Command::SourcesRename { target, old, new } => {
                 shown.field(target).field(old).field(new)
             }
+            Command::FollowedSources {
+                target,
+                change,
+                shared,
+            } => shown.field(target).field(change).field(shared),
             Command::TargetAdd {
                 target,
                 target_kind,

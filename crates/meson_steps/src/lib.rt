@@ -14,6 +14,7 @@ pub mod names;
 pub mod order;
 pub mod ordered_list;
 mod reading;
+pub mod source_change;
 pub mod spans;
 pub mod statements;
 pub mod step;

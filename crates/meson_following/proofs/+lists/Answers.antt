@@ -7,10 +7,10 @@ use Rattle.meson_calls.specs.Project.{child, place}
 use Rattle.meson_variables.specs.Expansion.{are_plus}
 use Rattle.meson_calls.proofs.Parted.{row_is}
 use Rattle.meson_following.specs.CodeFollowing.{followed_project, value_view}
-use Rattle.meson_following.specs.CodeLists.{has_list_at, is_list_at, is_maker_at, is_variable_at, seen_at}
+use Rattle.meson_following.specs.CodeLists.{has_list_at, is_list_at, is_maker_at, is_sum_at, is_variable_at, seen_at}
 use Rattle.meson_following.specs.CodeMakers.{known_view, made_view, maker_view}
-use Rattle.meson_following.specs.Lists.{or_asked, told}
-use Rattle.meson_following.proofs.Asking.{maker_seen, operand_found, operand_passed, or_no, or_yes, variable_made}
+use Rattle.meson_following.specs.Lists.{has_plain_list, told}
+use Rattle.meson_following.proofs.Asking.{maker_seen, operand_found, operand_passed, or_no, or_yes, other_sum, plain_sum, variable_made}
 use Rattle.meson_following.proofs.Measures.{inner_step, lower_step, measure, one_less, value_step}
 use Rattle.meson_following.proofs.Weights.{all_weight, first_less, no_less, operand_less, paren_less, rest_weight, rest_within, value_within, weight_of, yes_less}
 use Rattle.meson_following.proofs.+lists.Goals as goal
@@ -134,16 +134,16 @@ lists::Lists::is_list-is_child-requires-in-Row t c =
     let l = c.args.self.now in
     let source = l.source.now in
     let it = c.in-Row in
-    let less = first_less source c.args.expr.now it.span it.first c.get-in-Row-2.result.now it.rest it.is c.get-in-Row-2.ensures in
-    (inner_step l.depth (all_weight (followed_project l.follower)) (weight_of source c.get-in-Row-2.result.now) (weight_of source c.args.expr.now) 4 3 t less (omega arith) (sym c.decreases), c.requires)
+    let less = first_less source c.args.expr.now it.span it.first c.get-in-Row-3.result.now it.rest it.is c.get-in-Row-3.ensures in
+    (inner_step l.depth (all_weight (followed_project l.follower)) (weight_of source c.get-in-Row-3.result.now) (weight_of source c.args.expr.now) 4 3 t less (omega arith) (sym c.decreases), c.requires)
 
 pub lists::Lists::is_list-has_list-requires : goal.lists::Lists::is_list-has_list-requires
 lists::Lists::is_list-has_list-requires t c =
     let l = c.args.self.now in
     let source = l.source.now in
     let it = c.in-Row in
-    let within = rest_within source c.args.expr.now it.span it.first it.rest c.get-in-Row-3.result.now it.is c.get-in-Row-3.ensures in
-    (lower_step l.depth (all_weight (followed_project l.follower)) (suc (rest_weight source c.get-in-Row-3.result.now)) (weight_of source c.args.expr.now) 2 3 t within (omega arith) (sym c.decreases), c.requires)
+    let within = rest_within source c.args.expr.now it.span it.first it.rest c.get-in-Row-4.result.now it.is c.get-in-Row-4.ensures in
+    (lower_step l.depth (all_weight (followed_project l.follower)) (suc (rest_weight source c.get-in-Row-4.result.now)) (weight_of source c.args.expr.now) 2 3 t within (omega arith) (sym c.decreases), c.requires)
 
 pub lists::Lists::is_list-returns-then-not-are_plus-clause-told : goal.lists::Lists::is_list-returns-then-not-are_plus-clause-told
 lists::Lists::is_list-returns-then-not-are_plus-clause-told t c =
@@ -155,8 +155,21 @@ lists::Lists::is_list-returns-then-not-are_plus-clause-told t c =
     let os = operands_of (operands_view source c.get-in-Row.result.now) in
     let is = row_is source c.args.expr.now it.span it.first it.first it.rest c.get-in-Row.result.now it.is refl c.get-in-Row.ensures in
     let sums = sym (c.are_plus.ensures source) ∙ c.if-not-are_plus.true in
-    sym (ap (λ e. is_list_at l q e left) is
-    ∙ ap (λ b. if b then or_asked (is_list_at l (child q 0) (expr_view source it.first) left) (λ now. has_list_at l q 1 os now) else told false left) sums)
+    sym (ap (λ e. is_list_at l q e left) is ∙ ap (λ b. if b then is_sum_at l q (expr_view source it.first) os left else told false left) sums)
+
+pub lists::Lists::is_list-returns-then-has_plain_list-clause-told : goal.lists::Lists::is_list-returns-then-has_plain_list-clause-told
+lists::Lists::is_list-returns-then-has_plain_list-clause-told t c =
+    let l = c.args.self.now in
+    let source = l.source.now in
+    let q = place l.file c.args.path.now.items in
+    let left = c.args.left.now in
+    let it = c.in-Row in
+    let rest = c.get-in-Row-2.result.now in
+    let is = row_is source c.args.expr.now it.span it.first it.first it.rest rest it.is refl c.get-in-Row-2.ensures in
+    let same = c.get-in-Row-2.ensures ∙ sym c.get-in-Row.ensures in
+    let sums = ap (λ r. are_plus (operands_of (operands_view source r))) same ∙ sym (c.are_plus.ensures source) ∙ c.if-not-are_plus.false in
+    let plain = sym c.has_plain_list.ensures ∙ c.if-has_plain_list.true in
+    sym (ap (λ e. is_list_at l q e left) is ∙ plain_sum (is_variable_at l) q (expr_view source it.first) (operands_of (operands_view source rest)) left sums plain)
 
 pub lists::Lists::is_list-returns-then-branch-clause-told : goal.lists::Lists::is_list-returns-then-branch-clause-told
 lists::Lists::is_list-returns-then-branch-clause-told t c =
@@ -165,13 +178,16 @@ lists::Lists::is_list-returns-then-branch-clause-told t c =
     let q = place l.file c.args.path.now.items in
     let left = c.args.left.now in
     let it = c.in-Row in
-    let first = c.get-in-Row-2.result.now in
-    let os = operands_of (operands_view source c.get-in-Row.result.now) in
-    let is = row_is source c.args.expr.now it.span it.first first it.rest c.get-in-Row.result.now it.is c.get-in-Row-2.ensures c.get-in-Row.ensures in
-    let sums = sym (c.are_plus.ensures source) ∙ c.if-not-are_plus.false in
-    let here = is_list_at l (child q 0) (expr_view source first) left in
-    or_yes c.in_ok-is_child-in-Row.field-0 c.is_child-in-Row.new.left here (λ now. has_list_at l q 1 os now) c.in_ok-is_child-in-Row.ensures.told c.if-branch.true
-    ∙ sym (ap (λ e. is_list_at l q e left) is ∙ ap (λ b. if b then or_asked here (λ now. has_list_at l q 1 os now) else told false left) sums)
+    let first = c.get-in-Row-3.result.now in
+    let rest = c.get-in-Row-2.result.now in
+    let os = operands_of (operands_view source rest) in
+    let is = row_is source c.args.expr.now it.span it.first first it.rest rest it.is c.get-in-Row-3.ensures c.get-in-Row-2.ensures in
+    let same = c.get-in-Row-2.ensures ∙ sym c.get-in-Row.ensures in
+    let sums = ap (λ r. are_plus (operands_of (operands_view source r))) same ∙ sym (c.are_plus.ensures source) ∙ c.if-not-are_plus.false in
+    let other = sym c.has_plain_list.ensures ∙ c.if-has_plain_list.false in
+    or_yes c.in_ok-is_child-in-Row.field-0 c.is_child-in-Row.new.left (is_list_at l (child q 0) (expr_view source first) left) (λ now. has_list_at l q 1 os now)
+    c.in_ok-is_child-in-Row.ensures.told c.if-branch.true
+    ∙ sym (ap (λ e. is_list_at l q e left) is ∙ other_sum (is_variable_at l) q (expr_view source first) os left sums other)
 
 pub lists::Lists::is_list-returns-else-branch-clause-told : goal.lists::Lists::is_list-returns-else-branch-clause-told
 lists::Lists::is_list-returns-else-branch-clause-told t c =
@@ -181,15 +197,17 @@ lists::Lists::is_list-returns-else-branch-clause-told t c =
     let left = c.args.left.now in
     let now_left = c.is_child-in-Row.new.left in
     let it = c.in-Row in
-    let first = c.get-in-Row-2.result.now in
-    let rest = c.get-in-Row-3.result.now in
+    let first = c.get-in-Row-3.result.now in
+    let rest = c.get-in-Row-4.result.now in
     let os = operands_of (operands_view source rest) in
-    let is = row_is source c.args.expr.now it.span it.first first it.rest rest it.is c.get-in-Row-2.ensures c.get-in-Row-3.ensures in
-    let same = c.get-in-Row-3.ensures ∙ sym c.get-in-Row.ensures in
+    let is = row_is source c.args.expr.now it.span it.first first it.rest rest it.is c.get-in-Row-3.ensures c.get-in-Row-4.ensures in
+    let same = c.get-in-Row-4.ensures ∙ sym c.get-in-Row.ensures in
+    let as_before = c.get-in-Row-4.ensures ∙ sym c.get-in-Row-2.ensures in
     let sums = ap (λ r. are_plus (operands_of (operands_view source r))) same ∙ sym (c.are_plus.ensures source) ∙ c.if-not-are_plus.false in
-    let here = is_list_at l (child q 0) (expr_view source first) left in
+    let other = ap (λ r. has_plain_list (operands_of (operands_view source r))) as_before ∙ sym c.has_plain_list.ensures ∙ c.if-has_plain_list.false in
     IfOk-weaker c.has_list.result _ _
-    (λ b so. or_no c.in_ok-is_child-in-Row.field-0 now_left here (λ now. has_list_at l q 1 os now) c.in_ok-is_child-in-Row.ensures.told (told b c.has_list.new.left) c.if-branch.false
+    (λ b so. or_no c.in_ok-is_child-in-Row.field-0 now_left (is_list_at l (child q 0) (expr_view source first) left) (λ now. has_list_at l q 1 os now)
+    c.in_ok-is_child-in-Row.ensures.told (told b c.has_list.new.left) c.if-branch.false
     (so ∙ ap (λ steps. has_list_at l (place l.file steps) 1 os now_left) c.in_ok-is_child-in-Row.ensures.back)
-    ∙ sym (ap (λ e. is_list_at l q e left) is ∙ ap (λ b. if b then or_asked here (λ now. has_list_at l q 1 os now) else told false left) sums))
+    ∙ sym (ap (λ e. is_list_at l q e left) is ∙ other_sum (is_variable_at l) q (expr_view source first) os left sums other))
     c.has_list.ensures.told

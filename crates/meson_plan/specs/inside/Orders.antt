@@ -7,6 +7,7 @@ use Rattle.meson_steps.specs.Done.{Meaning}
 use Rattle.meson_steps.specs.declared.command.Command.{Command}
 use Rattle.meson_steps.specs.declared.command.Command.TheVariants as command
 use Rattle.meson_sources.specs.Targeted.{renamed_steps, sorted_steps, target_steps}
+use Rattle.meson_followed.specs.Changes.{target_changed}
 use Rattle.meson_targets.specs.TargetEdits.{named_removed}
 use Rattle.meson_targets.specs.TargetViews.{new_target}
 use Rattle.meson_keywords.specs.Changing.{request_steps}
@@ -23,6 +24,7 @@ abbrev pub sought : Plan → Role × List ℕ
 sought (plan.OnTarget target change names) = (role.Target, target.id.now)
 sought (plan.SortSources target names) = (role.Target, target.id.now)
 sought (plan.RenameSources target names) = (role.Target, target.id.now)
+sought (plan.FollowSources target change shared) = (role.Target, target.id.now)
 sought (plan.AddTarget new) = (role.Target, new.name.now)
 sought (plan.RemoveTarget target) = (role.Target, target.id.now)
 
@@ -30,6 +32,7 @@ abbrev pub plan_steps : Loaded → Plan → Meaning
 plan_steps l (plan.OnTarget target change names) = target_steps (project l) (name_at target) change names.now
 plan_steps l (plan.SortSources target names) = sorted_steps l.files (project l) (name_at target) names.now
 plan_steps l (plan.RenameSources target names) = renamed_steps (project l) (name_at target) names.old.now names.new.now
+plan_steps l (plan.FollowSources target change shared) = target_changed (project l) (name_at target) change.now shared
 plan_steps l (plan.AddTarget new) = new_target (project l) new
 plan_steps l (plan.RemoveTarget target) = named_removed (project l) (name_at target)
 

@@ -89,6 +89,16 @@ module _ (n : Noted) (id : CallName) (is : IsNotedFor role.Target id.id n) (plac
         ap₂ (λ o b. meant o (placed place (call_with function (list_view b a)))) (same_project v n fs ts) is_source
         ∙ sym (ap (λ r. then_ok r (meant p)) (one_is n role.Target id is place found) ∙ ap (meant p) same)
 
+    -- the same where the project itself is asked
+    pub meant_of_call : (meant : Project Span → Placed (Call Span) → Result (List Step) Refusal) (source : List ℕ) → source ≡ bytes
+        → meant (project_in n) (placed place (call_with function (list_view source a))) ≡ then_ok (the_call (project_in n) role.Target id) (meant (project_in n))
+    unfolding function
+    meant_of_call meant source is_source =
+        let p = project_in n in
+        let same = ap₂ (λ k m. placed k (call_with function m)) (one_at n role.Target id is place found) same_list in
+        ap (λ b. meant p (placed place (call_with function (list_view b a)))) is_source
+        ∙ sym (ap (λ r. then_ok r (meant p)) (one_is n role.Target id is place found) ∙ ap (meant p) same)
+
     -- the steps that are meant are those of the code's call
     pub steps_are : (v : Variables) → v.files.now ≡ files → v.trees.now ≡ trees → (change : TargetChange) (names : List (List ℕ)) (source : List ℕ) → source ≡ bytes
         → change_steps (project_of v) change names (placed place (call_with function (list_view source a))) ≡ target_steps (project_in n) id change names

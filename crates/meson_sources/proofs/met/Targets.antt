@@ -9,6 +9,7 @@ use Rattle.meson_sources.proofs.Words.{Call, kept_number, keyword, Numbered, num
 use Rattle.meson_sources.proofs.Words.{the_call, AreParsed, Loaded, project, kwargs_key, rest, sources_key, child, Placed, Project, CallRef, both_expanded}
 use Rattle.meson_sources.proofs.Words.{expand, Expansion, fixed, in_list, is_files, max_followed, Slot, Stand, expand_arguments, hidden, items, source_marks}
 use Rattle.meson_sources.proofs.Words.{extra_key, extra_marks}
+use Rattle.meson_calls.specs.Project.{expression_at}
 use Rattle.meson_sources.proofs.gone.Named.{every_weaker}
 use Rattle.meson_sources.proofs.gone.Spots.{Pairwise, all_pairs}
 use Rattle.meson_sources.proofs.met.Once.{expand_once}
@@ -191,6 +192,27 @@ files_stand old are id c found =
     let no_list = target_no_files t.it.name.text (listing t.it.brackets t.it.trailing t.it.arguments) t.is_target in
     let levels = parsed_level old.files old.parsed are in
     subst (FilesStand p) t.is (record { sources = sources_there p levels c.place t.it no_list; extras = extras_there p levels c.place t.it no_list })
+
+-- The arguments of a target without a name, and those of its sources.
+pub record ArgumentsStand (p : Project Span) (c : Placed (Call Span)) : Type 0 where
+  pub without_name : Every (λ a. ElementAt p c.place a.number a.value) (positional c.it)
+  pub of_sources : Every (λ a. expression_at p (child c.place a.number) ≡ Some a.value) (keyword sources_key c.it)
+
+pub arguments_stand : (old : Loaded) → AreParsed old.files old.parsed → (id : CallName) (c : Placed (Call Span)) → the_call (project old) role.Target id ≡ Ok c
+    → ArgumentsStand (project old) c
+arguments_stand old are id c found =
+    let p = project old in
+    let t = target_at p id c found in
+    let no_list = target_no_files t.it.name.text (listing t.it.brackets t.it.trailing t.it.arguments) t.is_target in
+    let levels = parsed_level old.files old.parsed are in
+    let kept = KeptAt p levels c.place t.it no_list in
+    subst (ArgumentsStand p) t.is
+    (record {
+      without_name = every_weaker (kept value_without_name (in_list c.place)) (λ a. ElementAt p c.place a.number a.value) (λ a k. k.stands) (positional (called t.it).it)
+          (positional_at p levels c.place t.it no_list);
+      of_sources = every_weaker (kept (value_with_name sources_key) (λ n. fixed)) (λ a. expression_at p (child c.place a.number) ≡ Some a.value) (λ a k. k.stands.is_at)
+          (keyword sources_key (called t.it).it) (keyword_at p levels c.place t.it no_list sources_key);
+    })
 
 pub items-are-met-once : ItemsAreMetOnce
 items-are-met-once old is id c found =

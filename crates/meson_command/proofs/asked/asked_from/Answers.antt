@@ -27,7 +27,7 @@ returns-in_err-action-clause-refused c =
     let p = err_from_is_err_and c.from_residual-in_err-action.result c.from_residual-in_err-action.ensures.1 in
     rw (p.1, p.2) (λ n.
     refuses _ _ _ _ _ (entered_by (out-ArgMatches m).subcommand _ _ c.in-Some.ensures.name c.in-Some.ensures.rows)
-    (sym (ap names_no_folder dir) ∙ c.in_ok-dir.ensures.ok.0) (within _ _ _ _ _ _ _ folders c.reading_in-reading.ensures (c.in_err-action.ensures.refused n)))
+    (sym (ap names_no_folder dir) ∙ c.in_ok-dir.ensures.ok.0) (within _ _ _ _ _ _ _ folders c.follow_in-follow.ensures (c.in_err-action.ensures.refused n)))
 
 pub returns-clause-ok : goal.returns-clause-ok
 returns-clause-ok c =
@@ -42,7 +42,7 @@ returns-clause-ok c =
     let read = c.in_ok-titled.ensures.read in
     rw read (
     asks _ _ _ _ _ _ _ _ _ (entered_by (out-ArgMatches m).subcommand _ _ c.in-Some.ensures.name c.in-Some.ensures.rows)
-    (sym (ap names_no_folder dir) ∙ c.in_ok-dir.ensures.ok.0) (c.in_ok-dir.ensures.ok.1 ∙ dir) (within _ _ _ _ _ _ _ folders c.reading_in-reading.ensures c.in_ok-action.ensures.ok)
+    (sym (ap names_no_folder dir) ∙ c.in_ok-dir.ensures.ok.0) (c.in_ok-dir.ensures.ok.1 ∙ dir) (within _ _ _ _ _ _ _ folders c.follow_in-follow.ensures c.in_ok-action.ensures.ok)
     (sym fit ∙ texts.0) (texts.1 ∙ file) (subst (λ t. is_title t ≡ true) same title.0) same c.flags_in-flags.ensures
     )
 
@@ -57,7 +57,7 @@ returns-in_err-texts-clause-refused c =
     rw (p.1, p.2) (λ n.
     let refused = c.in_err-texts.ensures.refused n in
     refuses_texts _ _ _ _ _ (entered_by (out-ArgMatches m).subcommand _ _ c.in-Some.ensures.name c.in-Some.ensures.rows)
-    (sym (ap names_no_folder dir) ∙ c.in_ok-dir.ensures.ok.0) (within _ _ _ _ _ _ _ folders c.reading_in-reading.ensures c.in_ok-action.ensures.ok) (sym fit ∙ refused.1) ∙ ap (λ (u : UsageFault). Err u) (sym refused.0))
+    (sym (ap names_no_folder dir) ∙ c.in_ok-dir.ensures.ok.0) (within _ _ _ _ _ _ _ folders c.follow_in-follow.ensures c.in_ok-action.ensures.ok) (sym fit ∙ refused.1) ∙ ap (λ (u : UsageFault). Err u) (sym refused.0))
 
 pub returns-in_err-titled-clause-refused : goal.returns-in_err-titled-clause-refused
 returns-in_err-titled-clause-refused c =
@@ -70,5 +70,5 @@ returns-in_err-titled-clause-refused c =
     let fit = ap₂ (λ (t : Option (List ℕ)) (d : Bool). texts_fit c.in_ok-action.action t d) file (ap (λ (f : Flags). f.dry_run) c.flags_in-flags.ensures) in
     let refused = c.in_err-titled.ensures.refused n in
     refuses_title _ _ _ _ _ (entered_by (out-ArgMatches m).subcommand _ _ c.in-Some.ensures.name c.in-Some.ensures.rows)
-    (sym (ap names_no_folder dir) ∙ c.in_ok-dir.ensures.ok.0) (within _ _ _ _ _ _ _ folders c.reading_in-reading.ensures c.in_ok-action.ensures.ok) (sym fit ∙ c.in_ok-texts.ensures.ok.0)
+    (sym (ap names_no_folder dir) ∙ c.in_ok-dir.ensures.ok.0) (within _ _ _ _ _ _ _ folders c.follow_in-follow.ensures c.in_ok-action.ensures.ok) (sym fit ∙ c.in_ok-texts.ensures.ok.0)
     (sym (ap is_title c.word_or-word.ensures) ∙ refused.1) ∙ ap (λ (u : UsageFault). Err u) (sym refused.0))

@@ -20,7 +20,7 @@ returns c =
     ap (λ f. f.has_globals) c.disable_help_subcommand-bare.ensures ∙ ap (λ f. f.has_globals) c.disable_help_flag.ensures
     ∙ ap (λ f. f.has_globals) c.subcommand_required.ensures ∙ c.described.ensures.1 in
     let folders = c.with_option-program.ensures _ (c.with_short_option-program.ensures _ (bare_is, has_none)) in
-    let title = c.with_option-program-2.ensures _ (c.with_flag-program.ensures _ folders) in
+    let title = c.with_option-program-2.ensures _ (c.with_hidden_flag-program.ensures _ (c.with_flag-program.ensures _ folders)) in
     let answers = c.with_flag-program-4.ensures _ (c.with_flag-program-3.ensures _ (c.with_flag-program-2.ensures _ title)) in
     let flags = c.with_flag-program-6.ensures _ (c.with_flag-program-5.ensures _ answers) in
     let verbose = c.with_short_flag-program.ensures _ (c.with_option-program-3.ensures _ flags) in
