@@ -76,7 +76,7 @@ module _ (l : Loaded) where
     pub is_it : expression_at (project l) c ≡ Some it
     pub placed : Placed (plain_trees l) c (erase_expression it)
 
-  assigned_part : (q : places.Placed (Part Span)) (s : Span) (x : Name Span) (a : Assignment) (e : Expression Span) → InProject 0 p q → q.it ≡ part.a_statement (assign s x a e) → Value (child q.place 0)
+  pub assigned_part : (q : places.Placed (Part Span)) (s : Span) (x : Name Span) (a : Assignment) (e : Expression Span) → InProject 0 p q → q.it ≡ part.a_statement (assign s x a e) → Value (child q.place 0)
   assigned_part q s x a e i is =
       let t = i.file.tree in
       let path = q.place.path.steps in
@@ -99,20 +99,20 @@ module _ (l : Loaded) where
 
   -- ---- notes of assignments
 
-  abbrev IsAssignment : Note Span → Type 0
+  abbrev pub IsAssignment : Note Span → Type 0
   IsAssignment (an_assignment x sets e) = Unit {0}
   IsAssignment _ = ⊥
 
   -- the statement that is noted
-  record Noted (q : places.Placed (Part Span)) (n : places.Placed (Note Span)) : Type 0 where
-    is_place : q.place ≡ n.place
-    span : Span
-    variable : Name Span
-    sign : Assignment
-    value : Expression Span
-    is_statement : q.it ≡ part.a_statement (assign span variable sign value)
+  pub record Noted (q : places.Placed (Part Span)) (n : places.Placed (Note Span)) : Type 0 where
+    pub is_place : q.place ≡ n.place
+    pub span : Span
+    pub variable : Name Span
+    pub sign : Assignment
+    pub value : Expression Span
+    pub is_statement : q.it ≡ part.a_statement (assign span variable sign value)
 
-  noted_part : (q : places.Placed (Part Span)) (n : places.Placed (Note Span)) → chosen note_of q ≡ Some n → IsAssignment n.it → Noted q n
+  pub noted_part : (q : places.Placed (Part Span)) (n : places.Placed (Note Span)) → chosen note_of q ≡ Some n → IsAssignment n.it → Noted q n
   noted_part q n gives is =
       let m = map-some (places.placed q.place) (note_of q.it) n gives in
       go q.it refl m.0 m.1 (subst IsAssignment (sym (ap (λ (k : places.Placed (Note Span)). k.it) m.2)) is)
@@ -134,7 +134,7 @@ module _ (l : Loaded) where
       go (part.a_statement (breaks s)) same k h one = let none : None ≡ Some k = sym (ap note_of same) ∙ h in absurd cc
       go (part.a_statement (continues s)) same k h one = let none : None ≡ Some k = sym (ap note_of same) ∙ h in absurd cc
 
-  note_value : (n : places.Placed (Note Span)) → Among (notes p) n → IsAssignment n.it → Value (child n.place 0)
+  pub note_value : (n : places.Placed (Note Span)) → Among (notes p) n → IsAssignment n.it → Value (child n.place 0)
   note_value n among is =
       let g = given_by (chosen note_of) (parts p) n among in
       let k = noted_part g.of n g.gives is in
@@ -142,7 +142,7 @@ module _ (l : Loaded) where
 
   -- ---- they are apart
 
-  abbrev NotesApart : places.Placed (Note Span) → places.Placed (Note Span) → Type 0
+  abbrev pub NotesApart : places.Placed (Note Span) → places.Placed (Note Span) → Type 0
   NotesApart n m = IsAssignment n.it → IsAssignment m.it → Apart (address n.place) (address m.place)
 
   noted_apart : (q r : places.Placed (Part Span)) (n m : places.Placed (Note Span)) → chosen note_of q ≡ Some n → chosen note_of r ≡ Some m → BothApart q r → NotesApart n m
@@ -152,10 +152,10 @@ module _ (l : Loaded) where
       subst (λ c. Apart (address c) (address m.place)) k.is_place
       (subst (λ c. Apart (address q.place) (address c)) j.is_place (apart (subst Assigns (sym k.is_statement) tt) (subst Assigns (sym j.is_statement) tt)))
 
-  notes_apart : Pairs NotesApart (notes p)
+  pub notes_apart : Pairs NotesApart (notes p)
   notes_apart = pairs_mapped (chosen note_of) BothApart NotesApart noted_apart (parts p) (assignments_apart p)
 
-  values_apart : (c d : CallRef) → Apart (address c) (address d) → PlacesApart (child c 0) (child d 0)
+  pub values_apart : (c d : CallRef) → Apart (address c) (address d) → PlacesApart (child c 0) (child d 0)
   values_apart c d (inl other) = inl other
   values_apart c d (inr h) = inr (subst (λ a. Apart a (above (child d 0).path.steps)) (sym (above_child c.path.steps 0)) (subst (Apart c.path.steps) (sym (above_child d.path.steps 0)) h.1))
 
@@ -191,7 +191,7 @@ module _ (l : Loaded) where
       subst (λ k. PlacesApart k d) a.is_place (subst (PlacesApart (child n.place 0)) b.is_place (values_apart n.place m.place (apart (assigns_it n c a) (assigns_it m d b)))))
       (notes p) notes_apart
 
-  apart_two : {X : Type 0} (R : X → X → Type 0) (xs : List X) (x y : X) → Pairs R xs → Among xs x → Among xs y → (x ≡ y) ⊎ (R x y ⊎ R y x)
+  pub apart_two : {X : Type 0} (R : X → X → Type 0) (xs : List X) (x y : X) → Pairs R xs → Among xs x → Among xs y → (x ≡ y) ⊎ (R x y ⊎ R y x)
   apart_two R [] x y pairs one other = absurd one
   apart_two R (z ∷ zs) x y pairs (inl same) (inl equal) = inl (sym same ∙ equal)
   apart_two R (z ∷ zs) x y pairs (inl same) (inr later) = inr (inl (subst (λ w. R w y) same (every_among (R z) zs y pairs.0 later)))
@@ -225,7 +225,7 @@ module _ (l : Loaded) where
       let b = added_note x g.of d g.gives in
       subst Value b.is_place (note_value g.of g.is_among (assigns_it g.of d b))
 
-  every_if : {X : Type 0} (P : X → Type 0) (xs : List X) → ((x : X) → Among xs x → P x) → Every P xs
+  pub every_if : {X : Type 0} (P : X → Type 0) (xs : List X) → ((x : X) → Among xs x → P x) → Every P xs
   every_if P [] all = tt
   every_if P (x ∷ xs) all = (all x (inl refl), every_if P xs (λ y m. all y (inr m)))
 

@@ -62,7 +62,7 @@ key_of p e here (key ∷ keys) all text s h = go (number_in key e) h (λ n c i. 
     go (Ok None) i rest = absent keys i
     go (Ok (Some n)) i rest = below n (nth_child 0 (elements_in e) n) i rest
 
-key_is_text : (old : Loaded) (c : CallRef) (keys : List (List ℕ)) → All IsUtf8 keys → (s : Slot) → the_slot (project old) c keys ≡ Ok s → KeyIsText s
+pub key_is_text : (old : Loaded) (c : CallRef) (keys : List (List ℕ)) → All IsUtf8 keys → (s : Slot) → the_slot (project old) c keys ≡ Ok s → KeyIsText s
 key_is_text old c keys all s h = go (expression_at (project old) c) h
   where
     go : (o : Option (Expression Span)) → slot_from c keys o ≡ Ok s → KeyIsText s
@@ -71,7 +71,7 @@ key_is_text old c keys all s h = go (expression_at (project old) c) h
 
 -- ---- the law
 
-slot_doable : (old : Loaded) → IsProject old → (key : List ℕ) (c : ValueChange) (may : MayBeMade c) (s : Slot) → SlotIsThere (project old) s → KeyIsText s → (steps : List Step) → slot_steps old key c may s ≡ Ok steps
+pub slot_doable : (old : Loaded) → IsProject old → (key : List ℕ) (c : ValueChange) (may : MayBeMade c) (s : Slot) → SlotIsThere (project old) s → KeyIsText s → (steps : List Step) → slot_steps old key c may s ≡ Ok steps
     → AreDoable steps (plain_trees old)
 slot_doable old is key (change.Set g) may s there text steps made = set_within_doable old is g may key s text steps made
 slot_doable old is key (change.SetAll gs) may s there text steps made = set_all_steps_doable old is gs may key s steps (λ h. set_all_doable old is gs may key s text steps h) made
@@ -108,7 +108,7 @@ module _ (old : Loaded) (is : IsProject old) (n : ValueName) (key : List ℕ) (s
       go None found h = alone h
       go (Some cs) found h = all cs found h
 
-  changed_doable : (c : ValueChange) (may : MayBeMade c) (one : Result (List Step) Refusal) → (one ≡ Ok steps → AreDoable steps (plain_trees old)) → changed_by old n key c may s one ≡ Ok steps → AreDoable steps (plain_trees old)
+  pub changed_doable : (c : ValueChange) (may : MayBeMade c) (one : Result (List Step) Refusal) → (one ≡ Ok steps → AreDoable steps (plain_trees old)) → changed_by old n key c may s one ≡ Ok steps → AreDoable steps (plain_trees old)
   changed_doable (change.Remove gs) may one alone made =
       removed_of gs one (AreDoable steps (plain_trees old)) alone (λ cs found h. each_removed_doable old is gs key cs steps h (all_there old n s named gs cs found)) made
   changed_doable (change.Replace was new) may one alone made =

@@ -1,11 +1,11 @@
-mod AllMade
-mod AllPlaced
+pub mod AllMade
+pub mod AllPlaced
 mod AmongSteps
-mod Apart
-mod AssignedPlaced
-mod EachMade
+pub mod Apart
+pub mod AssignedPlaced
+pub mod EachMade
 mod AddedValues
-mod ArgumentsDoable
+pub mod ArgumentsDoable
 mod Around
 mod BetweenDoable
 mod BetweenLeft
@@ -20,7 +20,7 @@ mod ArrayWritten
 mod DepthTexts
 mod ElementsEdited
 mod ElementsLeft
-mod Found
+pub mod Found
 mod Frames
 mod FreshValues
 mod GivenWritten
@@ -35,25 +35,25 @@ mod ListsEdited
 mod ListsThere
 mod LoneValues
 mod Marks
-mod Meant
+pub mod Meant
 mod NewElementsDoable
 mod Numbers
 pub mod OneMeaning
 mod OnLines
-mod OwnAssigned
-mod OwnOperands
-mod OwnValues
+pub mod OwnAssigned
+pub mod OwnOperands
+pub mod OwnValues
 mod Pushed
-mod Refused
+pub mod Refused
 mod RoomFound
 mod SaidDoable
-mod SaidLeft
+pub mod SaidLeft
 mod SaidSteps
 mod SetValues
 mod SeveralDoable
 mod SlotSteps
-mod SlotsDoable
-mod SlotsThere
+pub mod SlotsDoable
+pub mod SlotsThere
 pub mod Standing
 mod ValueListsThere
 mod ValuesEdited

@@ -226,7 +226,7 @@ module _ (l : Loaded) (is : IsProject l) (gs : List Given) (may : AllMayBeGiven 
         added = sorted_value otherwise c e (AssignedBeside l gs may c e (plain_trees l) after) at_ (added_of e at_) m;
       }
 
-slot_left : (l : Loaded) → IsProject l → (key : List ℕ) (c : ValueChange) (may : MayBeMade c) (s : Slot) (steps : List Step) (after : List Plain) → slot_steps l key c may s ≡ Ok steps
+pub slot_left : (l : Loaded) → IsProject l → (key : List ℕ) (c : ValueChange) (may : MayBeMade c) (s : Slot) (steps : List Step) (after : List Plain) → slot_steps l key c may s ≡ Ok steps
     → all_stepped steps (plain_trees l) ≡ Some after → SlotLeft l c s (plain_trees l) after
 slot_left l is key (change.Set g) may (slot.Element list n) steps after made done = set_left l g may key list n steps after made done
 slot_left l is key (change.Set g) may (slot.Absent list k) steps after made done = record { may = may; added = key_set l g may key list k steps after made done }
@@ -256,15 +256,15 @@ slot_left l is key change.Delete may (slot.Whole p) steps after made done = tt
 
 -- of one value, or of all that are assigned to a variable
 module _ (l : Loaded) (is : IsProject l) (n : ValueName) (key : List ℕ) (s : Slot) (named : IsNamed l n s) (steps : List Step) (after : List Plain) (done : all_stepped steps (plain_trees l) ≡ Some after) where
-  one_left : (c : ValueChange) (may : MayBeMade c) → one_changed l n key c may s ≡ Ok steps → OneChanged l n s c (plain_trees l) after
+  pub one_left : (c : ValueChange) (may : MayBeMade c) → one_changed l n key c may s ≡ Ok steps → OneChanged l n s c (plain_trees l) after
   one_left c may made =
       let t = ok_then (changed_slot l.files (project l) n c s) (slot_steps l key c may) steps made in
       record { changed = t.0; is_changed = changes_one_value l n c s t.0 t.1; left = slot_left l is key c may t.0 steps after t.2 done }
 
-  abbrev Left : ValueChange → Type 0
+  abbrev pub Left : ValueChange → Type 0
   Left c = OneChanged l n s c (plain_trees l) after ⊎ AllChanged l n s c (plain_trees l) after
 
-  changed_left : (c : ValueChange) (may : MayBeMade c) → changed_steps l n key c may s ≡ Ok steps → Left c
+  pub changed_left : (c : ValueChange) (may : MayBeMade c) → changed_steps l n key c may s ≡ Ok steps → Left c
   changed_left (change.Remove gs) may made =
       removed_of l is n key s named steps gs (one_changed l n key (change.Remove gs) may s) (Left (change.Remove gs)) (λ h. inl (one_left (change.Remove gs) may h))
       (λ cs found h. inr (record { values = cs; are = found; left = each_removed l is gs key cs steps h (all_there l n s named gs cs found) after done })) made

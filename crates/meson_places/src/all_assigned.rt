@@ -43,8 +43,11 @@ fn says_by(
     lists_say(alloc, source, given, lists)
 }
 
-/// The same of the value at a place.
-pub(crate) fn said_at(
+/// Whether the value at a place says another one: an element of its lists does, or the value itself, where it has no list.
+///
+/// # Errors
+/// Out of memory.
+pub fn said_at(
     alloc: Global,
     sources: Sources<'_>,
     given: &Given,
@@ -63,7 +66,10 @@ pub(crate) fn said_at(
 }
 
 /// Whether one of the values at some places says another one.
-pub(crate) fn said_among(
+///
+/// # Errors
+/// Out of memory.
+pub fn said_among(
     alloc: Global,
     sources: Sources<'_>,
     places: &[CallRef],
@@ -81,7 +87,10 @@ pub(crate) fn said_among(
 }
 
 /// Whether each of some values is said by one of the values at some places.
-pub(crate) fn all_said(
+///
+/// # Errors
+/// Out of memory.
+pub fn all_said(
     alloc: Global,
     sources: Sources<'_>,
     places: &[CallRef],

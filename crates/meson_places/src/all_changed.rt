@@ -79,7 +79,7 @@ fn edit_each(
 ///
 /// # Errors
 /// Nothing says one of the values, or a value without a list says one of them; or out of memory.
-fn remove_each(
+pub fn remove_each(
     alloc: Global,
     sources: Sources<'_>,
     values: &[Given],
@@ -125,11 +125,11 @@ fn replace_among(
     Ok(steps)
 }
 
-/// The same, where none of these values says the new one.
+/// The steps that replace what says a value, in those of the values at some places that say it. None of these values may say the new one.
 ///
 /// # Errors
-/// One does, or the faults of `replace_among`.
-fn replace_each(
+/// One does; a value that says the old one can't become the new one; or out of memory.
+pub fn replace_each(
     alloc: Global,
     sources: Sources<'_>,
     pair: Pair<'_>,

@@ -60,8 +60,8 @@ fn reads_all(values: &[Given])
     }
 }
 
-/// The same for the values that a change writes.
-fn reads_change(change: &ValueChange)
+/// Does nothing. That the values which a change writes may be given is true of each; this tells it to callers.
+pub fn reads_change(change: &ValueChange)
     ensures { MayBeMade change.now }
 {
     match change {
@@ -76,7 +76,10 @@ fn reads_change(change: &ValueChange)
 }
 
 /// The key that a refusal names: the last one, or `.` without keys.
-pub(crate) fn last_key(alloc: Global, keys: &[Text]) -> Result<Text, AllocError>
+///
+/// # Errors
+/// Out of memory.
+pub fn last_key(alloc: Global, keys: &[Text]) -> Result<Text, AllocError>
     ensures last { IfOk result (λ key. key ≡ last_key keys.now) }
     ensures texts { All IsUtf8 keys.now }
 {
@@ -131,8 +134,8 @@ fn set_within(
 /// The steps that change the value of a slot.
 ///
 /// # Errors
-/// The faults of `set_within`, `set_all_steps`, `added_steps`, `insert_steps`, `sorted_steps`, `remove_steps`, `replace_steps` or `delete_steps`.
-fn slot_steps(
+/// The change does not suit the value of the slot, the file would nest too deep, or out of memory.
+pub fn slot_steps(
     alloc: Global,
     sources: Sources<'_>,
     key: &Text,
@@ -211,11 +214,12 @@ fn all_changed(
     }
 }
 
-/// The steps that change all values that are assigned to the variable that is named, or one value.
+/// The steps that change the value of a slot that a name names: all values that are assigned to the variable that is named, or one value.
 ///
 /// # Errors
-/// The faults of `all_changed` or `one_changed`.
-fn changed_steps(
+/// Another file adds to the variable that is named; the value is that of a variable which something else reads; the change does not suit the value; the file
+/// would nest too deep; or out of memory.
+pub fn changed_steps(
     alloc: Global,
     sources: Sources<'_>,
     name: &ValueName,

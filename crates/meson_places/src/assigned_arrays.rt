@@ -205,8 +205,9 @@ fn assign_beside(
 /// not say.
 ///
 /// # Errors
-/// The array is on several lines, the file would nest too deep, or the faults of `add_steps`.
-pub(crate) fn added_steps(
+/// The slot is absent and its key is no name; the value has no list, and is no literal and no identifier; the array is on several lines; the file would nest too
+/// deep; or out of memory.
+pub fn added_steps(
     alloc: Global,
     sources: Sources<'_>,
     values: &[Given],

@@ -161,10 +161,7 @@ pub(crate) fn others_of(
 }
 
 /// The name of the variable whose whole value is named, and the place of what `=` assigns.
-pub(crate) fn whole_variable<'n>(
-    name: &'n ValueName,
-    slot: &'n Slot,
-) -> Option<(&'n Text, &'n CallRef)>
+pub fn whole_variable<'n>(name: &'n ValueName, slot: &'n Slot) -> Option<(&'n Text, &'n CallRef)>
     ensures { option_map (λ v. (v.0.now, v.1.now)) result ≡ whole_variable name.entry.now.place.name name.entry.now.keys slot.entry.now }
 {
     if !name.keys.get().is_empty() {

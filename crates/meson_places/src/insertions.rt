@@ -41,7 +41,7 @@ pub(crate) struct Mark {
 
 /// Values, and the one after which they are put.
 #[derive(Clone, Copy)]
-pub(crate) struct Insertion<'v> {
+pub struct Insertion<'v> {
     pub after: &'v Given,
     pub values: &'v [Given],
 }
@@ -165,7 +165,7 @@ fn insert_into(
 ///
 /// # Errors
 /// The slot is absent, or no element says the value; the value has no list; the file would nest too deep; or out of memory.
-pub(crate) fn insert_steps(
+pub fn insert_steps(
     alloc: Global,
     sources: Sources<'_>,
     new: Insertion<'_>,

@@ -16,7 +16,7 @@ use std::alloc::{AllocError, Global};
 
 /// What says values already.
 #[derive(Clone, Copy)]
-pub(crate) enum Known<'t> {
+pub enum Known<'t> {
     /// The elements of lists.
     Lists(&'t [FoundList<'t>]),
     /// A lone value.
@@ -105,7 +105,10 @@ pub(crate) fn are_known(
 }
 
 /// Whether one of some values is said.
-pub(crate) fn any_known(
+///
+/// # Errors
+/// Out of memory.
+pub fn any_known(
     alloc: Global,
     source: &[u8],
     known: Known<'_>,

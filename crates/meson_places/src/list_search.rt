@@ -15,11 +15,10 @@ use meson_steps::given::Given;
 use std::alloc::{AllocError, Global};
 
 /// Whether the value at a place has a list.
-pub(crate) fn has_lists(
-    alloc: Global,
-    sources: Sources<'_>,
-    place: &CallRef,
-) -> Result<bool, AllocError>
+///
+/// # Errors
+/// Out of memory.
+pub fn has_lists(alloc: Global, sources: Sources<'_>, place: &CallRef) -> Result<bool, AllocError>
     requires { AreParsed sources.files.now sources.trees.now }
     ensures { IfOk result (λ b. b ≡ has_lists (project (loaded_in sources.entry)) place.now) }
 {
@@ -27,7 +26,10 @@ pub(crate) fn has_lists(
 }
 
 /// Whether elements of the lists of the value at a place say each of some values.
-pub(crate) fn says_all_at(
+///
+/// # Errors
+/// Out of memory.
+pub fn says_all_at(
     alloc: Global,
     sources: Sources<'_>,
     values: &[Given],
@@ -63,7 +65,10 @@ pub(crate) fn first_list(
 }
 
 /// The first of some places whose value has all of some values.
-pub(crate) fn first_with_all(
+///
+/// # Errors
+/// Out of memory.
+pub fn first_with_all(
     alloc: Global,
     sources: Sources<'_>,
     values: &[Given],

@@ -18,7 +18,10 @@ use meson_steps::argument::ValueName;
 use std::alloc::{AllocError, Global};
 
 /// The place of the value of a slot, if a value is there.
-pub(crate) fn slot_place(
+///
+/// # Errors
+/// Out of memory.
+pub fn slot_place(
     alloc: Global,
     sources: Sources<'_>,
     slot: &Slot,

@@ -57,7 +57,10 @@ fn first_children(alloc: Global, place: &CallRef, many: usize) -> Result<Vec<Cal
 }
 
 /// The places of the operands of the sum at a place, from left to right.
-fn operands_at(
+///
+/// # Errors
+/// Out of memory.
+pub fn operands_at(
     alloc: Global,
     sources: Sources<'_>,
     place: &CallRef,
@@ -140,7 +143,10 @@ fn last_place(alloc: Global, places: &[CallRef]) -> Result<Option<CallRef>, Allo
 }
 
 /// The first of some places whose value has all of some values; else the last place.
-fn gaining_among(
+///
+/// # Errors
+/// Out of memory.
+pub fn gaining_among(
     alloc: Global,
     sources: Sources<'_>,
     values: &[Given],

@@ -193,7 +193,7 @@ fn remove_whole(
 ///
 /// # Errors
 /// The slot is absent, or nothing says one of the values; the value has no list and is another expression, or an assigned one that says them; or out of memory.
-pub(crate) fn remove_steps(
+pub fn remove_steps(
     alloc: Global,
     sources: Sources<'_>,
     values: &[Given],

@@ -40,7 +40,7 @@ use std::slice;
 
 /// A value that is sought, and the one that takes its place.
 #[derive(Clone, Copy)]
-pub(crate) struct Pair<'v> {
+pub struct Pair<'v> {
     pub old: &'v Given,
     pub new: &'v Given,
 }
@@ -298,7 +298,7 @@ pub(crate) fn replace_whole(
 /// # Errors
 /// The slot is absent, nothing says the old value, or something says the new one; the value has no list and is another expression; the new value of an
 /// assignment is code of more than one line; the file would nest too deep; or out of memory.
-pub(crate) fn replace_steps(
+pub fn replace_steps(
     alloc: Global,
     sources: Sources<'_>,
     pair: Pair<'_>,

@@ -167,8 +167,8 @@ fn sort_into_slot(
 /// The steps that put values in their places in the last list of the value of a slot. Where it has no list, they are added as without an order.
 ///
 /// # Errors
-/// The file would nest too deep, or the faults of `added_steps`.
-pub(crate) fn sorted_steps(
+/// The faults of `added_steps`.
+pub fn sorted_steps(
     alloc: Global,
     sources: Sources<'_>,
     values: &[Given],

@@ -31,7 +31,7 @@ fn is_first(key: &str) -> bool
 }
 
 /// Whether two places are the same.
-pub(crate) fn is_same(one: &CallRef, other: &CallRef) -> bool
+pub fn is_same(one: &CallRef, other: &CallRef) -> bool
     ensures { result ≡ is_same one.now other.now }
 {
     one.file == other.file && one.path.steps.get() == other.path.steps.get()
@@ -112,7 +112,7 @@ fn checked_given(
 ///
 /// # Errors
 /// It does, or out of memory.
-pub(crate) fn checked_name(
+pub fn checked_name(
     alloc: Global,
     sources: Sources<'_>,
     key: &Text,

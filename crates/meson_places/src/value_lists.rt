@@ -22,7 +22,7 @@ use std::alloc::{AllocError, Global};
 
 /// A list that is there: the place of its array or call, and its elements.
 #[derive(Drop)]
-pub(crate) struct FoundList<'t> {
+pub struct FoundList<'t> {
     pub place: CallRef,
     pub elements: &'t [Arg],
 }
@@ -151,7 +151,10 @@ fn lone_list<'t>(
 }
 
 /// The lists of the expression at a place, from left to right.
-pub(crate) fn lists_of<'t>(
+///
+/// # Errors
+/// Out of memory.
+pub fn lists_of<'t>(
     alloc: Global,
     source: &[u8],
     place: &CallRef,

@@ -35,7 +35,7 @@ use std::slice;
 
 /// A value that is there, and the source of its file.
 #[derive(Clone, Copy)]
-pub(crate) struct FoundValue<'t> {
+pub struct FoundValue<'t> {
     pub source: &'t [u8],
     pub value: &'t Expr,
 }
@@ -48,8 +48,8 @@ pub(crate) struct Variable<'t> {
     pub value_at: CallRef,
 }
 
-/// The value at a place.
-pub(crate) fn find_value<'p>(sources: Sources<'p>, place: &CallRef) -> Option<FoundValue<'p>>
+/// The value at a place. `None` if nothing is there.
+pub fn find_value<'p>(sources: Sources<'p>, place: &CallRef) -> Option<FoundValue<'p>>
     requires { AreParsed sources.files.now sources.trees.now }
     ensures found { option_map found_value result ≡ expression_at (project (loaded_in sources.entry)) place.now }
     ensures good { MatchOption result (Unit {0}) (IsFoundAt sources.entry.files.now place.now) }
@@ -172,7 +172,10 @@ pub(crate) fn lists_at<'p>(
 }
 
 /// Whether an element of the lists of the value at a place says one of some values.
-pub(crate) fn says_one_at(
+///
+/// # Errors
+/// Out of memory.
+pub fn says_one_at(
     alloc: Global,
     sources: Sources<'_>,
     values: &[Given],

@@ -1,0 +1,10 @@
+pub mod Places
+pub mod AssignedMakers
+pub mod EachOnce
+pub mod Owned
+pub mod OwnedSteps
+pub mod Gathered
+pub mod FollowedSteps
+pub mod AllThere
+pub mod Changed
+pub mod PlainValues
