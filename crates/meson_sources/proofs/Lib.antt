@@ -13,7 +13,7 @@ pub mod trees
 pub mod met
 pub mod gone
 pub mod added
-mod renamed
+pub mod renamed
 mod LoneTokens
 mod sorted
 pub mod commands

@@ -1,0 +1,14 @@
+pub mod Values
+pub mod States
+pub mod Expressions
+pub mod Running
+pub mod Evaluations
+pub mod Without
+pub mod Placing
+pub mod Spots
+pub mod Subdirs
+pub mod Leaving
+pub mod Laws
+pub mod Removals
+pub mod Followed
+pub mod Written
