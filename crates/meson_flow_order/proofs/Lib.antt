@@ -1,0 +1,11 @@
+pub mod Among
+pub mod Once
+pub mod Below
+pub mod Steps
+pub mod KeptFlows
+pub mod Turns
+pub mod KeptOrder
+pub mod ReadsAbove
+pub mod Rows
+pub mod Standing
+pub mod AddAlike

@@ -1,0 +1,4 @@
+pub mod Order
+pub mod Laws
+pub mod Rows
+pub mod Standing
