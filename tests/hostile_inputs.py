@@ -66,7 +66,7 @@ PAIRS = [["version", "1.0"], ["license", "GPL"], ["install", "false"], ["c_args"
 
 def follows(words):
     """The forms of `--follow` that may stand before these words."""
-    if words[0] == "target" and words[2:3] in (["add"], ["rm"]):
+    if words[0] == "target" and words[2:3] in (["add"], ["rm"], ["rename"]):
         return ["--follow", "--follow=own", "--follow=shared"]
     is_listed = words[0] == "target" and words[2:3] == ["info"]
     return ["--follow", "--follow=own"] if is_listed or words[0] in ("list", "history", "undo", "redo", "command") else []
@@ -120,7 +120,7 @@ def command(rng):
         insertion(rng),
         removal(rng),
     ])
-    if entry.get("operation") in ("src_add", "src_rm") and rng.random() < 0.5:
+    if entry.get("operation") in ("src_add", "src_rm", "rename") and rng.random() < 0.5:
         entry["follow"] = rng.choice([True, True, "shared", False])
     if rng.random() < 0.1:
         entry[rng.choice([*entry, "follow"])] = value

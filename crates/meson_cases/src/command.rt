@@ -200,6 +200,16 @@ fn command_in(alloc: Global, folder: Option<&str>, words: &[&str]) -> Read {
     }
 }
 
+/// The change that gives a source another name.
+fn renaming(alloc: Global, words: &[&str]) -> Result<Option<SourceChange>, AllocError> {
+    let [old, new] = words else {
+        return Ok(None);
+    };
+    let old = text(alloc, old)?;
+    let new = text(alloc, new)?;
+    Ok(Some(SourceChange::Rename { old, new }))
+}
+
 /// What an operation does with the sources of a target where variables are followed.
 fn source_change(
     alloc: Global,
@@ -209,6 +219,7 @@ fn source_change(
     match operation {
         "add" => Ok(Some(SourceChange::Add(texts(alloc, words)?))),
         "rm" => Ok(Some(SourceChange::Remove(texts(alloc, words)?))),
+        "rename" => renaming(alloc, words),
         _ => Ok(None),
     }
 }

@@ -89,15 +89,15 @@ script-plain : (b : Bool) (word : Text) (unknown : UnknownMembers) → IsPlain (
 script-plain true word unknown = tt
 script-plain false word unknown = tt
 
-rename_action-plain : (folder : Option Text) (rows : List Row) → Answers IsPlain (rename_action folder rows)
+rename_action-plain : (folder : Option Text) (follow : Option SharedLists) (rows : List Row) → Answers IsPlain (rename_action folder follow rows)
 unfolding rename_action
-rename_action-plain folder rows = after _ _ (λ c. ok _ tt)
+rename_action-plain folder follow rows = after _ _ (λ c. ok _ tt)
 
 target_action-plain : (folder : Option Text) (follow : Option SharedLists) (rows : List Row) → Answers IsPlain (target_action folder follow rows)
 unfolding target_action
 target_action-plain folder follow rows =
     either (misplaces_sorted rows) _ _ (err Usage)
-    (either (bytes_eq (word_at (codes "OPERATION") rows) (codes "rename")) _ _ (rename_action-plain folder rows) (after _ _ (λ o. ok _ (target-plain o (target_words folder follow rows)))))
+    (either (bytes_eq (word_at (codes "OPERATION") rows) (codes "rename")) _ _ (rename_action-plain folder follow rows) (after _ _ (λ o. ok _ (target-plain o (target_words folder follow rows)))))
 
 kwargs_action-plain : (folder : Option Text) (rows : List Row) → Answers IsPlain (kwargs_action folder rows)
 unfolding kwargs_action

@@ -266,16 +266,17 @@ by_name false x y rest e k h n = n e k
 named : (name x : Text) → bytes_eq name x ≡ true → name ≡ x
 named name x e = (bytes_eq-Decides name x).0 e
 
-other_names : (target : CallName) (names : List Text) → renaming_of target names ≡ None → length names ≢ 2
-other_names target [] e = λ same. omega (arith, same)
-other_names target (a ∷ []) e = λ same. omega (arith, same)
-other_names target (a ∷ b ∷ []) e = cc
-other_names target (a ∷ b ∷ c ∷ more) e = λ same. omega (arith, same)
+other_names : (target : CallName) (names : List Text) (follow : Option SharedLists) → renaming_of target names follow ≡ None → length names ≢ 2
+other_names target [] follow e = λ same. omega (arith, same)
+other_names target (a ∷ []) follow e = λ same. omega (arith, same)
+other_names target (a ∷ b ∷ []) follow e = cc
+other_names target (a ∷ b ∷ c ∷ more) follow e = λ same. omega (arith, same)
 
-rename-unknown : (folder : Option Text) (rows : List Row) → rename_action folder rows ≡ Err Usage
-    → renaming_of (record { id = word_at (codes "ID") rows; folder = folder }) (words_at (codes "SOURCE") rows) ≡ None
+rename-unknown : (folder : Option Text) (follow : Option SharedLists) (rows : List Row) → rename_action folder follow rows ≡ Err Usage
+    → renaming_of (record { id = word_at (codes "ID") rows; folder = folder }) (words_at (codes "SOURCE") rows) follow ≡ None
 unfolding rename_action
-rename-unknown folder rows e = missing (renaming_of (record { id = word_at (codes "ID") rows; folder = folder }) (words_at (codes "SOURCE") rows)) _ (λ c x. cc) e
+rename-unknown folder follow rows e =
+    missing (renaming_of (record { id = word_at (codes "ID") rows; folder = folder }) (words_at (codes "SOURCE") rows) follow) _ (λ c x. cc) e
 
 misplaced : (given adds : Bool) → (given && not adds) ≡ true → (given ≡ true) × (adds ≡ false)
 misplaced true false e = (refl, refl)
@@ -287,13 +288,13 @@ unfolding target_action
 target-unknown folder follow rows e = by_sorted (misplaces_sorted rows) refl e
   where
     by_word : (b : Bool) → bytes_eq (word_at (codes "OPERATION") rows) (codes "rename") ≡ b
-        → (if b then rename_action folder rows
+        → (if b then rename_action folder follow rows
         else then_ok (ok_or (operation_of_word (word_at (codes "OPERATION") rows)) Usage) (λ o. Ok (target_by o (target_words folder follow rows)))) ≡ Err Usage → IsNoTarget rows
-    by_word true is e = inr (inl (named (word_at (codes "OPERATION") rows) (codes "rename") is, other_names _ (words_at (codes "SOURCE") rows) (rename-unknown folder rows e)))
+    by_word true is e = inr (inl (named (word_at (codes "OPERATION") rows) (codes "rename") is, other_names _ (words_at (codes "SOURCE") rows) follow (rename-unknown folder follow rows e)))
     by_word false is e = inl (another (word_at (codes "OPERATION") rows) (codes "rename") is, missing (operation_of_word (word_at (codes "OPERATION") rows)) _ (λ o x. cc) e)
 
     by_sorted : (b : Bool) → misplaces_sorted rows ≡ b
-        → (if b then Err Usage else (if bytes_eq (word_at (codes "OPERATION") rows) (codes "rename") then rename_action folder rows
+        → (if b then Err Usage else (if bytes_eq (word_at (codes "OPERATION") rows) (codes "rename") then rename_action folder follow rows
         else then_ok (ok_or (operation_of_word (word_at (codes "OPERATION") rows)) Usage) (λ o. Ok (target_by o (target_words folder follow rows))))) ≡ Err Usage → IsNoTarget rows
     by_sorted true is e =
         let both = misplaced (has_flag (codes "sorted") rows) (bytes_eq (word_at (codes "OPERATION") rows) (codes "add")) is in
@@ -427,19 +428,25 @@ both_false : (a b : Bool) → (a || b) ≡ false → (a ≡ false) × (b ≡ fal
 both_false true b e = cc
 both_false false b e = (refl, e)
 
-no-change : (name operation : Text) (t a r s : Bool) → bytes_eq name (codes "target") ≡ t → bytes_eq operation (codes "add") ≡ a → bytes_eq operation (codes "rm") ≡ r
-    → (sorted : Bool) → sorted ≡ s → (t && ((a || r) && not s)) ≡ false
-    → (name ≢ codes "target") ⊎ (((operation ≢ codes "add") × (operation ≢ codes "rm")) ⊎ (sorted ≡ true))
-no-change name operation false a r s is adds removes sorted at e = inl (another name (codes "target") is)
-no-change name operation true false false s is adds removes sorted at e =
-    inr (inl (another operation (codes "add") adds, another operation (codes "rm") removes))
-no-change name operation true true r true is adds removes sorted at e = inr (inr at)
-no-change name operation true true r false is adds removes sorted at e = cc
-no-change name operation true false true true is adds removes sorted at e = inr (inr at)
-no-change name operation true false true false is adds removes sorted at e = cc
+-- an operation that is not one of three
+no-operation : (operation : Text) → (bytes_eq operation (codes "add") || (bytes_eq operation (codes "rm") || bytes_eq operation (codes "rename"))) ≡ false
+    → (operation ≢ codes "add") × (operation ≢ codes "rm") × (operation ≢ codes "rename")
+no-operation operation e =
+    let added = both_false (bytes_eq operation (codes "add")) (bytes_eq operation (codes "rm") || bytes_eq operation (codes "rename")) e in
+    let rest = both_false (bytes_eq operation (codes "rm")) (bytes_eq operation (codes "rename")) added.1 in
+    (another operation (codes "add") added.0, another operation (codes "rm") rest.0, another operation (codes "rename") rest.1)
+
+no-change : (name operation : Text) (t o : Bool) → bytes_eq name (codes "target") ≡ t
+    → (bytes_eq operation (codes "add") || (bytes_eq operation (codes "rm") || bytes_eq operation (codes "rename"))) ≡ o
+    → (sorted : Bool) → (t && (o && not sorted)) ≡ false
+    → (name ≢ codes "target") ⊎ (((operation ≢ codes "add") × (operation ≢ codes "rm") × (operation ≢ codes "rename")) ⊎ (sorted ≡ true))
+no-change name operation false o is changes sorted e = inl (another name (codes "target") is)
+no-change name operation true false is changes sorted e = inr (inl (no-operation operation changes))
+no-change name operation true true is changes true e = inr (inr refl)
+no-change name operation true true is changes false e = cc
 
 changes-none : (name : Text) (rows : List Row) → changes_sources name rows ≡ false → ChangesNoSources name rows
-changes-none name rows e = no-change name (word_at (codes "OPERATION") rows) _ _ _ _ refl refl refl (has_flag (codes "sorted") rows) refl e
+changes-none name rows e = no-change name (word_at (codes "OPERATION") rows) _ _ refl refl (has_flag (codes "sorted") rows) e
 
 not-taken : (name : Text) (rows : List Row) → takes_follow name rows ≡ false → TakesNoFollow name rows
 not-taken name rows e =

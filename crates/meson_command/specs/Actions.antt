@@ -70,10 +70,11 @@ target_by operation members = run (target_command operation members)
 
 -- ---- target ID rename OLD NEW
 
--- the sources are the old name and the new one
-unfoldable pub rename_action : Option Text → List Row → Result Action UsageFault
-rename_action folder rows =
-    then_ok (ok_or (renaming_of (record { id = word_at (codes "ID") rows; folder = folder }) (words_at (codes "SOURCE") rows)) Usage) (λ command. Ok (run command))
+-- the sources are the old name and the new one; variables are followed so
+unfoldable pub rename_action : Option Text → Option SharedLists → List Row → Result Action UsageFault
+rename_action folder follow rows =
+    then_ok (ok_or (renaming_of (record { id = word_at (codes "ID") rows; folder = folder }) (words_at (codes "SOURCE") rows) follow) Usage)
+    (λ command. Ok (run command))
 
 -- ---- any words of target
 
@@ -84,7 +85,7 @@ misplaces_sorted rows = has_flag (codes "sorted") rows && not (bytes_eq (word_at
 unfoldable pub target_action : Option Text → Option SharedLists → List Row → Result Action UsageFault
 target_action folder follow rows =
     if misplaces_sorted rows then Err Usage
-    else (if bytes_eq (word_at (codes "OPERATION") rows) (codes "rename") then rename_action folder rows
+    else (if bytes_eq (word_at (codes "OPERATION") rows) (codes "rename") then rename_action folder follow rows
     else then_ok (ok_or (operation_of_word (word_at (codes "OPERATION") rows)) Usage) (λ operation.
     Ok (target_by operation (target_words folder follow rows))))
 

@@ -84,14 +84,15 @@ takes_folder subcommand rows =
     || ((bytes_eq subcommand (codes "target") && not (is_addition (operation_of_word (word_at (codes "OPERATION") rows))))
     || (bytes_eq subcommand (codes "code") && not (is_append (code_operation (word_at (codes "OPERATION") rows)))))
 
--- sources of a target are added or removed, and their order is not looked at
+-- sources of a target are added, removed or renamed, and their order is not looked at
 abbrev pub changes_sources : Text → List Row → Bool
 changes_sources subcommand rows =
     bytes_eq subcommand (codes "target")
-    && ((bytes_eq (word_at (codes "OPERATION") rows) (codes "add") || bytes_eq (word_at (codes "OPERATION") rows) (codes "rm"))
+    && ((bytes_eq (word_at (codes "OPERATION") rows) (codes "add") || (bytes_eq (word_at (codes "OPERATION") rows) (codes "rm")
+    || bytes_eq (word_at (codes "OPERATION") rows) (codes "rename")))
     && not (has_flag (codes "sorted") rows))
 
--- `--follow` goes with `target ID add` and `target ID rm` without `--sorted`, `target ID info`, `list`, `history`, `undo`, `redo` and `command`
+-- `--follow` goes with `target ID add`, `rm` and `rename` without `--sorted`, `target ID info`, `list`, `history`, `undo`, `redo` and `command`
 abbrev pub takes_follow : Text → List Row → Bool
 takes_follow subcommand rows =
     changes_sources subcommand rows
@@ -99,7 +100,7 @@ takes_follow subcommand rows =
     || (bytes_eq subcommand (codes "list") || (bytes_eq subcommand (codes "history") || (bytes_eq subcommand (codes "undo")
     || (bytes_eq subcommand (codes "redo") || bytes_eq subcommand (codes "command"))))))
 
--- it is given with other words; where shared lists are changed, it goes with the first two alone
+-- it is given with other words; where shared lists are changed, it goes with the first three alone
 abbrev pub misplaces_follow : Option SharedLists → Text → List Row → Bool
 misplaces_follow None subcommand rows = false
 misplaces_follow (Some Kept) subcommand rows = not (takes_follow subcommand rows)

@@ -143,11 +143,12 @@ IsUnknown subcommand rows =
 abbrev pub FolderIsMisused : List Row → Text → List Row → Type 0
 FolderIsMisused own subcommand rows = (is_some (first_of (codes "FOLDER") own) ≡ true) × (takes_folder subcommand rows ≡ false) × (subcommand ≢ codes "arg")
 
--- the words are not `target ID add` or `target ID rm`, or `--sorted` is among them
+-- the words are not `target ID add`, `rm` or `rename`, or `--sorted` is among them
 abbrev pub ChangesNoSources : Text → List Row → Type 0
 ChangesNoSources subcommand rows =
     (subcommand ≢ codes "target")
-    ⊎ (((word_at (codes "OPERATION") rows ≢ codes "add") × (word_at (codes "OPERATION") rows ≢ codes "rm")) ⊎ (has_flag (codes "sorted") rows ≡ true))
+    ⊎ (((word_at (codes "OPERATION") rows ≢ codes "add") × (word_at (codes "OPERATION") rows ≢ codes "rm")
+    × (word_at (codes "OPERATION") rows ≢ codes "rename")) ⊎ (has_flag (codes "sorted") rows ≡ true))
 
 -- nor are they `target ID info`, or those of `list`, `history`, `undo`, `redo` or `command`
 abbrev pub TakesNoFollow : Text → List Row → Type 0

@@ -46,7 +46,6 @@ Following =
     × asks (codes "--follow command [1]") (followed (ScriptText (codes "[1]") unknown.Ignored))
     × asks (codes "--dry-run --follow command -") (flagged (record following { dry_run = true }) (ScriptFile (codes "-") unknown.Ignored))
     × asks (codes "--json --follow list") (flagged (record following { json = true }) (action.List false))
-    × asks (codes "--follow target e rename a.c b.c") (Err Usage)
     × asks (codes "--follow target l add_target") (Err Usage)
     × asks (codes "--follow kwargs set target e install false") (Err Usage)
     × asks (codes "--follow kwargs info target e") (Err Usage)
@@ -89,7 +88,6 @@ FollowedSources =
     × asks (codes "--follow=shared undo") (Err Usage)
     × asks (codes "--follow=shared command -") (Err Usage)
     × asks (codes "--follow=shared arg add target e sources a.c") (Err Usage)
-    × asks (codes "--follow=shared target e rename a.c b.c") (Err Usage)
     × asks (codes "--follow target e add_extra_files x.h") (Err Usage)
     × asks (codes "--follow target e rm_target") (Err Usage)
     × asks (codes "--follow target e add --sorted a.c") (Err Usage)
@@ -103,3 +101,34 @@ FollowedSources =
     × asks (codes "--title --follow=shared target e add a.c") (Err Usage)
     × asks (codes "target --follow=shared e add a.c") (Err Usage)
     × asks (codes "target e add -- --follow=shared") (in_place (run (command.SourcesAdd (anywhere (codes "e")) (codes "--follow=shared" ∷ []))))
+
+-- a source is renamed so, too; the old name and the new one are given, and no other
+abbrev pub FollowedNames : Type 0
+FollowedNames =
+    asks (codes "--follow target e rename a.c b.c") (followed (run (command.FollowedSources (anywhere (codes "e")) (sources.Rename (codes "a.c") (codes "b.c")) Kept)))
+    × asks (codes "--follow=own target e rename a.c b.c")
+    (followed (run (command.FollowedSources (anywhere (codes "e")) (sources.Rename (codes "a.c") (codes "b.c")) Kept)))
+    × asks (codes "--follow=shared target e rename a.c b.c")
+    (followed (run (command.FollowedSources (anywhere (codes "e")) (sources.Rename (codes "a.c") (codes "b.c")) Changed)))
+    × asks (codes "--in s --follow tgt e rename a.c b.c")
+    (followed (run (command.FollowedSources (record { id = codes "e"; folder = Some (codes "s") }) (sources.Rename (codes "a.c") (codes "b.c")) Kept)))
+    × asks (codes "--follow=shared --in=s tgt e rename a.c b.c")
+    (followed (run (command.FollowedSources (record { id = codes "e"; folder = Some (codes "s") }) (sources.Rename (codes "a.c") (codes "b.c")) Changed)))
+    × asks (codes "--dry-run --title more --follow=shared --texts t target e rename a.c b.c")
+    (Ok (record {
+      dir = None;
+      title = codes "more";
+      flags = record following { dry_run = true };
+      texts = Some (codes "t");
+      action = run (command.FollowedSources (anywhere (codes "e")) (sources.Rename (codes "a.c") (codes "b.c")) Changed);
+    }))
+    × asks (codes "--follow target e rename -- -a.c --follow=shared")
+    (followed (run (command.FollowedSources (anywhere (codes "e")) (sources.Rename (codes "-a.c") (codes "--follow=shared")) Kept)))
+    × asks (codes "--follow target e rename a.c") (Err Usage)
+    × asks (codes "--follow=shared target e rename a.c b.c d.c") (Err Usage)
+    × asks (codes "--follow target e rename") (Err Usage)
+    × asks (codes "--follow target e rename --sorted a.c b.c") (Err Usage)
+    × asks (codes "--follow=shared target e rename a.c b.c --sorted") (Err Usage)
+    × asks (codes "--follow=all target e rename a.c b.c") (Err Usage)
+    × asks (codes "target e rename a.c b.c --follow") (Err Usage)
+    × asks (codes "target --follow=shared e rename a.c b.c") (Err Usage)

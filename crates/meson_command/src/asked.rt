@@ -361,11 +361,11 @@ fn asked_as(alloc: Global, words: &[&str]) -> Result<Asked, UsageFault>
 ///
 /// # Errors
 /// The first of these faults, in this order. A word is missing, unknown or one too many, a number or a place is not valid, two listings are requested or one
-/// of a function without a name, the folder is empty, `--follow` goes with other words than `target ID add` and `rm` without `--sorted`, `target ID info`,
-/// `list`, `history`, `undo`, `redo` and `command`, `--follow=shared` with others than the first two, or `--in` with words that take no folder. In words that
-/// are names with values, the last name has no value. A name is repeated. The operation is not done here. A value of `arg` is not code. Its values are more
-/// or fewer than its operation takes, or it does not take `--after` or `--sorted`. The code of `code` is not statements. Texts are named for what writes, or
-/// standard input would be read twice. The title is not valid. And out of memory, at any time.
+/// of a function without a name, the folder is empty, `--follow` goes with other words than `target ID add`, `rm` and `rename` without `--sorted`,
+/// `target ID info`, `list`, `history`, `undo`, `redo` and `command`, `--follow=shared` with others than the first three, or `--in` with words that take no
+/// folder. In words that are names with values, the last name has no value. A name is repeated. The operation is not done here. A value of `arg` is not code.
+/// Its values are more or fewer than its operation takes, or it does not take `--after` or `--sorted`. The code of `code` is not statements. Texts are named
+/// for what writes, or standard input would be read twice. The title is not valid. And out of memory, at any time.
 pub fn command_of(alloc: Global, words: &[String]) -> Result<Asked, UsageFault>
     ensures ok { IfOk result (λ a. asked_by (map string_bytes words.now) ≡ Ok (without_text a)) }
     ensures refused { IfErr result (λ e. e ≢ OutOfMemory → asked_by (map string_bytes words.now) ≡ Err e) }

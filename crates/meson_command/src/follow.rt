@@ -21,17 +21,18 @@ pub(crate) fn follow_in(matches: &ArgMatches<'_>) -> Option<SharedLists>
     }
 }
 
-/// Whether the words add sources to a target or remove some, and do not ask for an order.
+/// Whether the words add sources to a target, remove some or rename one, and do not ask for an order.
 fn changes_sources(subcommand: &str, matches: &ArgMatches<'_>) -> bool
     ensures { result ≡ changes_sources subcommand.now (rows_of (found_of matches.now)) }
 {
     let operation = word_or(matches, "OPERATION", "");
     subcommand == "target"
-        && (operation == "add" || operation == "rm")
+        && (operation == "add" || operation == "rm" || operation == "rename")
         && !is_set(matches, "sorted")
 }
 
-/// Whether `--follow` may stand before the words of a subcommand: `target ID add`, `rm` and `info`, `list`, `history`, `undo`, `redo` and `command` take it.
+/// Whether `--follow` may stand before the words of a subcommand: `target ID add`, `rm`, `rename` and `info`, `list`, `history`, `undo`, `redo` and `command`
+/// take it.
 fn takes_follow(subcommand: &str, matches: &ArgMatches<'_>) -> bool
     ensures { result ≡ takes_follow subcommand.now (rows_of (found_of matches.now)) }
 {

@@ -31,12 +31,13 @@ With target, kwargs, arg or code: search the build
 file of this folder alone";
 
 pub(crate) const FOLLOW: &str = "\
-With target ID add, rm and info, list, history, undo,
-redo and command: read the build files as Meson runs
-them, also in folders written as 'src/' or named in a
-loop; add, rm and info follow variables. --follow=own
-is the same; --follow=shared, with add and rm, changes
-also lists that are read for another target";
+With target ID add, rm, rename and info, list,
+history, undo, redo and command: read the build files
+as Meson runs them, also in folders written as 'src/'
+or named in a loop; add, rm, rename and info follow
+variables. --follow=own is the same; --follow=shared,
+with add, rm and rename, changes also lists that are
+read for another target";
 
 pub(crate) const DRY_RUN: &str = "Show the changes as a unified diff, and write nothing";
 
@@ -80,8 +81,8 @@ A SOURCE is a name as the build file writes it: relative to the folder of the
 build file, not to the working folder.
 add --sorted puts each source in its place if the list is in order: it has four
 names or more, each less than the next byte by byte. Else it goes to the end.
-With --follow add and rm follow variables, and a SOURCE is a path from the
-folder of the target. LISTS is own, as if left out: a list that is read for
+With --follow add, rm and rename follow variables, and a SOURCE is a path from
+the folder of the target. LISTS is own, as if left out: a list that is read for
 another target too stays; or shared: it is changed for all of them.
 
 Examples:
@@ -97,6 +98,7 @@ Examples:
   meson_rewrite target harbor info
   meson_rewrite --follow target tide info
   meson_rewrite --follow target tide add new.c
+  meson_rewrite --follow target tide rename station.c gauge.c
   meson_rewrite --follow=shared target tide rm tide.c";
 
 pub(crate) const SUBDIR: &str = "Folder of a new target [default: that of the root file]";

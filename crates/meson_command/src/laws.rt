@@ -7,7 +7,7 @@ ghost use Rattle.meson_command.specs.Laws.{TextsWriteNothing};
 ghost use Rattle.meson_command.specs.Rows.{Done, Flagged, Json, Listed, Other, Refused, Shown, Texts, Titled};
 ghost use Rattle.meson_command.specs.RowsOfArguments.{CodeIsExpressionOrRefused, Infos, LaterWordsArePlain, Sorted, Values};
 ghost use Rattle.meson_command.specs.RowsOfCode.{Inserted, InsertedNowhere, Removed};
-ghost use Rattle.meson_command.specs.RowsOfFollow.{FollowedSources, Following};
+ghost use Rattle.meson_command.specs.RowsOfFollow.{FollowedNames, FollowedSources, Following};
 
 /// The requests of some command lines.
 pub fn rows()
@@ -27,6 +27,7 @@ pub fn rows()
     ensures other { Other }
     ensures following { Following }
     ensures followed { FollowedSources }
+    ensures followed_names { FollowedNames }
     ensures refused { Refused }
 {}
 
@@ -73,8 +74,8 @@ pub fn texts_write_nothing()
 /// `--sorted`, `--after`, `--blank` or `--unused` goes with an operation that does not take it, or the first two are both given, a number is not valid, two
 /// listings are requested or one of a function without a name, the function and the id of `arg` or `code` name no place, a key is missing, the values of
 /// `arg` or the words of `code` are not as many as the operation takes, a folder is named for words that take none, `--follow` goes with other words than
-/// `target ID add` and `rm` without `--sorted`, `target ID info`, `list`, `history`, `undo`, `redo` and `command`, or `--follow=shared` with others than the
-/// first two, or texts are named for what writes or would read standard input, too.
+/// `target ID add`, `rm` and `rename` without `--sorted`, `target ID info`, `list`, `history`, `undo`, `redo` and `command`, or `--follow=shared` with others
+/// than the first three, or texts are named for what writes or would read standard input, too.
 pub fn usage_means_unknown()
     ensures { UsageMeansUnknown }
 {}

@@ -53,7 +53,7 @@ fn target_by(
     }
 }
 
-/// The request of the words of `target ID rename`, in the folder alone if one is named.
+/// The request of the words of `target ID rename`, in the folder alone if one is named, and with variables followed so.
 ///
 /// # Errors
 /// There are not two names.
@@ -61,16 +61,17 @@ fn target_by(
 fn rename_action(
     alloc: Global,
     folder: Option<&str>,
+    follow: Option<SharedLists>,
     matches: &ArgMatches<'_>,
 ) -> Result<Action, UsageFault>
-    ensures ok { IfOk result (λ a. rename_action (option_map (λ f. f.now) folder.entry) (rows_of (found_of matches.now)) ≡ Ok a) }
+    ensures ok { IfOk result (λ a. rename_action (option_map (λ f. f.now) folder.entry) follow (rows_of (found_of matches.now)) ≡ Ok a) }
     ensures refused { IfErr result (λ e. e ≢ OutOfMemory
-        → rename_action (option_map (λ f. f.now) folder.entry) (rows_of (found_of matches.now)) ≡ Err e) }
+        → rename_action (option_map (λ f. f.now) folder.entry) follow (rows_of (found_of matches.now)) ≡ Err e) }
 {
     let id = owned(alloc, word_or(matches, "ID", ""))?;
     let names = words_at(alloc, matches, "SOURCE")?;
     let folder = folder_named(alloc, folder)?;
-    match renaming_of(CallName { id, folder }, names) {
+    match renaming_of(CallName { id, folder }, names, follow) {
         Some(command) => run(alloc, command),
         None => Err(UsageFault::Usage),
     }
@@ -103,7 +104,7 @@ pub(crate) fn target_action(
     }
     let word = word_or(matches, "OPERATION", "");
     if word == "rename" {
-        return rename_action(alloc, folder, matches);
+        return rename_action(alloc, folder, follow, matches);
     }
     let Some(operation) = find_target_operation(word) else {
         return Err(UsageFault::Usage);

@@ -214,10 +214,13 @@ fn takes_follow(subcommand: Option<Subcommand>, words: &ArgMatches<'_>) -> bool 
     }
 }
 
-/// Whether the words of a subcommand add sources to a target or remove some.
+/// Whether the words of a subcommand add sources to a target, remove some or rename one.
 fn changes_sources(subcommand: Option<Subcommand>, words: &ArgMatches<'_>) -> bool {
     match subcommand {
-        Some(Subcommand::Target) => matches!(word_or(words, "OPERATION", ""), "add" | "rm"),
+        Some(Subcommand::Target) => matches!(
+            word_or(words, "OPERATION", ""),
+            "add" | "rm" | "rename"
+        ),
         _ => false,
     }
 }
@@ -247,7 +250,7 @@ fn explain_follow(
             remarks.note_words(alloc, "--follow is given with words that do not take it")?;
             remarks.help_words(
                 alloc,
-                "--follow goes with target ID add, rm and info, list, history, undo, redo and command",
+                "--follow goes with target ID add, rm, rename and info, list, history, undo, redo and command",
             )?;
         }
         SharedLists::Changed => {
@@ -255,7 +258,10 @@ fn explain_follow(
                 alloc,
                 "--follow=shared is given with words that do not take it",
             )?;
-            remarks.help_words(alloc, "--follow=shared goes with target ID add and rm")?;
+            remarks.help_words(
+                alloc,
+                "--follow=shared goes with target ID add, rm and rename",
+            )?;
         }
     }
     Ok(true)

@@ -1,6 +1,7 @@
 -- A command that is refused for a name that is not valid is refused for the first of its names that is not.
 use Rattle.std.proofs.Common.{◌≡◌, ℕ, zero, suc, true, false, List, [], ◌∷◌, map, Option, Some, None, refl, sym, ap, ◌∙◌}
 use Rattle.std.specs.Prelude.{Bool, Result, Ok, Err, codes, count_by, find, if◌then◌else◌, option_map}
+use Rattle.std.specs.List.{list_any}
 use Rattle.std.proofs.lemmas.List.Elements.{All-cons, All-nil}
 use Rattle.meson_lex.specs.declared.kinds.Span.{Span}
 use Rattle.meson_splice.specs.Patch.{then_ok}
@@ -13,8 +14,9 @@ use Rattle.meson_calls.specs.declared.call.Role.{Role}
 use Rattle.meson_calls.specs.declared.call.Role.TheVariants as role
 use Rattle.meson_calls.specs.declared.refusal.Refusal.{Refusal}
 use Rattle.meson_calls.specs.declared.refusal.Refusal.TheVariants as refusal
-use Rattle.meson_followed.specs.FollowedEdits.{followed_added, followed_removed}
-use Rattle.meson_followed.specs.Sources.{sources_of}
+use Rattle.meson_followed.specs.FollowedEdits.{followed_added, followed_removed, if_may_go, removals_named}
+use Rattle.meson_followed.specs.Renaming.{followed_renamed, if_fresh, renamed_steps}
+use Rattle.meson_followed.specs.Sources.{distinct_paths, has_path, named_path, sources_of}
 use Rattle.meson_following.specs.Following.{follow_marks}
 use Rattle.meson_keywords.specs.Tasks.{Task, add_entry, checked_option, delete_entry, delete_option, delete_option_entry, each_made, remove_entry, set_entry, set_option, set_option_entry}
 use Rattle.meson_keywords.specs.TaskSteps.{call_changed, tasks_steps, trees_of}
@@ -25,14 +27,15 @@ use Rattle.meson_steps.specs.Steps.{Step}
 use Rattle.meson_steps.specs.declared.command.Command.{Command}
 use Rattle.meson_steps.specs.declared.command.Command.TheVariants as command
 use Rattle.meson_sharing.specs.Told.{is_opaque}
-use Rattle.meson_steps.specs.declared.source_change.SourceChange.TheVariants.{Add, Remove}
+use Rattle.meson_steps.specs.declared.source_change.SharedLists.{SharedLists}
+use Rattle.meson_steps.specs.declared.source_change.SourceChange.TheVariants.{Add, Remove, Rename}
 use Rattle.meson_targets.specs.TargetEdits.{append_steps, checked_kind, not_taken, number_in, target_removed, targets_named}
 use Rattle.meson_variables.specs.Expansion.{Item, Mark}
 use Rattle.meson_variables.specs.TargetSources.{opaque_count, source_marks}
 use Rattle.meson_explaining.specs.NameLaws.{HasMeantName, NotRefused, alone}
 use Rattle.meson_explaining.specs.Names.{is_bad_option, is_bad_pair, is_empty_name, meant_name}
 use Rattle.meson_explaining.proofs.EntryReasons.{add_bad, add_free, delete_free, each_free, each_good, good_values, one_bad, option_bad, option_good, remove_bad, remove_free, set_bad, set_free}
-use Rattle.meson_explaining.proofs.FollowedReasons.{all_free, followed_free}
+use Rattle.meson_explaining.proofs.FollowedReasons.{all_free, followed_free, may_go_free}
 use Rattle.meson_explaining.proofs.Firsts.{all_of, first_refused, meant_of_call, none_of_one}
 use Rattle.meson_explaining.proofs.NameReasons.{Free, after, bad_of_names, call_free, checked_kind_free, is_bad, kwargs_free, not_refused, once_free, or_free, placed_free, reached, removed_free, shown_free, target_free}
 use Rattle.meson_explaining.proofs.SourceReasons.{inserted_free}
@@ -169,6 +172,19 @@ module _ (l : Loaded) where
 
   -- ---- a renaming, as a command on a list of names: the old one and the new one, or one that is both
 
+  taken_free : (known : Bool) (steps : List Step) → Free is_bad (if known then Err refusal.ThereAlready else Ok steps)
+  taken_free true steps = refl
+  taken_free false steps = tt
+
+  both_named : (x : List ℕ) → find is_empty_name (x ∷ []) ≡ None → find is_empty_name (x ∷ x ∷ []) ≡ None
+  both_named [] none = absurd (let no : ⊥ = cc in no)
+  both_named (b ∷ bs) none = refl
+
+  first_two : (x y : List ℕ) (more : List (List ℕ)) → find is_empty_name (x ∷ y ∷ more) ≡ None → find is_empty_name (x ∷ y ∷ []) ≡ None
+  first_two [] y more none = absurd (let no : ⊥ = cc in no)
+  first_two (b ∷ bs) [] more none = absurd (let no : ⊥ = cc in no)
+  first_two (b ∷ bs) (d ∷ ds) more none = refl
+
   module _ (target : CallName) where
     abbrev renames : List (List ℕ) → Command
     renames [] = command.SourcesRemove target []
@@ -185,24 +201,11 @@ module _ (l : Loaded) where
     renames_are (x ∷ []) = refl
     renames_are (x ∷ y ∷ more) = refl
 
-    taken_free : (known : Bool) (steps : List Step) → Free is_bad (if known then Err refusal.ThereAlready else Ok steps)
-    taken_free true steps = refl
-    taken_free false steps = tt
-
     renamed_free : (x y : List ℕ) → find is_empty_name (x ∷ y ∷ []) ≡ None → (c : Placed (Call Span)) → Free is_bad (sources_renamed (project l) c x y)
     renamed_free x y none c =
         after is_bad (checked_names (x ∷ y ∷ [])) _ (names_free (x ∷ y ∷ []) none)
         (λ u. after is_bad (once sources_key (keyword sources_key c.it) (source_marks (project l) c)) _ (once_free is_bad bad_of_names sources_key (keyword sources_key c.it) (source_marks (project l) c))
         (λ marks. after is_bad (spots_named marks (x ∷ [])) _ (spots_free marks (x ∷ [])) (λ spots. taken_free (is_known marks y) _)))
-
-    both_named : (x : List ℕ) → find is_empty_name (x ∷ []) ≡ None → find is_empty_name (x ∷ x ∷ []) ≡ None
-    both_named [] none = absurd (let no : ⊥ = cc in no)
-    both_named (b ∷ bs) none = refl
-
-    first_two : (x y : List ℕ) (more : List (List ℕ)) → find is_empty_name (x ∷ y ∷ more) ≡ None → find is_empty_name (x ∷ y ∷ []) ≡ None
-    first_two [] y more none = absurd (let no : ⊥ = cc in no)
-    first_two (b ∷ bs) [] more none = absurd (let no : ⊥ = cc in no)
-    first_two (b ∷ bs) (d ∷ ds) more none = refl
 
     renames_free : (names : List (List ℕ)) → find is_empty_name names ≡ None → (c : Placed (Call Span)) → Free is_bad (renames_steps names c)
     renames_free [] none c =
@@ -212,6 +215,49 @@ module _ (l : Loaded) where
 
     renaming_meant : (old new : List ℕ) → planned (project l) (command.SourcesRename target old new) ≡ Err refusal.BadName → HasMeantName l (command.SourcesRename target old new) refusal.BadName
     renaming_meant old new e = names_meant target renames renames_steps renames_are renames_free (λ c. refl) (old ∷ new ∷ []) refl refl e
+
+  -- so it is where variables are followed
+  module _ (target : CallName) (shared : SharedLists) where
+    abbrev follows : List (List ℕ) → Command
+    follows [] = command.FollowedSources target (Remove []) shared
+    follows (x ∷ []) = command.FollowedSources target (Rename x x) shared
+    follows (x ∷ y ∷ more) = command.FollowedSources target (Rename x y) shared
+
+    abbrev follows_steps : List (List ℕ) → Placed (Call Span) → Result (List Step) Refusal
+    follows_steps [] c = followed_removed (project l) c shared []
+    follows_steps (x ∷ []) c = followed_renamed (project l) c shared x x
+    follows_steps (x ∷ y ∷ more) c = followed_renamed (project l) c shared x y
+
+    follows_are : (names : List (List ℕ)) → planned (project l) (follows names) ≡ then_ok (the_call (project l) role.Target target) (follows_steps names)
+    follows_are [] = refl
+    follows_are (x ∷ []) = refl
+    follows_are (x ∷ y ∷ more) = refl
+
+    named_anew_free : (x y : List ℕ) → find is_empty_name (x ∷ y ∷ []) ≡ None → (c : Placed (Call Span)) → Free is_bad (followed_renamed (project l) c shared x y)
+    named_anew_free x y none c =
+        after is_bad (checked_names (x ∷ y ∷ [])) _ (names_free (x ∷ y ∷ []) none)
+        (λ u. after is_bad (once sources_key (keyword sources_key c.it) (follow_marks (project l) c)) _
+        (once_free is_bad bad_of_names sources_key (keyword sources_key c.it) (follow_marks (project l) c))
+        (λ marks. after is_bad (removals_named (project l) c.place.file marks (x ∷ [])) _
+        (all_free is_bad bad_of_names (count_by is_opaque marks) (none_free (count_by is_opaque marks)) (sources_of (project l) c.place.file marks)
+        (map (named_path (project l) c.place.file) (distinct_paths (project l) c.place.file (x ∷ []))))
+        (λ rs. after is_bad (if_may_go (project l) c shared rs) (if_fresh (project l) c.place.file (sources_of (project l) c.place.file marks) y)
+        (may_go_free is_bad bad_of_names (project l) c shared rs)
+        (λ found. taken_free (list_any (has_path (named_path (project l) c.place.file y)) (sources_of (project l) c.place.file marks))
+        (renamed_steps (project l) c.place.file y found)))))
+
+    follows_free : (names : List (List ℕ)) → find is_empty_name names ≡ None → (c : Placed (Call Span)) → Free is_bad (follows_steps names c)
+    follows_free [] none c =
+        after is_bad (once sources_key (keyword sources_key c.it) (follow_marks (project l) c)) _
+        (once_free is_bad bad_of_names sources_key (keyword sources_key c.it) (follow_marks (project l) c))
+        (λ marks. followed_free is_bad bad_of_names (project l) c shared marks []
+        (all_free is_bad bad_of_names (count_by is_opaque marks) (none_free (count_by is_opaque marks)) (sources_of (project l) c.place.file marks) []))
+    follows_free (x ∷ []) none c = named_anew_free x x (both_named x none) c
+    follows_free (x ∷ y ∷ more) none c = named_anew_free x y (first_two x y more none) c
+
+    named_anew_meant : (old new : List ℕ) → planned (project l) (command.FollowedSources target (Rename old new) shared) ≡ Err refusal.BadName
+        → HasMeantName l (command.FollowedSources target (Rename old new) shared) refusal.BadName
+    named_anew_meant old new e = names_meant target follows follows_steps follows_are follows_free (λ c. refl) (old ∷ new ∷ []) refl refl e
 
   -- ---- each command
 
@@ -244,6 +290,7 @@ module _ (l : Loaded) where
       (once_free is_bad bad_of_names sources_key (keyword sources_key c.it) (follow_marks (project l) c))
       (λ marks. followed_free is_bad bad_of_names (project l) c shared marks names
       (all_free is_bad bad_of_names (count_by is_opaque marks) (none_free (count_by is_opaque marks)) (sources_of (project l) c.place.file marks) _)))) (λ c. refl) sources refl refl
+  bad_meant (command.FollowedSources target (Rename old new) shared) = named_anew_meant target shared old new
   bad_meant (command.ExtraAdd target sources) =
       names_meant target (command.ExtraAdd target) (λ names c. extra_added (project l) c names) (λ names. refl)
       (λ names none c. after is_bad (checked_extra (project l) c names) _ (extra_free (project l) c names none) (λ marks. inserted_free is_bad bad_of_names (project l) c _ _)) (λ c. refl) sources refl refl

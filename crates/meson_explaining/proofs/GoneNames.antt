@@ -26,7 +26,7 @@ use Rattle.meson_steps.specs.Steps.{Step}
 use Rattle.meson_steps.specs.declared.command.Command.{Command}
 use Rattle.meson_steps.specs.declared.command.Command.TheVariants as command
 use Rattle.meson_steps.specs.declared.source_change.SharedLists.{SharedLists}
-use Rattle.meson_steps.specs.declared.source_change.SourceChange.TheVariants.{Add, Remove}
+use Rattle.meson_steps.specs.declared.source_change.SourceChange.TheVariants.{Add, Remove, Rename}
 use Rattle.meson_targets.specs.TargetEdits.{checked_kind, target_removed}
 use Rattle.meson_variables.specs.Expansion.{Mark}
 use Rattle.meson_variables.specs.TargetSources.{items, opaque_count, source_item, source_marks, sources, sources_of_call, sources_of_marks}
@@ -35,7 +35,7 @@ use Rattle.meson_explaining.specs.Followed.{is_absent, is_gone, place_of}
 use Rattle.meson_explaining.specs.NameLaws.{HasMeantName, NotRefused, alone}
 use Rattle.meson_explaining.specs.Names.{meant_name}
 use Rattle.meson_explaining.specs.Sources.{extras_at, has, is_missing, items_at, items_of, sources_at}
-use Rattle.meson_explaining.proofs.AbsentNames.{at_place, followed_gone, names_ok}
+use Rattle.meson_explaining.proofs.AbsentNames.{at_place, both_valid, followed_gone, followed_renaming_gone, names_ok}
 use Rattle.meson_explaining.proofs.EntryReasons.{add_free, delete_free, each_free, option_free, remove_free, set_free, values_free}
 use Rattle.meson_explaining.proofs.Firsts.{all_to, meant_of_call}
 use Rattle.meson_explaining.proofs.LostNames.{is_lost, removal_reason, same_names_had, spots_found, spots_lost}
@@ -164,10 +164,6 @@ module _ (l : Loaded) (target : CallName) (old new : List ℕ) (why : Refusal) (
       absurd (let no : ⊥ = cc in no)
   spots_gone false (Ok spots) f is = absurd (let no : ⊥ = cc in no)
 
-  both_valid : (x y : List ℕ) (u : Unit {0}) → checked_names (x ∷ y ∷ []) ≡ Ok u → checked_names (x ∷ x ∷ []) ≡ Ok tt
-  both_valid [] y u is = absurd (let no : ⊥ = cc in no)
-  both_valid (b ∷ bs) y u is = refl
-
   module _ (marks : List (Mark Span)) (none : spots_named marks (old ∷ []) ≡ Err why) where
     old_lost : is_lost marks old ≡ true
     old_lost = go (is_lost marks old) refl
@@ -213,7 +209,9 @@ module _ (l : Loaded) (why : Refusal) (gone : is_gone why ≡ true)
     (from_extras : (target : CallName) (names : List (List ℕ)) → meant_name l (command.ExtraRemove target names) why ≡ find (is_missing (extras_at l target)) names)
     (from_renames : (target : CallName) (old new : List ℕ) → meant_name l (command.SourcesRename target old new) why ≡ find (is_missing (sources_at l target)) (old ∷ []))
     (from_followed : (target : CallName) (names : List (List ℕ)) (shared : SharedLists)
-    → meant_name l (command.FollowedSources target (Remove names) shared) why ≡ find (is_absent l (place_of l target)) names) where
+    → meant_name l (command.FollowedSources target (Remove names) shared) why ≡ find (is_absent l (place_of l target)) names)
+    (from_renamed : (target : CallName) (old new : List ℕ) (shared : SharedLists)
+    → meant_name l (command.FollowedSources target (Rename old new) shared) why ≡ find (is_absent l (place_of l target)) (old ∷ [])) where
   abbrev Gone : Command → Type 0
   Gone c = planned (project l) c ≡ Err why → HasMeantName l c why
 
@@ -248,6 +246,8 @@ module _ (l : Loaded) (why : Refusal) (gone : is_gone why ≡ true)
       (λ u. after is_gone (once sources_key (keyword sources_key c.it) (follow_marks (project l) c)) _
       (once_free is_gone gone_of_names sources_key (keyword sources_key c.it) (follow_marks (project l) c)) (λ marks. tt)))
   gone_meant (command.FollowedSources target (Remove names) shared) = followed_gone l target shared why gone names (from_followed target names shared)
+  gone_meant (command.FollowedSources target (Rename old new) shared) =
+      followed_renaming_gone l target shared why gone old new (from_renamed target old new shared)
   gone_meant (command.ExtraAdd target names) =
       never_of (command.ExtraAdd target names) role.Target target (λ c. extra_added (project l) c names) refl
       (λ c. after is_gone (checked_extra (project l) c names) _

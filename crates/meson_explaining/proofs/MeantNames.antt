@@ -11,6 +11,6 @@ use Rattle.meson_explaining.proofs.GoneNames.{gone_meant}
 pub meant_names_are_refused : MeantNamesAreRefused
 meant_names_are_refused l c why means = elim means as (λ w m. planned (project l) c ≡ Err w → HasMeantName l c w) [
   | bad ↦ bad_meant l c
-  | not_found ↦ gone_meant l refusal.SourceNotFound refl (λ target names. refl) (λ target names. refl) (λ target old new. refl) (λ target names shared. refl) c
-  | unresolved ↦ gone_meant l refusal.Unresolved refl (λ target names. refl) (λ target names. refl) (λ target old new. refl) (λ target names shared. refl) c
+  | not_found ↦ gone_meant l refusal.SourceNotFound refl (λ target names. refl) (λ target names. refl) (λ target old new. refl) (λ target names shared. refl) (λ target old new shared. refl) c
+  | unresolved ↦ gone_meant l refusal.Unresolved refl (λ target names. refl) (λ target names. refl) (λ target old new. refl) (λ target names shared. refl) (λ target old new shared. refl) c
 ]

@@ -8,14 +8,13 @@ use Rattle.meson_calls.specs.declared.refusal.Refusal.TheVariants as refusal
 use Rattle.meson_calls.specs.Loading.{Loaded}
 use Rattle.meson_steps.specs.declared.command.Command.{Command}
 use Rattle.meson_steps.specs.declared.command.Command.TheVariants as command
-use Rattle.meson_steps.specs.declared.source_change.SourceChange.TheVariants.{Remove}
 use Rattle.meson_inventory.specs.Holdings.{calls_named}
 use Rattle.meson_explaining.specs.declared.explanation.Explanation.{Explanation}
 use Rattle.meson_explaining.specs.declared.explanation.Note.{Note}
 use Rattle.meson_explaining.specs.Arguments.{value_explanation}
 use Rattle.meson_explaining.specs.ArgumentPlaces.{and_help, folder_lines}
 use Rattle.meson_explaining.specs.BadNames.{bad_help, bad_notes}
-use Rattle.meson_explaining.specs.Followed.{followed_not_there, shared_list}
+use Rattle.meson_explaining.specs.Followed.{followed_not_there, shared_list, sought_names}
 use Rattle.meson_explaining.specs.Insertions.{code_explanation, removal_explanation}
 use Rattle.meson_explaining.specs.Keys.{keys, nearest_key, unknown_notes, wrong_notes}
 use Rattle.meson_explaining.specs.NotFound.{not_found}
@@ -112,7 +111,7 @@ abbrev pub not_there : Loaded → Command → Explanation
 not_there l (command.SourcesRemove target names) = with_info (source_notes (sources_at l target) names)
 not_there l (command.SourcesRename target old new) = with_info (source_notes (sources_at l target) (old ∷ []))
 not_there l (command.ExtraRemove target names) = with_info (source_notes (extras_at l target) names)
-not_there l (command.FollowedSources target (Remove names) lists) = followed_not_there l target names
+not_there l (command.FollowedSources target change lists) = followed_not_there l target (sought_names change)
 not_there l _ = record { notes = []; help = [] }
 
 -- ---- a name is not valid

@@ -14,6 +14,8 @@ use Rattle.meson_followed.specs.Sources.{list_around}
 use Rattle.meson_plan.specs.Details.{target_place, told_sources}
 use Rattle.meson_sharing.specs.Told.{ToldItem}
 use Rattle.meson_steps.specs.declared.source_change.SharedLists.TheVariants.{Changed}
+use Rattle.meson_steps.specs.declared.source_change.SourceChange.{SourceChange}
+use Rattle.meson_steps.specs.declared.source_change.SourceChange.TheVariants.{Add, Remove, Rename}
 use Rattle.meson_variables.specs.declared.source.SourceItem.{SourceItem}
 use Rattle.meson_explaining.specs.Notes.{plain_note}
 use Rattle.meson_explaining.specs.Sources.{close_notes, few_missing, missing_note}
@@ -46,6 +48,12 @@ followed_items l None = []
 followed_items l (Some place) = map item_of (told_sources l place).items
 
 -- ---- names that it does not have, as far as its sources are known
+
+-- the names of a change that have to mean sources of the target
+abbrev pub sought_names : SourceChange → List (List ℕ)
+sought_names (Add names) = []
+sought_names (Remove names) = names
+sought_names (Rename old new) = old ∷ []
 
 abbrev pub is_memory : Refusal → Bool
 is_memory refusal.OutOfMemory = true

@@ -7,7 +7,7 @@ use Rattle.meson_calls.specs.declared.refusal.Refusal.TheVariants as refusal
 use Rattle.meson_plan.specs.Planning.{planned}
 use Rattle.meson_steps.specs.declared.command.Command.{Command}
 use Rattle.meson_steps.specs.declared.command.Command.TheVariants as command
-use Rattle.meson_steps.specs.declared.source_change.SourceChange.TheVariants.{Add, Remove}
+use Rattle.meson_steps.specs.declared.source_change.SourceChange.TheVariants.{Add, Remove, Rename}
 use Rattle.meson_explaining.specs.Names.{meant_name}
 
 -- each name of a command, with the command that has this name alone, as the old name and the new one of a renaming
@@ -18,6 +18,8 @@ alone (command.SourcesRemove target sources) = map (λ s. (s, command.SourcesRem
 alone (command.SourcesRename target old new) = (old, command.SourcesRename target old old) ∷ (new, command.SourcesRename target new new) ∷ []
 alone (command.FollowedSources target (Add names) shared) = map (λ s. (s, command.FollowedSources target (Add (s ∷ [])) shared)) names
 alone (command.FollowedSources target (Remove names) shared) = map (λ s. (s, command.FollowedSources target (Remove (s ∷ [])) shared)) names
+alone (command.FollowedSources target (Rename old new) shared) =
+    (old, command.FollowedSources target (Rename old old) shared) ∷ (new, command.FollowedSources target (Rename new new) shared) ∷ []
 alone (command.ExtraAdd target sources) = map (λ s. (s, command.ExtraAdd target (s ∷ []))) sources
 alone (command.ExtraRemove target sources) = map (λ s. (s, command.ExtraRemove target (s ∷ []))) sources
 alone (command.TargetAdd target kind subdir sources) =

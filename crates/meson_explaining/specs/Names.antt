@@ -13,8 +13,7 @@ use Rattle.meson_steps.specs.declared.command.Command.TheVariants as command
 use Rattle.meson_steps.specs.declared.command.Setting.{Setting}
 use Rattle.meson_steps.specs.declared.command.Setting.TheVariants as setting
 use Rattle.meson_followed.specs.Changes.{names_of}
-use Rattle.meson_steps.specs.declared.source_change.SourceChange.TheVariants.{Remove}
-use Rattle.meson_explaining.specs.Followed.{is_absent, place_of}
+use Rattle.meson_explaining.specs.Followed.{is_absent, place_of, sought_names}
 use Rattle.meson_explaining.specs.Sources.{extras_at, is_missing, sources_at}
 
 -- ---- names that are not valid
@@ -69,7 +68,7 @@ bad_name _ = None
 abbrev pub missing_name : Loaded → Command → Option (List ℕ)
 missing_name l (command.SourcesRemove target sources) = find (is_missing (sources_at l target)) sources
 missing_name l (command.SourcesRename target old new) = find (is_missing (sources_at l target)) (old ∷ [])
-missing_name l (command.FollowedSources target (Remove names) shared) = find (is_absent l (place_of l target)) names
+missing_name l (command.FollowedSources target change shared) = find (is_absent l (place_of l target)) (sought_names change)
 missing_name l (command.ExtraRemove target sources) = find (is_missing (extras_at l target)) sources
 missing_name l _ = None
 

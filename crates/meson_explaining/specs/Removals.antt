@@ -13,8 +13,9 @@ use Rattle.meson_inventory.specs.declared.holdings.HeldCall.{HeldCall}
 use Rattle.meson_steps.specs.declared.command.Command.{Command}
 use Rattle.meson_steps.specs.declared.command.Command.TheVariants as command
 use Rattle.meson_variables.specs.declared.source.SourceItem.{SourceItem}
-use Rattle.meson_steps.specs.declared.source_change.SourceChange.TheVariants.{Remove}
-use Rattle.meson_explaining.specs.Followed.{followed_items, is_absent, place_of}
+use Rattle.meson_steps.specs.declared.source_change.SourceChange.{SourceChange}
+use Rattle.meson_steps.specs.declared.source_change.SourceChange.TheVariants.{Add, Remove, Rename}
+use Rattle.meson_explaining.specs.Followed.{followed_items, is_absent, place_of, sought_names}
 use Rattle.meson_explaining.specs.Notes.{call_note, few_notes, further, plain_note}
 use Rattle.meson_explaining.specs.Sources.{close_notes, extras_at, is_missing, sources_at}
 use Rattle.meson_explaining.specs.Unknown.{unknown_arguments}
@@ -46,7 +47,7 @@ abbrev pub not_removable : Loaded → Command → Explanation
 not_removable l (command.SourcesRemove target names) = with_list (fixed_notes (sources_at l target) names)
 not_removable l (command.SourcesRename target old new) = with_list (fixed_notes (sources_at l target) (old ∷ []))
 not_removable l (command.ExtraRemove target names) = with_list (fixed_notes (extras_at l target) names)
-not_removable l (command.FollowedSources target (Remove names) shared) = with_list (fixed_notes (followed_items l (place_of l target)) names)
+not_removable l (command.FollowedSources target change shared) = with_list (fixed_notes (followed_items l (place_of l target)) (sought_names change))
 not_removable l _ = record { notes = []; help = [] }
 
 -- ---- names that are not among what is known
@@ -88,6 +89,12 @@ removal_way = codes "arg remove at FILE:LINE . SOURCE removes it from the list t
 abbrev pub renaming_way : List ℕ
 renaming_way = codes "arg replace at FILE:LINE . OLD NEW renames it in the list that is set on that line"
 
+-- what changes one list, for a change of sources that are not all known
+abbrev pub change_way : SourceChange → List ℕ
+change_way (Add names) = removal_way
+change_way (Remove names) = removal_way
+change_way (Rename old new) = renaming_way
+
 abbrev pub folder_help : Bool → List ℕ
 folder_help true = codes "--sourcedir does not help, since the target is in the root file; info counts what is not known"
 folder_help false = codes "--sourcedir with the folder of the target leaves out what other folders set; info counts what is not known"
@@ -99,20 +106,20 @@ abbrev pub not_known : Loaded → CallName → (key way : List ℕ) → List Sou
 not_known l target key way items names = record { notes = not_known_notes l target key items names; help = not_known_help l target way }
 
 -- the same where variables are followed; `kwargs:` may hold any source
-unfoldable pub followed_unresolved : Loaded → CallName → List (List ℕ) → Explanation
-followed_unresolved l target names =
+unfoldable pub followed_unresolved : Loaded → CallName → (way : List ℕ) → List (List ℕ) → Explanation
+followed_unresolved l target way names =
     let place = place_of l target in
     let name = find (is_absent l place) names in
     record {
       notes =
           unknown_notes name
           ++ (written_notes l name ++ (close_notes (followed_items l place) name ++ value_notes l role.Target target (codes "kwargs")));
-      help = removal_way ∷ codes "--follow target ID info counts what is not known" ∷ [];
+      help = way ∷ codes "--follow target ID info counts what is not known" ∷ [];
     }
 
 abbrev pub unresolved : Loaded → Command → Explanation
 unresolved l (command.SourcesRemove target names) = not_known l target (codes "sources") removal_way (sources_at l target) names
 unresolved l (command.SourcesRename target old new) = not_known l target (codes "sources") renaming_way (sources_at l target) (old ∷ [])
 unresolved l (command.ExtraRemove target names) = not_known l target (codes "extra_files") removal_way (extras_at l target) names
-unresolved l (command.FollowedSources target (Remove names) shared) = followed_unresolved l target names
+unresolved l (command.FollowedSources target change shared) = followed_unresolved l target (change_way change) (sought_names change)
 unresolved l _ = record { notes = []; help = [] }

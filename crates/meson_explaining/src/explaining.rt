@@ -15,6 +15,7 @@ use crate::followed_reasons::{followed_not_there, shared_list};
 use crate::insertions::{explain_insertion, explain_removal};
 use crate::keys::{keys, nearest_key, unknown_notes, wrong_notes};
 use crate::missing_places::and_folder;
+use crate::names::sought_names;
 use crate::not_found::not_found;
 use crate::reasons::{
     duplicate, hidden, in_use, name_taken, no_file, no_project, no_such_value, not_removable,
@@ -29,7 +30,6 @@ use meson_inventory::holdings::calls_named;
 use meson_plan::{Project, Role};
 use meson_splice::{Many, Text};
 use meson_steps::command::Command;
-use meson_steps::source_change::SourceChange;
 use meson_variables::SourceItem;
 use std::alloc::{AllocError, Global};
 use std::slice;
@@ -197,11 +197,9 @@ fn not_there(alloc: Global, project: &Project, command: &Command) -> Result<Expl
             let items = extras_at(alloc, project, target.as_name())?;
             with_info(alloc, items.get(), sources.get())
         }
-        Command::FollowedSources {
-            target,
-            change: SourceChange::Remove(names),
-            ..
-        } => followed_not_there(alloc, project, target.as_name(), names.get()),
+        Command::FollowedSources { target, change, .. } => {
+            followed_not_there(alloc, project, target.as_name(), sought_names(change))
+        }
         _ => Ok(unexplained(alloc)),
     }
 }

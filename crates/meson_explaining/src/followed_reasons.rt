@@ -2,14 +2,15 @@
 
 ghost use Rattle.std.specs.Prelude.{◌≡◌, ◌∷◌, [], IfOk};
 ghost use Rattle.meson_calls.specs.Searching.{name_at};
-ghost use Rattle.meson_explaining.specs.Followed.{followed_items, followed_not_there, place_of, shared_list};
-ghost use Rattle.meson_explaining.specs.Removals.{fixed_notes, followed_unresolved, with_list};
+ghost use Rattle.meson_explaining.specs.Followed.{followed_items, followed_not_there, place_of, shared_list, sought_names};
+ghost use Rattle.meson_explaining.specs.Removals.{change_way, fixed_notes, followed_unresolved, with_list};
 
 use crate::bad_names::{one_line, one_note};
 use crate::explaining::with_help;
 use crate::explanation::Explanation;
 use crate::followed::{absent_notes, first_absent, followed_items, place_of};
-use crate::removals::{fixed_notes, unknown_notes};
+use crate::names::sought_names;
+use crate::removals::{REMOVAL_WAY, RENAMING_WAY, fixed_notes, unknown_notes};
 use crate::sources::few_close_notes;
 use crate::subject::Subject;
 use crate::values::value_notes;
@@ -17,6 +18,7 @@ use crate::written::written_notes;
 use meson_calls::BorrowedName;
 use meson_plan::{Project, Role};
 use meson_splice::{Many, Text};
+use meson_steps::source_change::SourceChange;
 use std::alloc::{AllocError, Global};
 
 /// Which names a target does not have.
@@ -37,15 +39,26 @@ pub(crate) fn followed_not_there(
     with_help(alloc, notes, "--follow target ID info lists the sources")
 }
 
+/// What changes one list, for a change of sources that are not all known.
+fn change_way(change: &SourceChange) -> &'static str
+    ensures { result.now ≡ change_way change.now }
+{
+    match change {
+        SourceChange::Add(_) | SourceChange::Remove(_) => REMOVAL_WAY,
+        SourceChange::Rename { .. } => RENAMING_WAY,
+    }
+}
+
 /// Which name is not among what is known of a target.
 pub(crate) fn followed_unresolved(
     alloc: Global,
     project: &Project,
     target: BorrowedName<'_>,
-    names: &[Text],
+    change: &SourceChange,
 ) -> Result<Explanation, AllocError>
-    ensures { IfOk result (λ e. e ≡ followed_unresolved project.now (name_at target.entry) names.now) }
+    ensures { IfOk result (λ e. e ≡ followed_unresolved project.now (name_at target.entry) (change_way change.now) (sought_names change.now)) }
 {
+    let names = sought_names(change);
     let place = place_of(alloc, project, target)?;
     let items = followed_items(alloc, project, &place)?;
     let name = first_absent(alloc, project, &place, names)?;
@@ -62,7 +75,7 @@ pub(crate) fn followed_unresolved(
     notes.append(&mut hidden)?;
     let help = two_lines(
         alloc,
-        "arg remove at FILE:LINE . SOURCE removes it from the list that is set on that line",
+        change_way(change),
         "--follow target ID info counts what is not known",
     )?;
     Ok(Explanation {

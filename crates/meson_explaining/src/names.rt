@@ -1,9 +1,10 @@
 //! The name that a refusal means where its command has several.
 
-ghost use Rattle.std.specs.Prelude.{◌≡◌, IfOk, find, is_some, option_map};
+ghost use Rattle.std.specs.Prelude.{◌≡◌, ◌∷◌, [], IfOk, find, is_some, option_map};
 ghost use Rattle.meson_keywords.specs.ValueKinds.{is_identifier};
 ghost use Rattle.meson_explaining.specs.Names.{bad_name, bad_value, find_key, has_equals, is_bad_option, is_bad_pair, is_bad_variable, is_empty_name};
 ghost use Rattle.meson_explaining.specs.Names.{meant_name, missing_name};
+ghost use Rattle.meson_explaining.specs.Followed.{sought_names};
 ghost use Rattle.meson_followed.specs.Changes.{names_of};
 
 use crate::followed::{first_absent, place_of};
@@ -144,12 +145,34 @@ fn first_bad_key(role: Role, pairs: &[(Text, Setting)]) -> Option<&str>
     }
 }
 
-/// The names that are added or removed.
-fn names_of(change: &SourceChange) -> &[Text]
-    ensures { result.now ≡ names_of change.entry.now }
+/// The first of two names that is empty.
+fn first_empty_of_two<'n>(first: &'n Text, second: &'n Text) -> Option<&'n str>
+    ensures { option_map (λ name. name.now) result ≡ find is_empty_name (first.entry.now ∷ second.entry.now ∷ []) }
+{
+    if is_empty_name(first.get()) {
+        return Some(first.get());
+    }
+    first_empty(slice::from_ref(second))
+}
+
+/// The first empty name of a change of sources.
+fn first_empty_of(change: &SourceChange) -> Option<&str>
+    ensures { option_map (λ name. name.now) result ≡ find is_empty_name (names_of change.now) }
 {
     match change {
-        SourceChange::Add(names) | SourceChange::Remove(names) => names.get(),
+        SourceChange::Add(names) | SourceChange::Remove(names) => first_empty(names.get()),
+        SourceChange::Rename { old, new } => first_empty_of_two(old, new),
+    }
+}
+
+/// The names of a change that have to mean sources of the target.
+pub(crate) fn sought_names(change: &SourceChange) -> &[Text]
+    ensures { result.now ≡ sought_names change.entry.now }
+{
+    match change {
+        SourceChange::Add(_) => &[],
+        SourceChange::Remove(names) => names.get(),
+        SourceChange::Rename { old, .. } => slice::from_ref(old),
     }
 }
 
@@ -163,14 +186,8 @@ pub(crate) fn bad_name(command: &Command) -> Option<&str>
         | Command::SourcesRemove { sources, .. }
         | Command::ExtraAdd { sources, .. }
         | Command::ExtraRemove { sources, .. } => first_empty(sources.get()),
-        Command::FollowedSources { change, .. } => first_empty(names_of(change)),
-        Command::SourcesRename { old, new, .. } => {
-            if is_empty_name(old.get()) {
-                Some(old.get())
-            } else {
-                first_empty(slice::from_ref(new))
-            }
-        }
+        Command::FollowedSources { change, .. } => first_empty_of(change),
+        Command::SourcesRename { old, new, .. } => first_empty_of_two(old, new),
         Command::TargetAdd {
             target,
             sources,
@@ -218,13 +235,10 @@ fn missing_name(
             let items = sources_at(alloc, project, target.as_name())?;
             copied(alloc, first_missing(items.get(), slice::from_ref(old)))
         }
-        Command::FollowedSources {
-            target,
-            change: SourceChange::Remove(names),
-            ..
-        } => {
+        Command::FollowedSources { target, change, .. } => {
             let place = place_of(alloc, project, target.as_name())?;
-            copied(alloc, first_absent(alloc, project, &place, names.get())?)
+            let names = sought_names(change);
+            copied(alloc, first_absent(alloc, project, &place, names)?)
         }
         Command::ExtraRemove { target, sources } => {
             let items = extras_at(alloc, project, target.as_name())?;

@@ -11,7 +11,8 @@ use crate::calls::{Telling, add_few, add_further};
 use crate::explaining::{unexplained, with_help};
 use crate::explanation::Explanation;
 use crate::followed_reasons::{followed_not_removable, followed_unresolved};
-use crate::removals::{Lost, fixed_notes, not_known};
+use crate::names::sought_names;
+use crate::removals::{Lost, REMOVAL_WAY, RENAMING_WAY, fixed_notes, not_known};
 use crate::sources::{extras_at, sources_at};
 use crate::subject::subject_of;
 use crate::targets::{folder_notes, used_notes};
@@ -20,7 +21,6 @@ use meson_inventory::holdings::calls_named;
 use meson_plan::Project;
 use meson_splice::{Many, Text};
 use meson_steps::command::Command;
-use meson_steps::source_change::SourceChange;
 use std::alloc::{AllocError, Global};
 use std::slice;
 
@@ -247,11 +247,9 @@ pub(crate) fn not_removable(
             let notes = fixed_notes(alloc, items.get(), sources.get())?;
             with_help(alloc, notes, help)
         }
-        Command::FollowedSources {
-            target,
-            change: SourceChange::Remove(names),
-            ..
-        } => followed_not_removable(alloc, project, target.as_name(), names.get()),
+        Command::FollowedSources { target, change, .. } => {
+            followed_not_removable(alloc, project, target.as_name(), sought_names(change))
+        }
         _ => Ok(unexplained(alloc)),
     }
 }
@@ -270,7 +268,7 @@ pub(crate) fn unresolved(
             let lost = Lost {
                 target: target.as_name(),
                 key: "sources",
-                way: "arg remove at FILE:LINE . SOURCE removes it from the list that is set on that line",
+                way: REMOVAL_WAY,
                 items: items.get(),
                 names: sources.get(),
             };
@@ -281,7 +279,7 @@ pub(crate) fn unresolved(
             let lost = Lost {
                 target: target.as_name(),
                 key: "sources",
-                way: "arg replace at FILE:LINE . OLD NEW renames it in the list that is set on that line",
+                way: RENAMING_WAY,
                 items: items.get(),
                 names: slice::from_ref(old),
             };
@@ -292,17 +290,15 @@ pub(crate) fn unresolved(
             let lost = Lost {
                 target: target.as_name(),
                 key: "extra_files",
-                way: "arg remove at FILE:LINE . SOURCE removes it from the list that is set on that line",
+                way: REMOVAL_WAY,
                 items: items.get(),
                 names: sources.get(),
             };
             not_known(alloc, project, lost)
         }
-        Command::FollowedSources {
-            target,
-            change: SourceChange::Remove(names),
-            ..
-        } => followed_unresolved(alloc, project, target.as_name(), names.get()),
+        Command::FollowedSources { target, change, .. } => {
+            followed_unresolved(alloc, project, target.as_name(), change)
+        }
         _ => Ok(unexplained(alloc)),
     }
 }

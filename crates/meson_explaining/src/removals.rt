@@ -23,6 +23,12 @@ use meson_splice::{Many, Text};
 use meson_variables::SourceItem;
 use std::alloc::{AllocError, Global};
 
+/// What changes one list, for a name that is removed and for one that gets another.
+pub(crate) const REMOVAL_WAY: &str =
+    "arg remove at FILE:LINE . SOURCE removes it from the list that is set on that line";
+
+pub(crate) const RENAMING_WAY: &str =
+    "arg replace at FILE:LINE . OLD NEW renames it in the list that is set on that line";
 /// The most items that are reported.
 const MOST_FIXED: usize = 3;
 /// The most calls of one function that are reported.

@@ -24,10 +24,10 @@ use Rattle.meson_followed.specs.Homes.{Home, Homes, any_home, best_home, by_make
 use Rattle.meson_followed.specs.Sources.{sources_of}
 
 module _ (p : Project Span) (c : CallRef) (source : List ℕ) (l : rust.List) (function : List ℕ) (shared : SharedLists) (names : List (List ℕ)) where
-  abbrev it : Placed (Call Span)
+  abbrev pub it : Placed (Call Span)
   it = placed_call c function source l
 
-  abbrev args : ℕ
+  abbrev pub args : ℕ
   args = length (kept_args source (value_with_name sources_key) 0 (rust.out-List l).items)
 
   few_are : {Y : Type 0} (y : Y) → args ≤ 1 → once sources_key (keyword sources_key it.it) y ≡ Ok y
@@ -41,15 +41,15 @@ module _ (p : Project Span) (c : CallRef) (source : List ℕ) (l : rust.List) (f
       ∙ once_twice sources_key (kept_args source (value_with_name sources_key) 0 (rust.out-List l).items) y many
 
   -- what is done to the marks, if the names are checked and no argument is there twice
-  abbrev checked_then : (List (Mark Span) → Result (List Step) Refusal) → Result (List Step) Refusal
+  abbrev pub checked_then : (List (Mark Span) → Result (List Step) Refusal) → Result (List Step) Refusal
   checked_then more = then_ok (checked_names names) (λ _. then_ok (once sources_key (keyword sources_key it.it) (follow_marks p it)) more)
 
-  checked_few : (more : List (Mark Span) → Result (List Step) Refusal) → checked_names names ≡ Ok tt → args ≤ 1 → checked_then more ≡ more (follow_marks p it)
+  pub checked_few : (more : List (Mark Span) → Result (List Step) Refusal) → checked_names names ≡ Ok tt → args ≤ 1 → checked_then more ≡ more (follow_marks p it)
   checked_few more checked few =
       ap (λ r. then_ok r (λ _. then_ok (once sources_key (keyword sources_key it.it) (follow_marks p it)) more)) checked
       ∙ ap (λ r. then_ok r more) (few_are (follow_marks p it) few)
 
-  checked_many : (more : List (Mark Span) → Result (List Step) Refusal) → checked_names names ≡ Ok tt → 1 < args
+  pub checked_many : (more : List (Mark Span) → Result (List Step) Refusal) → checked_names names ≡ Ok tt → 1 < args
       → checked_then more ≡ Err (DuplicateKeyword sources_key)
   checked_many more checked many =
       ap (λ r. then_ok r (λ _. then_ok (once sources_key (keyword sources_key it.it) (follow_marks p it)) more)) checked

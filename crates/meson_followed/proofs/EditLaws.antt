@@ -30,7 +30,7 @@ use Rattle.meson_followed.proofs.NamedElements.{distinct_given, each_kept, head_
 
 -- ---- checks that nothing stops
 
-once_is : {X Y : Type 0} (key : List ℕ) (xs : List X) (y z : Y) → once key xs y ≡ Ok z → y ≡ z
+pub once_is : {X Y : Type 0} (key : List ℕ) (xs : List X) (y z : Y) → once key xs y ≡ Ok z → y ≡ z
 once_is key [] y z is = cc
 once_is key (x ∷ []) y z is = cc
 once_is key (x ∷ w ∷ more) y z is = absurd cc
@@ -119,11 +119,11 @@ module _ (p : Project Span) (c : Placed (Call Span)) where
 -- ---- what is removed
 
 module _ (p : Project Span) (c : Placed (Call Span)) where
-  record AreForOne (rs gone : List Removal) : Type 0 where
+  pub record AreForOne (rs gone : List Removal) : Type 0 where
     pub are_all : rs ≡ gone
     pub are_for_one : All (λ r. IsForOne p c r.maker) rs
 
-  none_are_shared : (rs gone : List Removal) → none_shared p c rs ≡ Ok gone → AreForOne rs gone
+  pub none_are_shared : (rs gone : List Removal) → none_shared p c rs ≡ Ok gone → AreForOne rs gone
   none_are_shared [] gone is = record { are_all = cc; are_for_one = All-nil (λ (r : Removal). IsForOne p c r.maker) }
   none_are_shared (r ∷ rs) gone is = go (by_maker (is_unshared p c) r.maker) refl (none_are_shared rs) is
     where
@@ -159,7 +159,7 @@ module _ (p : Project Span) (c : Placed (Call Span)) where
       let may = ok_then (if_may_go p c shared named.0) (λ gone. Ok (removed_steps gone)) steps named.2 in
       record { found = named.0; gone = may.0; are_found = named.1; may_go = may.1; are_steps = cc (may.2) }
 
-  all_found_go : (shared : SharedLists) (rs gone : List Removal) → if_may_go p c shared rs ≡ Ok gone → rs ≡ gone
+  pub all_found_go : (shared : SharedLists) (rs gone : List Removal) → if_may_go p c shared rs ≡ Ok gone → rs ≡ gone
   all_found_go Kept rs gone is = (none_are_shared rs gone is).are_all
   all_found_go Changed rs gone is = cc
 

@@ -76,7 +76,7 @@ module _ (p : Project Span) (c : Placed (Call Span)) (test : CallRef → Bool) (
       ∙ ap (λ o. if by_maker test r.maker then then_ok o (λ gone. Ok (r ∷ gone)) else Err why) (none_are_shared rs)
       ∙ one_more (by_maker test r.maker) r rs why (all_pass p test rs)
 
-  may_go_if : (shared : SharedLists) (rs : List Removal) → if_may_go p c shared rs ≡ then_ok (pass_if_kept p test shared rs) (λ _. Ok rs)
+  pub may_go_if : (shared : SharedLists) (rs : List Removal) → if_may_go p c shared rs ≡ then_ok (pass_if_kept p test shared rs) (λ _. Ok rs)
   may_go_if Kept rs = none_are_shared rs
   may_go_if Changed rs = refl
 

@@ -22,7 +22,7 @@ use Rattle.meson_followed.specs.Homes.{Home, Homes, home}
 use Rattle.meson_followed.specs.Sources.{MetSource, named_path, sources_of, spot_of_item}
 
 abbrev pub met_view : code.MetSource → MetSource
-met_view s = record { path = s.path; sure = s.item.now.way.sure; spot = spot_of_item (item_view s.item.now); maker = last_of s.item.now.way.through.items }
+met_view s = record { path = s.path; sure = s.item.now.way.sure; base = s.base; spot = spot_of_item (item_view s.item.now); maker = last_of s.item.now.way.through.items }
 
 -- ---- names
 

@@ -1,4 +1,4 @@
--- What the code finds and checks where sources are removed.
+-- What the code finds and checks where sources are removed or renamed.
 use Rattle.std.specs.Prelude.{Bool, List, [], ◌∷◌, if◌then◌else◌, Result, Ok, Err}
 use Rattle.meson_calls.specs.declared.call.CallRef.{CallRef}
 use Rattle.meson_calls.specs.declared.refusal.Refusal.{Refusal}
@@ -12,7 +12,7 @@ use Rattle.meson_followed.specs.FollowedEdits.{Removal, maker_name}
 use Rattle.meson_followed.specs.Homes.{by_maker}
 
 abbrev pub removal_view : code.Removal → Removal
-removal_view r = record { spot = spot_view r.spot; maker = r.maker }
+removal_view r = record { spot = spot_view r.spot; base = r.base; maker = r.maker }
 
 -- whether each is in a list that passes this test; else the refusal of the first that is not
 abbrev pub all_pass : {S : Type 0} → Project S → (CallRef → Bool) → List Removal → Result (Unit {0}) Refusal

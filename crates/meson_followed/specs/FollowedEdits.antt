@@ -38,13 +38,14 @@ followed_added p c shared names =
 
 -- ---- removal
 
--- what is removed: an element of a list, and the maker in whose value it is, if it is in one
+-- a source that is an element of a list: the element, the file from whose folder its name is taken, and the maker in whose value it is, if it is in one
 pub record Removal : Type 0 where
   pub spot : Spot
+  pub base : ℕ
   pub maker : Option CallRef
 
 abbrev pub removal_of : MetSource → Option Removal
-removal_of s = option_map (λ spot. record { spot = spot; maker = s.maker }) s.spot
+removal_of s = option_map (λ spot. record { spot = spot; base = s.base; maker = s.maker }) s.spot
 
 -- all are in lists
 abbrev pub removals_of : List MetSource → Option (List Removal)

@@ -1,9 +1,11 @@
 -- What commands promise a user where variables are followed.
-use Rattle.std.specs.Prelude.{◌≡◌, ℕ, true, List, ◌++◌, Option, Some, None, Ok}
+use Rattle.std.specs.Prelude.{◌≡◌, ℕ, true, false, List, [], ◌∷◌, ◌++◌, Option, Some, None, Ok}
 use Rattle.std.specs.List.{All, Contains}
 use Rattle.meson_lex.specs.declared.kinds.Span.{Span}
 use Rattle.meson_calls.specs.declared.call.CallRef.{CallRef}
 use Rattle.meson_calls.specs.Calls.{Call}
+use Rattle.meson_calls.specs.Entering.{is_absolute}
+use Rattle.meson_calls.specs.Folders.{IsFileName}
 use Rattle.meson_calls.specs.Project.{Placed, Project}
 use Rattle.meson_following.specs.Following.{follow_marks}
 use Rattle.meson_sharing.specs.Sharing.{is_unshared}
@@ -13,6 +15,8 @@ use Rattle.meson_steps.specs.declared.source_change.SharedLists.{SharedLists}
 use Rattle.meson_steps.specs.declared.source_change.SharedLists.TheVariants.{Kept}
 use Rattle.meson_followed.specs.FollowedEdits.{Removal, followed_added, followed_removed, new_sources, removal_of, removed_steps}
 use Rattle.meson_followed.specs.Homes.{Home, homes_of}
+use Rattle.meson_followed.specs.Paths.{name_from, path_of}
+use Rattle.meson_followed.specs.Renaming.{followed_renamed, renamed_steps}
 use Rattle.meson_followed.specs.Sources.{MetSource, named_path, sources_of}
 
 module _ (p : Project Span) (c : Placed (Call Span)) where
@@ -91,6 +95,23 @@ module _ (p : Project Span) (c : Placed (Call Span)) where
     pub takes : Takes names steps
     pub are_for_one : All (λ r. IsForOne r.maker) takes.gone
 
+  -- no source has the path that this name means
+  abbrev pub IsFresh : List ℕ → Type 0
+  IsFresh name = (s : MetSource) → Contains met_sources s → s.path ≡ named_path p c.place.file name → ⊥
+
+  -- These steps give each source that the old name means the new one, which means no source yet, and nothing else gets it.
+  pub record Renames (old new : List ℕ) (steps : List Step) : Type 0 where
+    pub renamed : List Removal
+    pub are_steps : renamed_steps p c.place.file new renamed ≡ steps
+    pub only_old : All (IsNamed (old ∷ [])) renamed
+    pub all_old : AllGo renamed old
+    pub is_fresh : IsFresh new
+
+  -- what is renamed is for this target alone
+  pub record RenamesForOne (old new : List ℕ) (steps : List Step) : Type 0 where
+    pub renames : Renames old new steps
+    pub are_for_one : All (λ r. IsForOne r.maker) renames.renamed
+
 -- the law: where shared lists are kept, no other target gets what is added
 abbrev pub AddedGoToOne : Type 0
 AddedGoToOne = (p : Project Span) (c : Placed (Call Span)) (names : List (List ℕ)) (steps : List Step) → followed_added p c Kept names ≡ Ok steps
@@ -114,3 +135,17 @@ SureAreNotAdded = (p : Project Span) (c : Placed (Call Span)) (names : List (Lis
 -- the law: each name is added that means none
 abbrev pub MissingAreAdded : Type 0
 MissingAreAdded = (p : Project Span) (c : Placed (Call Span)) (names : List (List ℕ)) → Adds p c names
+
+-- the law: each source at the path of the old name gets the new one, and nothing else
+abbrev pub OldAreRenamed : Type 0
+OldAreRenamed = (p : Project Span) (c : Placed (Call Span)) (shared : SharedLists) (old new : List ℕ) (steps : List Step)
+    → followed_renamed p c shared old new ≡ Ok steps → Renames p c old new steps
+
+-- the law: where shared lists are kept, no other target's source is renamed
+abbrev pub RenamedAreOfOne : Type 0
+RenamedAreOfOne = (p : Project Span) (c : Placed (Call Span)) (old new : List ℕ) (steps : List Step) → followed_renamed p c Kept old new ≡ Ok steps
+    → RenamesForOne p c old new steps
+
+-- the law: a name that is written for a path in the folder of another build file means that path there
+abbrev pub NamesMeanPaths : Type 0
+NamesMeanPaths = (file text base : List ℕ) → is_absolute text ≡ false → IsFileName base → path_of base (name_from file text base) ≡ path_of file text

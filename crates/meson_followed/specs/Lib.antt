@@ -2,9 +2,12 @@ pub mod Paths
 pub mod Sources
 pub mod Homes
 pub mod FollowedEdits
+pub mod Renaming
 pub mod CodeEdits
 pub mod Rows
+pub mod RenameRows
 pub mod Laws
 pub mod CodeRemovals
+pub mod CodeRenamings
 pub mod Changes
 pub mod Effects

@@ -1,7 +1,7 @@
 -- The paths that names of sources mean. Meson manual, Reference manual, `files` and `executable`: a name is a path from the folder of the build file. A part
 -- that is empty or `.` means nothing, and `..` means the folder around.
-use Rattle.std.specs.Prelude.{ℕ, ◌-◌, List, [], ◌∷◌, ◌++◌, flat_map, length, take, slice_get, if◌then◌else◌, bytes_eq, codes, Option, Some, None}
-use Rattle.std.specs.List.{fold}
+use Rattle.std.specs.Prelude.{ℕ, ◌-◌, List, [], ◌∷◌, ◌++◌, flat_map, length, map, take, slice_get, if◌then◌else◌, bytes_eq, codes, Option, Some, None}
+use Rattle.std.specs.List.{fold, join_with_byte}
 use Rattle.meson_calls.specs.Entering.{is_absolute, names_folder}
 use Rattle.meson_calls.specs.Folders.{slash_parts}
 
@@ -43,3 +43,20 @@ written_path path = flat_map (λ part. part ++ 47 ∷ []) path
 -- the path that a text means in the file of this name
 abbrev pub path_of : (file text : List ℕ) → List ℕ
 path_of file text = written_path (through_parts (start_of file text) text)
+
+-- ---- names that mean a path
+
+-- The way from a folder to a path: up from each folder that is not on the way to the path, and on through the rest of the path.
+abbrev pub way_from : (folder path : Parts) → Parts
+way_from [] path = path
+way_from (f ∷ fs) [] = map (λ _. upward) (f ∷ fs)
+way_from (f ∷ fs) (x ∷ xs) = if bytes_eq f x then way_from fs xs else map (λ _. upward) (f ∷ fs) ++ x ∷ xs
+
+-- as a name: the parts with a slash between; `.` if there are no parts
+abbrev pub name_of_way : Parts → List ℕ
+name_of_way [] = codes "."
+name_of_way (part ∷ more) = join_with_byte 47 (part ∷ more)
+
+-- a name that means in the file of the last name what the text means in the file of the first one
+abbrev pub name_from : (file text base : List ℕ) → List ℕ
+name_from file text base = name_of_way (way_from (file_folder base) (through_parts (file_folder file) text))

@@ -16,7 +16,7 @@ use Rattle.meson_followed.specs.FollowedEdits.{followed_added, followed_removed}
 
 -- ---- what a command makes of build files
 
-abbrev Command : Type 0
+abbrev pub Command : Type 0
 Command = SharedLists → Project Nowhere → Placed (Call Nowhere) → Result (List Step) Refusal
 
 abbrev add : List (List ℕ) → Command
@@ -25,32 +25,32 @@ add names shared p c = followed_added p c shared names
 abbrev rm : List (List ℕ) → Command
 rm names shared p c = followed_removed p c shared names
 
-abbrev trees : Project Nowhere → List Plain
+abbrev pub trees : Project Nowhere → List Plain
 trees p = map (λ f. f.tree) p
 
-abbrev made_of : Project Nowhere → Result (List Step) Refusal → Result (Option (List Plain)) Refusal
+abbrev pub made_of : Project Nowhere → Result (List Step) Refusal → Result (Option (List Plain)) Refusal
 made_of p steps = then_ok steps (λ ss. Ok (all_stepped ss (trees p)))
 
 -- for the target whose call is at a path of the n-th file
-abbrev Gives : SharedLists → Project Nowhere → ℕ → List ℕ → Command → Result (Option (List Plain)) Refusal → Type 0
+abbrev pub Gives : SharedLists → Project Nowhere → ℕ → List ℕ → Command → Result (Option (List Plain)) Refusal → Type 0
 Gives shared p n path command result = option_map (λ c. made_of p (command shared p c)) (call_at p (place n path)) ≡ Some result
 
 -- where the target is the n-th statement of the first file
-abbrev Makes : Project Nowhere → ℕ → Command → Project Nowhere → Type 0
+abbrev pub Makes : Project Nowhere → ℕ → Command → Project Nowhere → Type 0
 Makes p n command q = Gives Kept p 0 (n ∷ 0 ∷ []) command (Ok (Some (trees q)))
 
 -- with shared lists changed
-abbrev MakesShared : Project Nowhere → ℕ → Command → Project Nowhere → Type 0
+abbrev pub MakesShared : Project Nowhere → ℕ → Command → Project Nowhere → Type 0
 MakesShared p n command q = Gives Changed p 0 (n ∷ 0 ∷ []) command (Ok (Some (trees q)))
 
-abbrev IsRefused : Project Nowhere → ℕ → Command → Refusal → Type 0
+abbrev pub IsRefused : Project Nowhere → ℕ → Command → Refusal → Type 0
 IsRefused p n command why = Gives Kept p 0 (n ∷ 0 ∷ []) command (Err why)
 
 -- in the second file
-abbrev MakesInside : Project Nowhere → ℕ → Command → Project Nowhere → Type 0
+abbrev pub MakesInside : Project Nowhere → ℕ → Command → Project Nowhere → Type 0
 MakesInside p n command q = Gives Kept p 1 (n ∷ 0 ∷ []) command (Ok (Some (trees q)))
 
-abbrev IsRefusedInside : Project Nowhere → ℕ → Command → Refusal → Type 0
+abbrev pub IsRefusedInside : Project Nowhere → ℕ → Command → Refusal → Type 0
 IsRefusedInside p n command why = Gives Kept p 1 (n ∷ 0 ∷ []) command (Err why)
 
 -- ---- names and statements
@@ -59,30 +59,30 @@ abbrev one : List ℕ → List (List ℕ)
 one name = name ∷ []
 
 -- `NAME('e', ..)` and `NAME('f', ..)`
-abbrev made : List E → S
+abbrev pub made : List E → S
 made es = does (codes "executable") (text (codes "e") ∷ es)
 
-abbrev other : List E → S
+abbrev pub other : List E → S
 other es = does (codes "executable") (text (codes "f") ∷ es)
 
-abbrev both : (a b : List ℕ) → E
+abbrev pub both : (a b : List ℕ) → E
 both a b = array (elements (text a ∷ text b ∷ []))
 
-abbrev nothing : E
+abbrev pub nothing : E
 nothing = array (elements [])
 
 -- `src += e`
-abbrev adds_to : E → S
+abbrev pub adds_to : E → S
 adds_to e = assign tt (bare_name src) assigns.Add e
 
 -- `common = e`
-abbrev common : List ℕ
+abbrev pub common : List ℕ
 common = codes "common"
 
-abbrev sets_common : E → S
+abbrev pub sets_common : E → S
 sets_common e = assign tt (bare_name common) assigns.Set e
 
-abbrev files_of : List E → E
+abbrev pub files_of : List E → E
 files_of es = calling (codes "files") es
 
 -- ---- one after another
@@ -126,7 +126,7 @@ Unknown =
 -- ---- branches and loops
 
 -- `src` is one of two lists, each of two names
-abbrev either_of : (a b c d : List ℕ) → Project Nowhere
+abbrev pub either_of : (a b c d : List ℕ) → Project Nowhere
 either_of a b c d = alone (either_way (sets_to (both a b) ∷ []) (sets_to (both c d) ∷ []) ∷ target ∷ [])
 
 abbrev pub Branching : Type 0
@@ -153,11 +153,11 @@ Branching =
 -- ---- folders
 
 -- `src = files('a.c')` in the folder `s`
-abbrev files_in_s : List ℕ → List S → Project Nowhere
+abbrev pub files_in_s : List ℕ → List S → Project Nowhere
 files_in_s name made_so = beside_s (enters (codes "s") ∷ made_so) (sets_to (files_of (text name ∷ [])) ∷ [])
 
 -- `common = files('c.c')` above it
-abbrev files_above : List E → List E → Project Nowhere
+abbrev pub files_above : List E → List E → Project Nowhere
 files_above files sources = beside_s (sets_common (files_of files) ∷ enters (codes "s") ∷ []) (made sources ∷ [])
 
 abbrev pub Folders : Type 0
@@ -179,7 +179,7 @@ Folders =
 -- ---- lists that others get too
 
 -- `src = ['a.c']`, `executable('e', src, ..)` and `executable('f', src, ..)`
-abbrev two_of : List S → (es fs : List E) → Project Nowhere
+abbrev pub two_of : List S → (es fs : List E) → Project Nowhere
 two_of ss es fs = alone (ss ++ made (variable src ∷ es) ∷ other (variable src ∷ fs) ∷ [])
 
 abbrev pub SharedWithOthers : Type 0

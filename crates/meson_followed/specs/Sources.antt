@@ -1,20 +1,22 @@
 -- The sources that a target may have, where variables are followed, as commands name them.
-use Rattle.std.specs.Prelude.{ℕ, ◌-◌, Bool, List, [], ◌∷◌, ◌++◌, length, take, slice_get, if◌then◌else◌, bytes_eq, Option, Some, None, option_map}
+use Rattle.std.specs.Prelude.{ℕ, ◌-◌, ◌==◌, Bool, ◌||◌, List, [], ◌∷◌, ◌++◌, length, take, slice_get, if◌then◌else◌, bytes_eq, Option, Some, None, option_map}
 use Rattle.std.specs.List.{filter, filter_map}
 use Rattle.std.specs.Option.{option_map_or}
 use Rattle.meson_calls.specs.declared.call.CallRef.{CallRef}
+use Rattle.meson_calls.specs.Entering.{is_absolute}
 use Rattle.meson_calls.specs.Project.{Project, nth_file, place}
 use Rattle.meson_calls.specs.Roles.{one_of}
 use Rattle.meson_following.specs.Following.{Item, Mark, known, opaque, empty}
 use Rattle.meson_sharing.specs.Told.{last_of}
 use Rattle.meson_sources.specs.SourceEdits.{Spot}
-use Rattle.meson_followed.specs.Paths.{path_of}
+use Rattle.meson_followed.specs.Paths.{name_from, path_of}
 
--- the path of a source, whether it is there in each evaluation, the list that it is an element of and its number in it, if there is one, and the maker in whose
--- value it is, if it is in one
+-- the path of a source, whether it is there in each evaluation, the file from whose folder its name is taken, the list that it is an element of and its number in
+-- it, if there is one, and the maker in whose value it is, if it is in one
 pub record MetSource : Type 0 where
   pub path : List ℕ
   pub sure : Bool
+  pub base : ℕ
   pub spot : Option Spot
   pub maker : Option CallRef
 
@@ -48,10 +50,15 @@ module _ {S : Type 0} (p : Project S) (n : ℕ) where
   abbrev pub named_path : List ℕ → List ℕ
   named_path name = path_of (file_name p n) name
 
+  -- The name for this path where names are taken from the folder of the file of this number. It is written as it is given where it means the same there.
+  abbrev pub name_for : List ℕ → (base : ℕ) → List ℕ
+  name_for name base = if base == n || is_absolute name then name else name_from (file_name p n) name (file_name p base)
+
   abbrev pub source_of_item : Item S → MetSource
   source_of_item i = record {
     path = path_of (file_name p (base_of n i.way.files)) i.text;
     sure = i.way.sure;
+    base = base_of n i.way.files;
     spot = spot_of_item i;
     maker = last_of i.way.through;
   }

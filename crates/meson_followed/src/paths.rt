@@ -3,7 +3,7 @@
 ghost use Rattle.std.specs.Prelude.{◌≡◌, IfOk, OnOk, map, not};
 ghost use Rattle.meson_calls.specs.Entering.{names_folder};
 ghost use Rattle.meson_calls.specs.Folders.{slash_parts};
-ghost use Rattle.meson_followed.specs.Paths.{around, onward, path_of, start_of, through_parts, written_path};
+ghost use Rattle.meson_followed.specs.Paths.{around, file_folder, onward, path_of, start_of, through_parts, written_path};
 
 use meson_splice::Text;
 use std::alloc::{AllocError, Global};
@@ -54,7 +54,11 @@ fn parts_of(alloc: Global, text: &str) -> Result<Vec<&str>, AllocError>
 }
 
 /// Goes through the parts of a text.
-fn go_through<'t>(alloc: Global, parts: &mut Vec<&'t str>, text: &'t str) -> Result<(), AllocError>
+pub(crate) fn go_through<'t>(
+    alloc: Global,
+    parts: &mut Vec<&'t str>,
+    text: &'t str,
+) -> Result<(), AllocError>
     ensures { OnOk result (map (λ part. part.now) parts.new.items ≡ through_parts (map (λ part. part.now) parts.old.items) text.now) }
 {
     let all = parts_of(alloc, text)?;
@@ -64,18 +68,26 @@ fn go_through<'t>(alloc: Global, parts: &mut Vec<&'t str>, text: &'t str) -> Res
     Ok(())
 }
 
+/// The folder of the file of this name.
+pub(crate) fn file_folder(alloc: Global, file: &str) -> Result<Vec<&str>, AllocError>
+    ensures { IfOk result (λ parts. map (λ part. part.now) parts.items ≡ file_folder file.now) }
+{
+    let mut parts = Vec::new(alloc);
+    go_through(alloc, &mut parts, file)?;
+    go_up(&mut parts)?;
+    Ok(parts)
+}
+
 /// Where a text in the file of this name begins: at the root, or in the folder of the file.
 fn start_of<'t>(alloc: Global, file: &'t str, text: &'t str) -> Result<Vec<&'t str>, AllocError>
     ensures { IfOk result (λ parts. map (λ part. part.now) parts.items ≡ start_of file.now text.now) }
 {
-    let mut parts = Vec::new(alloc);
     if text.starts_with('/') {
+        let mut parts = Vec::new(alloc);
         parts.push("")?;
         return Ok(parts);
     }
-    go_through(alloc, &mut parts, file)?;
-    go_up(&mut parts)?;
-    Ok(parts)
+    file_folder(alloc, file)
 }
 
 /// The parts as one text, each with a slash after it.

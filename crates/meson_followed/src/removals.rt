@@ -1,4 +1,4 @@
-//! What is removed where sources are removed.
+//! The elements that are removed or renamed, by the names of sources.
 
 ghost use Rattle.std.specs.Prelude.{◌≡◌, IfOk, Ok, count_by, map, option_map};
 ghost use Rattle.meson_calls.specs.Loading.{IsProject, loaded_from};
@@ -20,14 +20,16 @@ use meson_sources::removing::ElementSpot;
 use meson_splice::Text;
 use std::alloc::{AllocError, Global};
 
-/// An element of a list, and the maker in whose value it is, if it is in one.
+/// A source that is an element of a list: the element, the number of the file from whose folder its name is taken, and the maker in whose value it is, if it is in
+/// one.
 #[derive(Drop)]
 pub(crate) struct Removal {
     pub spot: ElementSpot,
+    pub base: usize,
     pub maker: Option<CallRef>,
 }
 
-/// What is removed of a source; `None` where it is in no list.
+/// The element that a source is; `None` where it is in no list.
 fn removal_of(alloc: Global, source: &MetSource<'_>) -> Result<Option<Removal>, AllocError>
     ensures { IfOk result (λ removal. option_map removal_view removal ≡ removal_of (met_view source.now)) }
 {
@@ -35,10 +37,11 @@ fn removal_of(alloc: Global, source: &MetSource<'_>) -> Result<Option<Removal>, 
         return Ok(None);
     };
     let maker = maker_of(alloc, &source.item.way)?;
-    Ok(Some(Removal { spot, maker }))
+    let base = source.base;
+    Ok(Some(Removal { spot, base, maker }))
 }
 
-/// What is removed of the sources at a path; `None` where one of them is in no list.
+/// The elements that the sources at a path are; `None` where one of them is in no list.
 fn removals_of(
     alloc: Global,
     sources: &[MetSource<'_>],
@@ -59,7 +62,7 @@ fn removals_of(
     Ok(Some(all))
 }
 
-/// Why nothing is removed where no source is found and this many things are not known.
+/// Why no source is found where this many things are not known.
 fn none_found(unknown: usize) -> Refusal
     ensures { result ≡ none_found unknown }
 {
@@ -70,7 +73,7 @@ fn none_found(unknown: usize) -> Refusal
     }
 }
 
-/// What is removed of the sources at a path, where this many things are not known.
+/// The elements that the sources at a path are, where this many things are not known.
 ///
 /// # Errors
 /// No source is there, or one of them is in no list, or out of memory.
@@ -92,7 +95,7 @@ fn removals_by(
     Ok(all)
 }
 
-/// What is removed of the sources at the paths of names.
+/// The elements that the sources at the paths of names are.
 ///
 /// # Errors
 /// No source is at one of them, or one is in no list, or out of memory.
@@ -123,7 +126,7 @@ fn count_unknown(marks: &[Mark]) -> usize
         .count()
 }
 
-/// What is removed of the sources at the paths of these names, among what a target in the file of this number meets.
+/// The elements that the sources at the paths of these names are, among what a target in the file of this number meets.
 ///
 /// # Errors
 /// A name means none of them, or one that is in no list, or out of memory.

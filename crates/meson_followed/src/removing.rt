@@ -66,7 +66,7 @@ fn check_each(asking: &Asking<'_>, removals: &[Removal]) -> Result<(), Refusal>
 }
 
 /// The same, if shared lists are kept.
-fn check_if_kept(
+pub(crate) fn check_if_kept(
     asking: &Asking<'_>,
     shared: SharedLists,
     removals: &[Removal],

@@ -5,20 +5,22 @@ ghost use Rattle.std.specs.List.{cons_option};
 ghost use Rattle.meson_calls.specs.Loading.{IsProject, loaded_from};
 ghost use Rattle.meson_following.specs.CodeFollowing.{followed_project, item_view, mark_view};
 ghost use Rattle.meson_followed.specs.CodeEdits.{met_view};
-ghost use Rattle.meson_followed.specs.Sources.{base_of, file_name, named_path, source_of, source_of_item, sources_of, spot_at, spot_of_item};
+ghost use Rattle.meson_followed.specs.Sources.{base_of, file_name, name_for, named_path, source_of, source_of_item, sources_of, spot_at, spot_of_item};
 ghost use Rattle.meson_sources.specs.inside.CodeSpots.{spot_view};
 
 use crate::paths::path_of;
+use crate::ways::name_from;
 use meson_calls::CallRef;
 use meson_following::{Follower, Item, Mark};
 use meson_sources::removing::ElementSpot;
 use meson_splice::Text;
 use std::alloc::{AllocError, Global};
 
-/// A source that is met: its path, and the literal that names it.
+/// A source that is met: its path, the number of the file from whose folder its name is taken, and the literal that names it.
 #[derive(Drop)]
 pub(crate) struct MetSource<'m> {
     pub path: Text,
+    pub base: usize,
     pub item: &'m Item,
 }
 
@@ -55,6 +57,24 @@ pub(crate) fn path_in(
     path_of(follower.alloc, file_name(follower, number), text)
 }
 
+/// The name for the path that a name means in the file of this number, where names are taken from the folder of another file. It is written as it is given where it
+/// means the same there.
+pub(crate) fn name_for(
+    follower: &Follower<'_>,
+    number: usize,
+    name: &Text,
+    base: usize,
+) -> Result<Text, AllocError>
+    requires { IsProject (loaded_from follower.now.files.now follower.now.trees.now) }
+    ensures { IfOk result (λ text. text ≡ name_for (followed_project follower.now) number name.now base) }
+{
+    if base == number || name.get().starts_with('/') {
+        return name.clone();
+    }
+    let file = file_name(follower, number);
+    name_from(follower.alloc, file, name.get(), file_name(follower, base))
+}
+
 /// The source that a literal names, of a target whose call is in the file of this number.
 fn source_of_item<'m>(
     follower: &Follower<'_>,
@@ -64,8 +84,9 @@ fn source_of_item<'m>(
     requires { IsProject (loaded_from follower.now.files.now follower.now.trees.now) }
     ensures { IfOk result (λ s. met_view s ≡ source_of_item (followed_project follower.now) number (item_view item.now)) }
 {
-    let path = path_in(follower, base_of(number, item.way.files), item.text.get())?;
-    Ok(MetSource { path, item })
+    let base = base_of(number, item.way.files);
+    let path = path_in(follower, base, item.text.get())?;
+    Ok(MetSource { path, base, item })
 }
 
 /// Takes what is met, if it is a source.

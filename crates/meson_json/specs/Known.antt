@@ -36,6 +36,7 @@ code_members (place.End file) = codes "code" ∷ codes "blank" ∷ codes "file" 
 abbrev pub source_members : SourceChange → List (List ℕ)
 source_members (sources.Add names) = codes "target" ∷ codes "sources" ∷ codes "in" ∷ codes "sorted" ∷ codes "follow" ∷ []
 source_members (sources.Remove names) = codes "target" ∷ codes "sources" ∷ codes "in" ∷ codes "follow" ∷ []
+source_members (sources.Rename old new) = codes "target" ∷ codes "sources" ∷ codes "in" ∷ codes "follow" ∷ []
 
 -- those that the operation of a command uses
 abbrev pub used_members : Command → List (List ℕ)
@@ -43,7 +44,7 @@ used_members (command.SourcesAdd target sources) = codes "target" ∷ codes "sou
 used_members (command.SourcesAddSorted target sources) = codes "target" ∷ codes "sources" ∷ codes "in" ∷ codes "sorted" ∷ codes "follow" ∷ []
 used_members (command.SourcesRemove target sources) = codes "target" ∷ codes "sources" ∷ codes "in" ∷ codes "follow" ∷ []
 used_members (command.FollowedSources target change shared) = source_members change
-used_members (command.SourcesRename target old new) = codes "target" ∷ codes "sources" ∷ codes "in" ∷ []
+used_members (command.SourcesRename target old new) = codes "target" ∷ codes "sources" ∷ codes "in" ∷ codes "follow" ∷ []
 used_members (command.ExtraAdd target sources) = codes "target" ∷ codes "sources" ∷ codes "in" ∷ []
 used_members (command.ExtraRemove target sources) = codes "target" ∷ codes "sources" ∷ codes "in" ∷ []
 used_members (command.TargetAdd target kind subdir sources) = codes "target" ∷ codes "sources" ∷ codes "subdir" ∷ codes "target_type" ∷ []

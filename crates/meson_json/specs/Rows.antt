@@ -64,7 +64,8 @@ TargetEntries =
     × stands_for (codes "[{'type':'target','target':'l','operation':'target_add','in':1}]") (command.TargetAdd (codes "l") (codes "executable") [] [])
     × gives (codes "[{'type':'target','target':'e','operation':'info','in':1}]") (Err (BadField 0 (codes "in")))
 
--- `follow` is a member of `info`, which takes truth values, and of the changes of sources, which take `"shared"` too, and then no `sorted` that is `true`
+-- `follow` is a member of `info`, which takes truth values, and of the changes of sources, which take `"shared"` too, and an addition then no `sorted` that is
+-- `true`
 abbrev pub FollowEntries : Type 0
 FollowEntries =
     stands_for (codes "[{'type':'target','target':'e','operation':'info','follow':true}]") (command.TargetInfo (anywhere (codes "e")) Followed)
@@ -100,12 +101,10 @@ FollowEntries =
     × stands_for (codes "[{'type':'target','target':'e','operation':'src_add','sources':['a.c'],'follow':false,'sorted':true}]")
     (command.SourcesAddSorted (anywhere (codes "e")) (codes "a.c" ∷ []))
     × stands_for (codes "[{'type':'target','target':'e','operation':'target_rm','follow':1}]") (command.TargetRemove (anywhere (codes "e")))
-    × stands_for (codes "[{'type':'target','target':'e','operation':'rename','sources':['a.c','b.c'],'follow':1}]")
-    (command.SourcesRename (anywhere (codes "e")) (codes "a.c") (codes "b.c"))
     × stands_for (codes "[{'type':'target','target':'e','operation':'extra_files_add','sources':['x.h'],'follow':1}]")
     (command.ExtraAdd (anywhere (codes "e")) (codes "x.h" ∷ []))
 
--- and it is known for these alone
+-- and beside `rename` it is known for these alone
 abbrev pub FollowMembers : Type 0
 FollowMembers =
     gives_known (codes "[{'type':'target','target':'e','operation':'info','follow':true}]") (Ok (command.TargetInfo (anywhere (codes "e")) Followed ∷ []))
@@ -120,10 +119,43 @@ FollowMembers =
     (Ok (command.SourcesRemove (anywhere (codes "e")) (codes "a.c" ∷ []) ∷ []))
     × gives_known (codes "[{'type':'target','target':'e','operation':'src_rm','sources':['a.c'],'follow':true,'sorted':true}]")
     (Err (UnknownMember 0 (codes "sorted")))
-    × gives_known (codes "[{'type':'target','target':'e','operation':'rename','sources':['a.c','b.c'],'follow':true}]") (Err (UnknownMember 0 (codes "follow")))
     × gives_known (codes "[{'type':'target','target':'e','operation':'extra_files_rm','sources':['x.h'],'follow':true}]")
     (Err (UnknownMember 0 (codes "follow")))
     × gives_known (codes "[{'type':'kwargs','function':'target','id':'e','operation':'info','follow':true}]") (Err (UnknownMember 0 (codes "follow")))
+
+-- `rename` takes `follow` as the other changes of sources do, and reads it after `in`, before it counts the names; `sorted` is no member of it
+abbrev pub FollowedNames : Type 0
+FollowedNames =
+    stands_for (codes "[{'type':'target','target':'e','operation':'rename','sources':['a.c','b.c'],'follow':true}]")
+    (command.FollowedSources (anywhere (codes "e")) (sources.Rename (codes "a.c") (codes "b.c")) Kept)
+    × stands_for (codes "[{'type':'target','target':'e','operation':'rename','sources':['a.c','b.c'],'follow':'shared'}]")
+    (command.FollowedSources (anywhere (codes "e")) (sources.Rename (codes "a.c") (codes "b.c")) Changed)
+    × stands_for (codes "[{'type':'target','target':'e','operation':'rename','sources':['a.c','b.c'],'follow':'shared','in':'s'}]")
+    (command.FollowedSources (record { id = codes "e"; folder = Some (codes "s") }) (sources.Rename (codes "a.c") (codes "b.c")) Changed)
+    × stands_for (codes "[{'type':'target','target':'e','operation':'rename','sources':['a.c','b.c'],'follow':false}]")
+    (command.SourcesRename (anywhere (codes "e")) (codes "a.c") (codes "b.c"))
+    × stands_for (codes "[{'type':'target','target':'e','operation':'rename','sources':['a.c','b.c'],'follow':true,'sorted':true}]")
+    (command.FollowedSources (anywhere (codes "e")) (sources.Rename (codes "a.c") (codes "b.c")) Kept)
+    × gives (codes "[{'type':'target','target':'e','operation':'rename','sources':['a.c','b.c'],'follow':1}]") (Err (BadField 0 (codes "follow")))
+    × gives (codes "[{'type':'target','target':'e','operation':'rename','sources':['a.c','b.c'],'follow':null}]") (Err (BadField 0 (codes "follow")))
+    × gives (codes "[{'type':'target','target':'e','operation':'rename','sources':['a.c','b.c'],'follow':'own'}]") (Err (BadField 0 (codes "follow")))
+    × gives (codes "[{'type':'target','target':'e','operation':'rename','sources':['a.c','b.c'],'follow':1,'in':1}]") (Err (BadField 0 (codes "in")))
+    × gives (codes "[{'type':'target','target':'e','operation':'rename','sources':1,'follow':1,'in':1}]") (Err (BadField 0 (codes "sources")))
+    × gives (codes "[{'type':'target','target':'e','operation':'rename','sources':['a.c'],'follow':1}]") (Err (BadField 0 (codes "follow")))
+    × gives (codes "[{'type':'target','target':'e','operation':'rename','sources':['a.c'],'follow':true}]") (Err (BadField 0 (codes "sources")))
+    × gives (codes "[{'type':'target','target':'e','operation':'rename','sources':['a.c','b.c','d.c'],'follow':'shared'}]")
+    (Err (BadField 0 (codes "sources")))
+    × gives (codes "[{'type':'target','target':'e','operation':'rename','follow':true}]") (Err (BadField 0 (codes "sources")))
+    × gives_known (codes "[{'type':'target','target':'e','operation':'rename','sources':['a.c','b.c'],'follow':true,'in':'s'}]")
+    (Ok (command.FollowedSources (record { id = codes "e"; folder = Some (codes "s") }) (sources.Rename (codes "a.c") (codes "b.c")) Kept ∷ []))
+    × gives_known (codes "[{'type':'target','target':'e','operation':'rename','sources':['a.c','b.c'],'follow':'shared'}]")
+    (Ok (command.FollowedSources (anywhere (codes "e")) (sources.Rename (codes "a.c") (codes "b.c")) Changed ∷ []))
+    × gives_known (codes "[{'type':'target','target':'e','operation':'rename','sources':['a.c','b.c'],'follow':false}]")
+    (Ok (command.SourcesRename (anywhere (codes "e")) (codes "a.c") (codes "b.c") ∷ []))
+    × gives_known (codes "[{'type':'target','target':'e','operation':'rename','sources':['a.c','b.c'],'follow':true,'sorted':true}]")
+    (Err (UnknownMember 0 (codes "sorted")))
+    × gives_known (codes "[{'type':'target','target':'e','operation':'rename','sources':['a.c','b.c'],'follow':false,'sorted':false}]")
+    (Err (UnknownMember 0 (codes "sorted")))
 
 -- keys and options in the order of their bytes
 abbrev pub ArgumentEntries : Type 0

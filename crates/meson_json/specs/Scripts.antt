@@ -110,13 +110,14 @@ target_members i operation d =
     then_ok (target_sorted i operation (is_some follow) d) (λ sorted.
     Ok (record { target = target; folder = folder; sources = sources; subdir = subdir; target_kind = kind; sorted = sorted; follow = follow }))))))))
 
--- `rename`: the sources are the old name and the new one
+-- `rename`: the sources are the old name and the new one; it reads `follow` as the other changes of sources do
 unfoldable pub rename_entry : ℕ → Data → Result Command ScriptFault
 rename_entry i d =
     then_ok (required_text i (codes "target") d) (λ target.
     then_ok (given (λ d. option_and_then (each_of as_str) (as_array d)) i (codes "sources") [] (get (codes "sources") d)) (λ sources.
     then_ok (folder_at i d) (λ folder.
-    ok_or (renaming_of (record { id = target; folder = folder }) sources) (BadField i (codes "sources")))))
+    then_ok (lists_at i d) (λ follow.
+    ok_or (renaming_of (record { id = target; folder = folder }) sources follow) (BadField i (codes "sources"))))))
 
 unfoldable pub target_entry : ℕ → Data → Result Command ScriptFault
 target_entry i d =

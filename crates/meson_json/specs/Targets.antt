@@ -46,9 +46,14 @@ target_command target.ExtraAdd m = command.ExtraAdd (named_by m) m.sources
 target_command target.ExtraRemove m = command.ExtraRemove (named_by m) m.sources
 target_command target.Info m = command.TargetInfo (named_by m) (reading_of m.follow)
 
+-- a source gets another name: where variables are followed, if they are
+abbrev pub renaming_to : CallName → (old new : List ℕ) → (follow : Option SharedLists) → Command
+renaming_to target old new (Some shared) = command.FollowedSources target (change.Rename old new) shared
+renaming_to target old new None = command.SourcesRename target old new
+
 -- the command that renames sources, if there are an old name and a new one and no other
-abbrev pub renaming_of : CallName → List (List ℕ) → Option Command
-renaming_of target [] = None
-renaming_of target (old ∷ []) = None
-renaming_of target (old ∷ new ∷ []) = Some (command.SourcesRename target old new)
-renaming_of target (old ∷ new ∷ more ∷ names) = None
+abbrev pub renaming_of : CallName → List (List ℕ) → (follow : Option SharedLists) → Option Command
+renaming_of target [] follow = None
+renaming_of target (old ∷ []) follow = None
+renaming_of target (old ∷ new ∷ []) follow = Some (renaming_to target old new follow)
+renaming_of target (old ∷ new ∷ more ∷ names) follow = None

@@ -139,7 +139,8 @@ fn rename_entry(alloc: Global, index: usize, entry: &Value) -> Result<Command, S
     let id = required_text(alloc, index, entry, "target")?;
     let names = texts_or_none(alloc, index, entry, "sources")?;
     let folder = folder_at(alloc, index, entry)?;
-    match renaming_of(CallName { id, folder }, names) {
+    let follow = lists_at(alloc, index, entry)?;
+    match renaming_of(CallName { id, folder }, names, follow) {
         Some(command) => Ok(command),
         None => Err(bad_field(alloc, index, "sources")?),
     }

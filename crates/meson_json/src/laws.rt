@@ -1,6 +1,6 @@
 //! Laws of scripts and logs. The functions do nothing: what they ensure is the law.
 
-ghost use Rattle.meson_json.specs.Rows.{ArgumentEntries, CodeEntries, Faults, FollowEntries, FollowMembers, InfoEntries, KnownMembers, Logs, RefusingChangesNothing, RemovalEntries, SortedEntries, TargetEntries, ValueEntries};
+ghost use Rattle.meson_json.specs.Rows.{ArgumentEntries, CodeEntries, Faults, FollowEntries, FollowMembers, FollowedNames, InfoEntries, KnownMembers, Logs, RefusingChangesNothing, RemovalEntries, SortedEntries, TargetEntries, ValueEntries};
 
 /// Which commands some texts are, and why some are not valid.
 pub fn script_rows()
@@ -11,6 +11,7 @@ pub fn script_rows()
     ensures infos { InfoEntries }
     ensures follow { FollowEntries }
     ensures follow_known { FollowMembers }
+    ensures follow_names { FollowedNames }
     ensures code { CodeEntries }
     ensures removals { RemovalEntries }
     ensures faults { Faults }

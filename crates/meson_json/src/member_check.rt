@@ -68,7 +68,7 @@ fn is_known_of_sources(change: &SourceChange, name: &str) -> bool
     }
     match change {
         SourceChange::Add(_) => name == "sorted",
-        SourceChange::Remove(_) => false,
+        SourceChange::Remove(_) | SourceChange::Rename { .. } => false,
     }
 }
 
@@ -87,11 +87,11 @@ fn is_known(command: &Command, name: &str) -> bool
                 || name == "sorted"
                 || name == "follow"
         }
-        Command::SourcesRemove { .. } => {
+        Command::SourcesRemove { .. } | Command::SourcesRename { .. } => {
             name == "target" || name == "sources" || name == "in" || name == "follow"
         }
         Command::FollowedSources { change, .. } => is_known_of_sources(change, name),
-        Command::SourcesRename { .. } | Command::ExtraAdd { .. } | Command::ExtraRemove { .. } => {
+        Command::ExtraAdd { .. } | Command::ExtraRemove { .. } => {
             name == "target" || name == "sources" || name == "in"
         }
         Command::TargetAdd { .. } => {

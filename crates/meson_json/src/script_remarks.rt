@@ -83,7 +83,7 @@ fn target_members_of(operation: &str) -> &'static [&'static str] {
                 "follow",
             ]
         }
-        "src_rm" => &["type", "operation", "target", "sources", "in", "follow"],
+        "src_rm" | "rename" => &["type", "operation", "target", "sources", "in", "follow"],
         _ => &["type", "operation", "target", "sources", "in"],
     }
 }

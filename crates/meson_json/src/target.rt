@@ -1,7 +1,7 @@
 //! Requests on a target, by a script or on the command line.
 
 ghost use Rattle.std.specs.Prelude.{◌≡◌};
-ghost use Rattle.meson_json.specs.Targets.{addition_of, kept_lists, reading_of, removal_of, renaming_of, target_command};
+ghost use Rattle.meson_json.specs.Targets.{addition_of, kept_lists, reading_of, removal_of, renaming_of, renaming_to, target_command};
 
 use meson_calls::{CallName, Reading};
 use meson_splice::{Many, Text};
@@ -132,9 +132,27 @@ pub fn target_command(operation: TargetOperation, members: TargetMembers) -> Com
     }
 }
 
+/// The command that gives the source of a target with the old name the new one.
+fn renaming_to(target: CallName, old: Text, new: Text, follow: Option<SharedLists>) -> Command
+    ensures { result ≡ renaming_to target old new follow }
+{
+    match follow {
+        Some(shared) => Command::FollowedSources {
+            target,
+            change: SourceChange::Rename { old, new },
+            shared,
+        },
+        None => Command::SourcesRename { target, old, new },
+    }
+}
+
 /// The command that renames sources of a target, if the old name and the new one are given and no other.
-pub fn renaming_of(target: CallName, names: Many<Text>) -> Option<Command>
-    ensures { result ≡ renaming_of target names }
+pub fn renaming_of(
+    target: CallName,
+    names: Many<Text>,
+    follow: Option<SharedLists>,
+) -> Option<Command>
+    ensures { result ≡ renaming_of target names follow }
 {
     let mut names = names.take();
     if names.len() != 2 {
@@ -142,5 +160,5 @@ pub fn renaming_of(target: CallName, names: Many<Text>) -> Option<Command>
     }
     let new = names.pop()?;
     let old = names.pop()?;
-    Some(Command::SourcesRename { target, old, new })
+    Some(renaming_to(target, old, new, follow))
 }

@@ -173,6 +173,17 @@ e
 [{\"type\":\"target\",\"target\":\"e\",\"operation\":\"src_rm\",\"sources\":[\"b.c\",\"./a.c\"],\"follow\":\"shared\"},
 {\"type\":\"target\",\"target\":\"e\",\"operation\":\"src_rm\",\"sources\":[\"b.c\"],\"follow\":true}]
 ====
+common = files('a.c')
+subdir('sub')
+
+==
+executable('e', common, 'b.c')
+==
+e
+==
+[{\"type\":\"target\",\"target\":\"e\",\"operation\":\"rename\",\"sources\":[\"../a.c\",\"n.c\"],\"follow\":true},
+{\"type\":\"target\",\"target\":\"e\",\"operation\":\"rename\",\"sources\":[\"n.c\",\"b.c\"],\"follow\":true}]
+====
 project('p', 'c', default_options: 'cpp_std=c++17')
 
 ==

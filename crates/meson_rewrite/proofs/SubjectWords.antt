@@ -46,6 +46,7 @@ module _ (name : List ℕ) where
   id_among (SourcesRename target old new) e = inl (some-same target.id name e)
   id_among (FollowedSources target (change.Add names) shared) e = inl (some-same target.id name e)
   id_among (FollowedSources target (change.Remove names) shared) e = inl (some-same target.id name e)
+  id_among (FollowedSources target (change.Rename old new) shared) e = inl (some-same target.id name e)
   id_among (ExtraAdd target sources) e = inl (some-same target.id name e)
   id_among (ExtraRemove target sources) e = inl (some-same target.id name e)
   id_among (TargetAdd target kind subdir sources) e = inl (some-same target name e)
@@ -77,6 +78,7 @@ module _ (name : List ℕ) where
   bad_among (SourcesRename target old new) e = inr (found_among is_empty_name (old ∷ new ∷ []) e)
   bad_among (FollowedSources target (change.Add names) shared) e = inr (found_among is_empty_name names e)
   bad_among (FollowedSources target (change.Remove names) shared) e = inr (found_among is_empty_name names e)
+  bad_among (FollowedSources target (change.Rename old new) shared) e = inr (found_among is_empty_name (old ∷ new ∷ []) e)
   bad_among (ExtraAdd target sources) e = inr (found_among is_empty_name sources e)
   bad_among (ExtraRemove target sources) e = inr (found_among is_empty_name sources e)
   bad_among (TargetAdd target kind subdir sources) e = new_among target subdir sources e
@@ -87,14 +89,16 @@ module _ (name : List ℕ) where
   bad_among (OptionsDelete names) e = found_among is_bad_option names e
   bad_among _ e = absurd (not-none (List ℕ) name e)
 
+  old_among : (old new : List ℕ) → IsAmong (old ∷ []) name → IsAmong (old ∷ new ∷ []) name
+  old_among old new (inl is) = inl is
+  old_among old new (inr none) = absurd none
+
   missing_among : (found : Loaded) (c : Command) → missing_name found c ≡ Some name → IsAmong (words_of c) name
   missing_among found (SourcesRemove target sources) e = inr (found_among (is_missing (sources_at found target)) sources e)
-  missing_among found (SourcesRename target old new) e = inr (old_among (found_among (is_missing (sources_at found target)) (old ∷ []) e))
-    where
-      old_among : IsAmong (old ∷ []) name → IsAmong (old ∷ new ∷ []) name
-      old_among (inl is) = inl is
-      old_among (inr none) = absurd none
+  missing_among found (SourcesRename target old new) e = inr (old_among old new (found_among (is_missing (sources_at found target)) (old ∷ []) e))
   missing_among found (FollowedSources target (change.Remove names) shared) e = inr (found_among (is_absent found (place_of found target)) names e)
+  missing_among found (FollowedSources target (change.Rename old new) shared) e =
+      inr (old_among old new (found_among (is_absent found (place_of found target)) (old ∷ []) e))
   missing_among found (ExtraRemove target sources) e = inr (found_among (is_missing (extras_at found target)) sources e)
   missing_among found _ e = absurd (not-none (List ℕ) name e)
 

@@ -52,6 +52,7 @@ words_of (SourcesRemove target sources) = target.id ∷ sources
 words_of (SourcesRename target old new) = target.id ∷ old ∷ new ∷ []
 words_of (FollowedSources target (change.Add names) shared) = target.id ∷ names
 words_of (FollowedSources target (change.Remove names) shared) = target.id ∷ names
+words_of (FollowedSources target (change.Rename old new) shared) = target.id ∷ old ∷ new ∷ []
 words_of (ExtraAdd target sources) = target.id ∷ sources
 words_of (ExtraRemove target sources) = target.id ∷ sources
 words_of (TargetAdd target kind subdir sources) = target ∷ subdir ∷ sources

@@ -18,6 +18,8 @@ pub enum SourceChange {
     Add(Many<Text>),
     /// Each of these is removed, in whatever branch it is.
     Remove(Many<Text>),
+    /// Each source at the path of the old name gets the new one, in its place.
+    Rename { old: Text, new: Text },
 }
 
 /// Written by hand, so that it is proved here alone, and not in each crate that drops a command.
@@ -26,6 +28,7 @@ impl Drop for SourceChange {
         match self {
             SourceChange::Add(_) => {}
             SourceChange::Remove(_) => {}
+            SourceChange::Rename { old: _, new: _ } => {}
         }
     }
 }

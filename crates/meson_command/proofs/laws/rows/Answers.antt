@@ -69,11 +69,15 @@ returns-clause-other c = (refl, refl, refl, refl, refl, refl, refl, refl, refl, 
 
 pub returns-clause-following : goal.returns-clause-following
 unfolding clap_on_literals program target kwargs argument code default_options command undo redo history list passed_from asked_from action_within argument_action action_of other_action rename_action target_action kwargs_action kwargs_by options_action options_by script_action lone_names pairs_of count_of
-returns-clause-following c = (refl, refl, refl, refl, refl, refl, refl, refl, refl, refl, refl, refl, refl, refl, refl, refl, refl, refl, refl, refl, refl, refl, refl, refl, refl, refl, refl, refl, refl, refl, refl, refl, refl)
+returns-clause-following c = (refl, refl, refl, refl, refl, refl, refl, refl, refl, refl, refl, refl, refl, refl, refl, refl, refl, refl, refl, refl, refl, refl, refl, refl, refl, refl, refl, refl, refl, refl, refl, refl)
 
 pub returns-clause-followed : goal.returns-clause-followed
 unfolding clap_on_literals program target kwargs argument code default_options command undo redo history list passed_from asked_from action_within argument_action action_of other_action rename_action target_action kwargs_action kwargs_by options_action options_by script_action lone_names pairs_of count_of
-returns-clause-followed c = (refl, refl, refl, refl, refl, refl, refl, refl, refl, refl, refl, refl, refl, refl, refl, refl, refl, refl, refl, refl, refl, refl, refl, refl, refl, refl, refl, refl)
+returns-clause-followed c = (refl, refl, refl, refl, refl, refl, refl, refl, refl, refl, refl, refl, refl, refl, refl, refl, refl, refl, refl, refl, refl, refl, refl, refl, refl, refl, refl)
+
+pub returns-clause-followed_names : goal.returns-clause-followed_names
+unfolding clap_on_literals program target kwargs argument code default_options command undo redo history list passed_from asked_from action_within argument_action action_of other_action rename_action target_action kwargs_action kwargs_by options_action options_by script_action lone_names pairs_of count_of
+returns-clause-followed_names c = (refl, refl, refl, refl, refl, refl, refl, refl, refl, refl, refl, refl, refl, refl, refl)
 
 pub returns-clause-refused : goal.returns-clause-refused
 unfolding clap_on_literals program target kwargs argument code default_options command undo redo history list passed_from asked_from action_within action_of other_action rename_action target_action kwargs_action kwargs_by options_action options_by script_action lone_names pairs_of count_of

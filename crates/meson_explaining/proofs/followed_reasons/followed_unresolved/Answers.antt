@@ -1,4 +1,4 @@
-use Rattle.std.proofs.Common.{◌≡◌, ℕ, List, ◌++◌, Option, ap, ap₂, ◌∙◌, append_assoc}
+use Rattle.std.proofs.Common.{◌≡◌, ℕ, List, [], ◌∷◌, ◌++◌, Option, ap, ap₂, ◌∙◌, append_assoc}
 use Rattle.std.specs.Prelude.{codes, find}
 use Rattle.meson_calls.specs.declared.call.CallName.{CallName}
 use Rattle.meson_calls.specs.declared.call.CallRef.{CallRef}
@@ -6,7 +6,7 @@ use Rattle.meson_calls.specs.declared.call.Role.TheVariants as role
 use Rattle.meson_calls.specs.Loading.{Loaded}
 use Rattle.meson_calls.specs.Searching.{name_at}
 use Rattle.meson_variables.specs.declared.source.SourceItem.{SourceItem}
-use Rattle.meson_explaining.specs.Followed.{followed_items, is_absent}
+use Rattle.meson_explaining.specs.Followed.{followed_items, is_absent, place_of}
 use Rattle.meson_explaining.specs.Removals.{followed_unresolved, unknown_notes}
 use Rattle.meson_explaining.specs.Sources.{close_notes}
 use Rattle.meson_explaining.specs.Values.{value_notes}
@@ -17,6 +17,9 @@ use Rattle.meson_explaining.proofs.followed_reasons.followed_unresolved.Goals as
 
 abbrev explained : List Note → List (List ℕ) → Explanation
 explained notes help = record { notes = notes; help = help }
+
+abbrev helped : List ℕ → List (List ℕ)
+helped way = way ∷ codes "--follow target ID info counts what is not known" ∷ []
 
 abbrev notes_of : Loaded → CallName → List SourceItem → Option (List ℕ) → List Note
 notes_of l target items name =
@@ -40,7 +43,7 @@ unfolding followed_unresolved
 returns c =
     let l = c.args.project.now in
     let target = name_at c.args.target in
-    let names = c.args.names.now in
+    let names = c.sought_names-names.result.now in
     let a = c.in_ok-notes.notes.items in
     let b = c.in_ok-written.written.items in
     let close = c.in_ok-close.close.items in
@@ -49,5 +52,6 @@ returns c =
     let in_turn =
     one_by_one a b close d c.append.new.self.items c.append-2.new.self.items all c.in_ok-append.ensures.items c.in_ok-append-2.ensures.items c.in_ok-append-3.ensures.items in
     let these = each l target c.get.result.now _ a b close d c.in_ok-notes.ensures c.in_ok-written.ensures c.in_ok-close.ensures c.in_ok-hidden.ensures in
-    let there = ap₂ (notes_of l target) (c.get.ensures ∙ c.in_ok-items.ensures) c.in_ok-name.ensures ∙ ap (notes_at l target names) c.in_ok-place.ensures in
-    ap₂ explained (c.of.ensures ∙ in_turn ∙ these ∙ there) (c.of-2.ensures ∙ c.in_ok-help.ensures)
+    let there = ap₂ (notes_of l target) (c.get.ensures ∙ c.in_ok-items.ensures) c.in_ok-name.ensures ∙ ap (notes_at l target names) c.in_ok-place.ensures
+    ∙ ap (λ ns. notes_at l target ns (place_of l target)) c.sought_names-names.ensures in
+    ap₂ explained (c.of.ensures ∙ in_turn ∙ these ∙ there) (c.of-2.ensures ∙ c.in_ok-help.ensures ∙ ap helped c.change_way.ensures)

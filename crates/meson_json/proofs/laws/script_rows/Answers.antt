@@ -32,11 +32,15 @@ returns-clause-infos c = (refl, refl, refl, refl, refl, refl)
 
 pub returns-clause-follow : goal.returns-clause-follow
 unfolding serde_json_on_literals digits each_of each_member names_of_members target_members rename_entry target_entry kwargs_command kwargs_entry options_command options_entry entry_of entry_by entries_of script_of
-returns-clause-follow c = (refl, refl, refl, refl, refl, refl, refl, refl, refl, refl, refl, refl, refl, refl, refl, refl, refl, refl, refl, refl, refl, refl, refl, refl, refl)
+returns-clause-follow c = (refl, refl, refl, refl, refl, refl, refl, refl, refl, refl, refl, refl, refl, refl, refl, refl, refl, refl, refl, refl, refl, refl, refl, refl)
 
 pub returns-clause-follow_known : goal.returns-clause-follow_known
 unfolding serde_json_on_literals digits each_of each_member names_of_members target_members rename_entry target_entry kwargs_command kwargs_entry options_command options_entry entry_of entry_by entries_of script_of
-returns-clause-follow_known c = (refl, refl, refl, refl, refl, refl, refl, refl, refl, refl)
+returns-clause-follow_known c = (refl, refl, refl, refl, refl, refl, refl, refl, refl)
+
+pub returns-clause-follow_names : goal.returns-clause-follow_names
+unfolding serde_json_on_literals digits each_of each_member names_of_members target_members rename_entry target_entry kwargs_command kwargs_entry options_command options_entry entry_of entry_by entries_of script_of
+returns-clause-follow_names c = (refl, refl, refl, refl, refl, refl, refl, refl, refl, refl, refl, refl, refl, refl, refl, refl, refl, refl, refl)
 
 pub returns-clause-code : goal.returns-clause-code
 unfolding serde_json_on_literals on_code digits each_of each_member names_of_members count_of search_at insertion_entry code_entry entry_of entry_by entries_of script_of
