@@ -14,6 +14,7 @@ pub mod RemovedMissing
 pub mod ToldFolders
 mod FollowedMayGo
 pub mod ListedGone
+pub mod FollowedGone
 mod RealValues
 mod Keeping
 mod CallsMake

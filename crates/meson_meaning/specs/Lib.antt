@@ -11,4 +11,5 @@ pub mod Leaving
 pub mod Laws
 pub mod Removals
 pub mod Followed
+pub mod FollowedRemovals
 pub mod Written

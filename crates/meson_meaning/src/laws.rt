@@ -2,6 +2,7 @@
 
 ghost use Rattle.meson_meaning.specs.Evaluations.{Either, Folders, OneAfterAnother, Setting, Summing, Turning, Using};
 ghost use Rattle.meson_meaning.specs.Followed.{OnlyListedGo};
+ghost use Rattle.meson_meaning.specs.FollowedRemovals.{OnlyFollowedGo};
 ghost use Rattle.meson_meaning.specs.Laws.{OnlyNamesGo, ToldFoldersStay};
 ghost use Rattle.meson_meaning.specs.Leaving.{Leaving};
 ghost use Rattle.meson_meaning.specs.Removals.{OnlyExtraGoes, OnlyRemovedGo};
@@ -42,6 +43,11 @@ pub fn removed()
 /// The same of sources in lists, as they are met where variables are followed.
 pub fn listed_removed()
     ensures { OnlyListedGo }
+{}
+
+/// Where sources of a target are removed by their names, as they are met where variables are followed, each evaluation makes what it made before, without them.
+pub fn followed_removed()
+    ensures { OnlyFollowedGo }
 {}
 
 /// Where each `subdir` tells its folder, no literal in a list names one.
